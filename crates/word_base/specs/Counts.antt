@@ -1,0 +1,16 @@
+-- The counts of shelves and sinks, which never fall and stay at their greatest value (docs/COMMANDS.md, "Faults").
+use Rattle.std.specs.Prelude.{◌≡◌, ℕ, ◌+◌, ◌-◌, ◌^◌, ◌≤◌, min}
+
+-- the counts of a shelf: failed fetches, failed stores, and bytes read
+pub record Counts : Type 0 where
+  pub fetch_faults : ℕ
+  pub store_faults : ℕ
+  pub bytes_read : ℕ
+
+-- the count is greater by at least n, or stands at the greatest value of 64 bits
+abbrev pub RoseBy : ℕ → ℕ → ℕ → Type 0
+RoseBy n before now = min (before + n) (2 ^ 64 - 1) ≤ now
+
+-- the count is greater, or stands at its greatest value
+abbrev pub Rose : ℕ → ℕ → Type 0
+Rose before now = RoseBy 1 before now
