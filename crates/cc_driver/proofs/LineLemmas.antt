@@ -1,0 +1,17 @@
+-- What a put makes of a sink.
+use Rattle.std.proofs.Common.{◌≡◌, ℕ, Bool, subst, List, ◌++◌, Ok, Err, OnOk, IfErr, IsTrue}
+use Rattle.std.specs.Prelude.{Result}
+use Rattle.word_base.specs.declared.sink.SinkFault.{SinkFault}
+use Rattle.word_base.specs.declared.sink.SinkFault.TheVariants.{Failed, NoMemory}
+use Rattle.word_base.specs.SinkAnswers.{PutRefused}
+use Rattle.cc_driver.specs.Line.{LinePut, Whole, Part, Nothing}
+
+-- a put of a line, whatever it answers
+pub line_put : (tells : Bool) (line before now : List ℕ) (faults_before faults_now : ℕ) (r : Result (Unit {0}) SinkFault) → OnOk r (IsTrue tells → now ≡ before ++ line) → IfErr r (PutRefused tells line before now faults_before faults_now) → IsTrue tells → LinePut line before now faults_before faults_now
+line_put tells line before now fb fn (Ok u) told refused t = Whole (told t)
+line_put tells line before now fb fn (Err Failed) told refused t = let part = refused.1 t in Part refused.0 part.0 part.1
+line_put tells line before now fb fn (Err NoMemory) told refused t = Nothing (refused.0 t)
+
+-- a put of the same line
+pub line_same : (a b before now : List ℕ) (faults_before faults_now : ℕ) → a ≡ b → LinePut a before now faults_before faults_now → LinePut b before now faults_before faults_now
+line_same a b before now fb fn e put = subst (λ l. LinePut l before now fb fn) e put

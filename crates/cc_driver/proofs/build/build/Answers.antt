@@ -1,0 +1,41 @@
+use Rattle.std.proofs.Common.{◌≡◌, ◌∙◌, ◌≤◌, ◌-◌, ◌∷◌, [], length, Some, ap, sym, subst, arith, List, ℕ}
+use Rattle.c_tree.specs.SourceRun.{source_run, main_name}
+use Rattle.c25_isa.specs.Agrees.{Agrees}
+use Rattle.c25_isa.specs.Table.{code_words}
+use Rattle.cc_driver.specs.Image.{image_text}
+use Rattle.cc_driver.specs.Thin.{IsThin, thin_program}
+use Rattle.cc_driver.proofs.ThinRun.{thin_agrees}
+use Rattle.cc_driver.proofs.build.build.Goals as goal
+
+pub returns-in_default-clause-refused : goal.returns-in_default-clause-refused
+returns-in_default-clause-refused g c =
+    let no = rw c.in_default.is at c.in_ok-thin.ensures in (
+      λ told. (
+        c.in-Ok.bytes.items,
+        c.in-Ok.ensures.told told,
+        (
+          (λ long. absurd (omega (arith, c.in-Ok.ensures.length, c.in-Ok.bytes.ok.0))),
+          λ t. no t.0 t.1 t.2 (subst (λ l. IsThin l t.0 t.1 t.2) (sym c.deref.ensures.value) t.3),
+        ),
+      ),
+      record { files = c.in-Ok.ensures.unchanged; faults = c.in-Ok.ensures.counts.store_faults },
+    )
+
+pub returns-in-Ok-store-clause-done : goal.returns-in-Ok-store-clause-done
+returns-in-Ok-store-clause-done g c =
+    let found = rw c.in-Some.is at c.in_ok-thin.ensures in
+    let t = c.in-Some.thin in
+    λ told. record {
+      bytes = c.in-Ok.bytes.items;
+      words = c.in_ok-words.words.items;
+      told = c.in-Ok.ensures.told told;
+      fits = λ long. absurd (omega (arith, c.in-Ok.ensures.length, c.in-Ok.bytes.ok.0));
+      compiles = record {
+        port = t.port;
+        word = t.word;
+        answer = t.answer;
+        thin = subst (λ l. IsThin l t.port t.word t.answer) c.deref.ensures.value found;
+        agrees = subst (λ (l : List ℕ). Agrees (source_run (thin_program t.port t.word t.answer)) l) (sym c.in_ok-words.ensures) (subst (λ code. Agrees (source_run (thin_program t.port t.word t.answer)) (code_words code)) (sym c.code.ensures) (thin_agrees t.port t.word t.answer found.port_fits found.word_fits found.answer_fits));
+      };
+      held = c.in-Ok-store.ensures.told told ∙ ap Some (c.deref-3.ensures.value ∙ c.in_ok-text.ensures ∙ ap (λ w. image_text w (record { name = main_name; first = 0; last = length w - 1 } ∷ [])) c.deref-2.ensures.value);
+    }
