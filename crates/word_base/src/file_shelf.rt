@@ -62,3 +62,40 @@ impl<'a, R: Files> Shelf for FileShelf<'a, R> {
         Err(ShelfFault::Failed)
     }
 }
+
+#[cfg(test)]
+mod tests {
+    use super::*;
+    use std::test::Fail;
+
+    const NAME: &str = "file_shelf.tmp";
+
+    // Stored bytes are read again, and each refusal is counted.
+    #[test]
+    fn real_files(rt: HostRuntime) -> Result<(), Fail> {
+        let alloc = rt.alloc();
+        let mut shelf = FileShelf::new(&rt);
+        let bytes = vec![in alloc; 7u8; 10_000]?;
+        assert_eq!(rt; shelf.store(alloc, NAME, &bytes), Ok(()));
+        assert_eq!(rt; shelf.store(alloc, NAME, b"short"), Ok(()));
+        assert_eq!(rt; shelf.fetch(alloc, NAME, 5)?.as_slice(), &b"short"[..]);
+        assert_eq!(rt;
+            (shelf.fetch_faults, shelf.store_faults, shelf.read),
+            (0, 0, 5)
+        );
+
+        assert_eq!(rt; shelf.store(alloc, NAME, &bytes), Ok(()));
+        let too_long = shelf.fetch(alloc, NAME, 9_999).err();
+        assert!(rt; matches!(too_long, Some(ShelfFault::TooLong { at_least: 10_000 })));
+        assert_eq!(rt; shelf.read, 10_005);
+        fs::remove_file(&rt, NAME)?;
+
+        assert_eq!(rt; shelf.fetch(alloc, NAME, 5).err(), Some(ShelfFault::Failed));
+        assert_eq!(rt;
+            shelf.store(alloc, "no_folder/x", &bytes),
+            Err(ShelfFault::Failed)
+        );
+        assert_eq!(rt; (shelf.fetch_faults, shelf.store_faults), (1, 1));
+        Ok(())
+    }
+}
