@@ -12,14 +12,18 @@ use std::rt::Files;
 #[derive(Drop)]
 pub struct FileShelf<'a, R: Files> {
     rt: &'a R,
-    fetch_faults: u64,
-    store_faults: u64,
-    read: u64,
+    pub fetch_faults: u64,
+    pub store_faults: u64,
+    pub read: u64,
 }
 
 impl<'a, R: Files> FileShelf<'a, R> {
     /// The shelf before its first call.
-    pub fn new(rt: &'a R) -> Self {
+    pub fn new(rt: &'a R) -> Self
+        ensures fetch_faults { result.fetch_faults ≡ 0 }
+        ensures store_faults { result.store_faults ≡ 0 }
+        ensures read { result.read ≡ 0 }
+    {
         FileShelf {
             rt,
             fetch_faults: 0,

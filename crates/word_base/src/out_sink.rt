@@ -1,4 +1,6 @@
 //! A sink over standard output.
+ghost use Rattle.std.specs.Prelude.{◌≡◌};
+
 use crate::sink::{Sink, SinkFault};
 use crate::stream::write_whole;
 use std::alloc::Global;
@@ -8,12 +10,14 @@ use std::io;
 #[derive(Drop)]
 pub struct OutSink<'a, R: Print> {
     rt: &'a R,
-    faults: u64,
+    pub faults: u64,
 }
 
 impl<'a, R: Print> OutSink<'a, R> {
     /// The sink before its first call.
-    pub fn new(rt: &'a R) -> Self {
+    pub fn new(rt: &'a R) -> Self
+        ensures { result.faults ≡ 0 }
+    {
         OutSink { rt, faults: 0 }
     }
 }

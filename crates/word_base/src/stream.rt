@@ -1,5 +1,6 @@
 //! Whole files over `read` and `write` alone, so that each byte read is counted.
-ghost use Rattle.std.specs.Prelude.{◌≤◌, IfOk, IfErr, vec_len};
+ghost use Rattle.std.specs.Prelude.{◌≤◌, IfOk, OnOk, IfErr, IsTrue, vec_len};
+ghost use Rattle.std.specs.Io.KnownBytes.{Appends, Consumes, IsAtEnd};
 ghost use Rattle.word_base.specs.ReadAnswers.{ReadRefused};
 
 use crate::shelf::ShelfFault;
@@ -15,6 +16,8 @@ pub fn read_within<F: Read>(
     max: u64,
     bytes_read: &mut u64,
 ) -> Result<Vec<u8>, ShelfFault>
+    ensures bytes { IfOk result (λ bytes. Consumes (F.remaining file.old) (F.remaining file.new) bytes.items) }
+    ensures end { OnOk result (IsAtEnd (F.remaining file.new)) }
     ensures length { IfOk result (λ bytes. vec_len bytes ≤ max) }
     ensures refused { IfErr result (ReadRefused max bytes_read.old bytes_read.new) }
     ensures later { bytes_read.old ≤ bytes_read.new }
@@ -39,7 +42,9 @@ pub fn read_within<F: Read>(
 }
 
 /// Writes the bytes, and says whether all were taken.
-pub fn write_whole<W: Write>(out: &mut W, bytes: &[u8]) -> bool {
+pub fn write_whole<W: Write>(out: &mut W, bytes: &[u8]) -> bool
+    ensures { IsTrue result → Appends (W.contents out.old) (W.contents out.new) bytes.now }
+{
     let mut rest = bytes;
     for _ in 0..u64::MAX {
         if rest.is_empty() {
