@@ -1,12 +1,12 @@
 -- What operators and conversions give: ISO 9899:1990 6.2.1.2, 6.2.1.5, 6.3.3.3, 6.3.3.4 and 6.3.5 to 6.3.12.
-use Rattle.std.specs.Prelude.{[], ◌∷◌, Some}
+use Rattle.std.specs.Prelude.{true, false, [], ◌∷◌, Some}
 use Rattle.std.proofs.Common.{◌≡◌, refl}
 use Rattle.word_base.specs.declared.outcome.Ending.TheVariants as ending
 use Rattle.word_base.specs.declared.outcome.Outcome.TheVariants.{Ended}
 use Rattle.c_tree.specs.declared.program.VarRef.TheVariants.{Scalar}
 use Rattle.c_tree.specs.declared.operator.UnaryOp.TheVariants.{Minus, Complement}
 use Rattle.c_tree.specs.declared.operator.BinaryOp.TheVariants as op
-use Rattle.c_tree.specs.TypedTree.{Named, Const, Read, Unary, Binary, Assign, AssignOp, Out, Convert, Block, Do_expr, Return, done, both, FunctionTree, ProgramTree}
+use Rattle.c_tree.specs.TypedTree.{Named, Const, Read, Unary, Binary, Assign, AssignOp, StepBefore, StepAfter, Out, Convert, Block, Do_expr, Return, done, both, FunctionTree, ProgramTree}
 use Rattle.c_tree.specs.SourceRun.{source_run}
 use Rattle.c_tree.proofs.Examples.Types.{int, unsigned, int_pointer, int_at, unsigned_at, void_at, object, main_with, program, alone, silent}
 
@@ -112,6 +112,38 @@ shifts = alone (main_with (int ∷ []) []
 
 shifts_is : source_run shifts silent 10 ≡ Ended ((0, 65532) ∷ (0, 8192) ∷ (0, 32764) ∷ []) (ending.Returned 32768)
 shifts_is = refl
+
+-- assignments with an operator shift by the type of their left side:
+-- int main(void) {int x; unsigned u; x = -8; u = 1; x >>= u; u <<= 15; __out(0, x); u >>= 3; return u;}
+abbrev shift_assigned : ProgramTree
+shift_assigned = alone (main_with (int ∷ unsigned ∷ []) []
+    (Block ((Scalar 0) ∷ (Scalar 1) ∷ [])
+    (both (Do_expr (int_at 35 (Assign (Named (Scalar 0) 35) (int_at 39 (Unary Minus (int_at 40 (Const 8)))))))
+    (both (Do_expr (unsigned_at 43 (Assign (Named (Scalar 1) 43) (unsigned_at 47 (Convert (int_at 47 (Const 1)))))))
+    (both (Do_expr (int_at 50 (AssignOp op.Shr (Named (Scalar 0) 50) (unsigned_at 56 (Read (Scalar 1))))))
+    (both (Do_expr (unsigned_at 59 (AssignOp op.Shl (Named (Scalar 1) 59) (int_at 65 (Const 15)))))
+    (both (Do_expr (void_at 69 (Out 0 (int_at 78 (Read (Scalar 0))))))
+    (both (Do_expr (unsigned_at 82 (AssignOp op.Shr (Named (Scalar 1) 82) (int_at 88 (Const 3)))))
+    (both (Return (Some (int_at 98 (Convert (unsigned_at 98 (Read (Scalar 1)))))))
+    done)))))))))
+
+shift_assigned_is : source_run shift_assigned silent 10 ≡ Ended ((0, 65532) ∷ []) (ending.Returned 4096)
+shift_assigned_is = refl
+
+-- steps and assignments of an unsigned wrap:
+-- int main(void) {unsigned u; u = 0; u--; ++u; u -= 2; return u;}
+abbrev unsigned_steps : ProgramTree
+unsigned_steps = alone (main_with (unsigned ∷ []) []
+    (Block ((Scalar 0) ∷ [])
+    (both (Do_expr (unsigned_at 28 (Assign (Named (Scalar 0) 28) (unsigned_at 32 (Convert (int_at 32 (Const 0)))))))
+    (both (Do_expr (unsigned_at 35 (StepAfter false (Named (Scalar 0) 35))))
+    (both (Do_expr (unsigned_at 40 (StepBefore true (Named (Scalar 0) 42))))
+    (both (Do_expr (unsigned_at 45 (AssignOp op.Sub (Named (Scalar 0) 45) (int_at 50 (Const 2)))))
+    (both (Return (Some (int_at 60 (Convert (unsigned_at 60 (Read (Scalar 0)))))))
+    done)))))))
+
+unsigned_steps_is : source_run unsigned_steps silent 10 ≡ Ended [] (ending.Returned 65534)
+unsigned_steps_is = refl
 
 -- operators on bits, and the negative of an unsigned:
 -- int main(void) {__out(0, 12 & 10); __out(0, 12 | 10); __out(0, 12 ^ 10); __out(0, ~0); return -1u;}

@@ -69,6 +69,29 @@ arguments_in_order = program [] (arguments_in_order_f ∷ arguments_in_order_g �
 arguments_in_order_is : source_run arguments_in_order silent 10 ≡ Ended ((0, 7) ∷ (0, 3) ∷ []) (ending.Returned 4)
 arguments_in_order_is = refl
 
+-- a parameter is a copy of its argument:
+-- int f(int a) {a = a + 1; return a;} int main(void) {int a; a = 1; f(a); return a;}
+abbrev argument_copied_f : FunctionTree
+argument_copied_f = function (codes "f") (Some int) ((Scalar 0) ∷ []) (int ∷ []) []
+    (Block []
+    (both (Do_expr (int_at 14 (Assign (Named (Scalar 0) 14) (int_at 18 (Binary op.Add (int_at 18 (Read (Scalar 0))) (int_at 22 (Const 1)))))))
+    (both (Return (Some (int_at 32 (Read (Scalar 0)))))
+    done)))
+
+abbrev argument_copied_main : FunctionTree
+argument_copied_main = main_with (int ∷ []) []
+    (Block ((Scalar 0) ∷ [])
+    (both (Do_expr (int_at 59 (Assign (Named (Scalar 0) 59) (int_at 63 (Const 1)))))
+    (both (Do_expr (int_at 66 (Call 0 (more (int_at 68 (Read (Scalar 0))) none))))
+    (both (Return (Some (int_at 79 (Read (Scalar 0)))))
+    done))))
+
+abbrev argument_copied : ProgramTree
+argument_copied = program [] (argument_copied_f ∷ argument_copied_main ∷ [])
+
+argument_copied_is : source_run argument_copied silent 10 ≡ Ended [] (ending.Returned 1)
+argument_copied_is = refl
+
 -- a store through a pointer evaluates the pointer, then the value:
 -- int n[2]; int *f(void) {__out(0, 1); return n;} int g(void) {__out(0, 2); return 5;} int main(void) {*f() = g(); return n[0];}
 abbrev pointer_first_f : FunctionTree

@@ -7,7 +7,7 @@ use Rattle.c_tree.specs.declared.program.VarRef.TheVariants.{Scalar, Local, Stat
 use Rattle.c_tree.specs.declared.program.Initial.TheVariants as initial
 use Rattle.c_tree.specs.declared.operator.UnaryOp.TheVariants.{Minus}
 use Rattle.c_tree.specs.declared.operator.BinaryOp.TheVariants as op
-use Rattle.c_tree.specs.TypedTree.{Named, At, Const, Read, AddressOf, Load, Unary, Binary, Not, Assign, AssignOp, StepBefore, StepAfter, Out, Convert, Block, Fill, Do_expr, If, For, Return, done, both, FunctionTree, ProgramTree}
+use Rattle.c_tree.specs.TypedTree.{Named, At, Const, Read, AddressOf, Load, Unary, Binary, Not, Pick, Assign, AssignOp, StepBefore, StepAfter, Out, Convert, Block, Fill, Do_expr, If, For, Return, done, both, FunctionTree, ProgramTree}
 use Rattle.c_tree.specs.SourceRun.{source_run}
 use Rattle.c_tree.proofs.Examples.Types.{int, int_pointer, int_pointer_pointer, void_pointer, int_at, pointer_at, pointer_pointer_at, void_pointer_at, void_at, words, object, main_with, program, alone, silent}
 
@@ -94,6 +94,24 @@ filled_again = alone (main_with (int ∷ []) ((object 2 int (words (4 ∷ []))) 
 
 filled_again_is : source_run filled_again silent 10 ≡ Ended ((0, 4) ∷ (0, 4) ∷ []) (ending.Returned 0)
 filled_again_is = refl
+
+-- each block has objects of its own:
+-- int x; int main(void) {int x; x = 1; {int x; x = 2;} return x;}
+abbrev inner_object_main : FunctionTree
+inner_object_main = main_with (int ∷ int ∷ []) []
+    (Block ((Scalar 0) ∷ [])
+    (both (Do_expr (int_at 30 (Assign (Named (Scalar 0) 30) (int_at 34 (Const 1)))))
+    (both (Block ((Scalar 1) ∷ [])
+    (both (Do_expr (int_at 45 (Assign (Named (Scalar 1) 45) (int_at 49 (Const 2)))))
+    done))
+    (both (Return (Some (int_at 60 (Read (Scalar 0)))))
+    done))))
+
+abbrev inner_object : ProgramTree
+inner_object = program ((object 1 int []) ∷ []) (inner_object_main ∷ [])
+
+inner_object_is : source_run inner_object silent 10 ≡ Ended [] (ending.Returned 1)
+inner_object_is = refl
 
 -- a static pointer starts with an address, or null:
 -- int n[3] = {4, 5, 6}; int *p = &n[1]; int *q = 0; int main(void) {return *p + !q;}
@@ -224,6 +242,25 @@ true_pointer = program ((object 1 int []) ∷ []) (true_pointer_main ∷ [])
 
 true_pointer_is : source_run true_pointer silent 10 ≡ Ended [] (ending.Returned 2)
 true_pointer_is = refl
+
+-- ?: between a pointer and null:
+-- int x; int main(void) {int *p; p = 1 ? &x : 0; return p == &x ? 5 : 6;}
+abbrev pointer_or_null_main : FunctionTree
+pointer_or_null_main = main_with (int_pointer ∷ []) []
+    (Block ((Scalar 0) ∷ [])
+    (both (Do_expr (pointer_at 31 (Assign (Named (Scalar 0) 31)
+    (pointer_at 35 (Pick (int_at 35 (Const 1)) (pointer_at 39 (AddressOf (Static 0))) (pointer_at 44 (Const 0)))))))
+    (both (Return (Some (int_at 54 (Pick
+    (int_at 54 (Binary op.Eq (pointer_at 54 (Read (Scalar 0))) (pointer_at 59 (AddressOf (Static 0)))))
+    (int_at 64 (Const 5))
+    (int_at 68 (Const 6))))))
+    done)))
+
+abbrev pointer_or_null : ProgramTree
+pointer_or_null = program ((object 1 int []) ∷ []) (pointer_or_null_main ∷ [])
+
+pointer_or_null_is : source_run pointer_or_null silent 10 ≡ Ended [] (ending.Returned 5)
+pointer_or_null_is = refl
 
 -- a pointer goes through void * and back:
 -- int x; int main(void) {void *v; int *p; x = 6; v = &x; p = v; return *p;}

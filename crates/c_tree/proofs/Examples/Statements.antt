@@ -159,6 +159,29 @@ returns = program [] (returns_f ∷ returns_main ∷ [])
 returns_is : source_run returns silent 1 ≡ Ended [] (ending.Returned 4)
 returns_is = refl
 
+-- a function without a value, left by a return and by its end:
+-- void f(int x) {if (x) return; __out(0, x);} int main(void) {f(1); f(0); return 0;}
+abbrev returns_nothing_f : FunctionTree
+returns_nothing_f = function (codes "f") None ((Scalar 0) ∷ []) (int ∷ []) []
+    (Block []
+    (both (If (int_at 19 (Read (Scalar 0))) (Return None) (Block [] done))
+    (both (Do_expr (void_at 30 (Out 0 (int_at 39 (Read (Scalar 0))))))
+    done)))
+
+abbrev returns_nothing_main : FunctionTree
+returns_nothing_main = main_with [] []
+    (Block []
+    (both (Do_expr (void_at 60 (Call 0 (more (int_at 62 (Const 1)) none))))
+    (both (Do_expr (void_at 66 (Call 0 (more (int_at 68 (Const 0)) none))))
+    (both (Return (Some (int_at 79 (Const 0))))
+    done))))
+
+abbrev returns_nothing : ProgramTree
+returns_nothing = program [] (returns_nothing_f ∷ returns_nothing_main ∷ [])
+
+returns_nothing_is : source_run returns_nothing silent 10 ≡ Ended ((0, 0) ∷ []) (ending.Returned 0)
+returns_nothing_is = refl
+
 -- the end of main returns 0:
 -- int main(void) {__out(0, 1);}
 abbrev no_return : ProgramTree

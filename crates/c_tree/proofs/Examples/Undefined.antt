@@ -6,7 +6,7 @@ use Rattle.word_base.specs.declared.outcome.Outcome.TheVariants.{Undefined}
 use Rattle.c_tree.specs.declared.program.VarRef.TheVariants.{Scalar, Local, Static}
 use Rattle.c_tree.specs.declared.operator.UnaryOp.TheVariants.{Minus}
 use Rattle.c_tree.specs.declared.operator.BinaryOp.TheVariants as op
-use Rattle.c_tree.specs.TypedTree.{Named, At, Const, Read, AddressOf, Load, Unary, Binary, Not, Assign, AssignOp, StepBefore, StepAfter, Call, Out, Comma, Convert, none, Block, Do_expr, If, For, Return, done, both, FunctionTree, ProgramTree}
+use Rattle.c_tree.specs.TypedTree.{Named, At, Const, Read, AddressOf, Load, Unary, Binary, Not, Assign, AssignOp, StepBefore, StepAfter, Call, Out, Comma, Convert, none, more, Block, Do_expr, If, For, Return, done, both, FunctionTree, ProgramTree}
 use Rattle.c_tree.specs.SourceRun.{source_run}
 use Rattle.c_tree.proofs.Examples.Types.{int, unsigned, int_pointer, void_pointer, int_at, unsigned_at, pointer_at, pointer_pointer_at, void_pointer_at, void_at, object, function, main_with, program, alone, silent}
 
@@ -37,6 +37,18 @@ overflows_behind_output = alone (main_with (int ∷ []) []
 
 overflows_behind_output_is : source_run overflows_behind_output silent 10 ≡ Undefined ((0, 1) ∷ []) Overflow 49
 overflows_behind_output_is = refl
+
+-- a product that is no int:
+-- int main(void) {int x; x = 300; return x * x;}
+abbrev product_overflows : ProgramTree
+product_overflows = alone (main_with (int ∷ []) []
+    (Block ((Scalar 0) ∷ [])
+    (both (Do_expr (int_at 23 (Assign (Named (Scalar 0) 23) (int_at 27 (Const 300)))))
+    (both (Return (Some (int_at 39 (Binary op.Mul (int_at 39 (Read (Scalar 0))) (int_at 43 (Read (Scalar 0)))))))
+    done))))
+
+product_overflows_is : source_run product_overflows silent 10 ≡ Undefined [] Overflow 39
+product_overflows_is = refl
 
 -- a step overflows at the step:
 -- int main(void) {int x; x = 32767; ++x; return x;}
@@ -158,6 +170,28 @@ fresh_object = alone (main_with (int ∷ int ∷ []) []
 
 fresh_object_is : source_run fresh_object silent 10 ≡ Undefined ((0, 5) ∷ []) Indeterminate 83
 fresh_object_is = refl
+
+-- and at each call of its function:
+-- int f(int a) {int x; if (a) x = a; return x;} int main(void) {f(1); return f(0);}
+abbrev fresh_at_call_f : FunctionTree
+fresh_at_call_f = function (codes "f") (Some int) ((Scalar 0) ∷ []) (int ∷ int ∷ []) []
+    (Block ((Scalar 1) ∷ [])
+    (both (If (int_at 25 (Read (Scalar 0))) (Do_expr (int_at 28 (Assign (Named (Scalar 1) 28) (int_at 32 (Read (Scalar 0)))))) (Block [] done))
+    (both (Return (Some (int_at 42 (Read (Scalar 1)))))
+    done)))
+
+abbrev fresh_at_call_main : FunctionTree
+fresh_at_call_main = main_with [] []
+    (Block []
+    (both (Do_expr (int_at 62 (Call 0 (more (int_at 64 (Const 1)) none))))
+    (both (Return (Some (int_at 75 (Call 0 (more (int_at 77 (Const 0)) none)))))
+    done)))
+
+abbrev fresh_at_call : ProgramTree
+fresh_at_call = program [] (fresh_at_call_f ∷ fresh_at_call_main ∷ [])
+
+fresh_at_call_is : source_run fresh_at_call silent 10 ≡ Undefined [] Indeterminate 42
+fresh_at_call_is = refl
 
 -- a local array without a list starts indeterminate:
 -- int main(void) {int n[2]; n[0] = 1; return n[1];}
