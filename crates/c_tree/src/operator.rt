@@ -1,5 +1,6 @@
 //! The operators of typed expressions.
 
+/// An operator on one integer. `!` is a form of its own.
 #[derive(Clone, Copy, Debug, PartialEq, Eq)]
 pub enum UnaryOp {
     Minus,
@@ -7,6 +8,8 @@ pub enum UnaryOp {
     Complement,
 }
 
+/// An operator on two values. `&&` and `||` are forms of their own. `Add`, `Sub` and all comparisons take
+/// pointers too.
 #[derive(Clone, Copy, Debug, PartialEq, Eq)]
 pub enum BinaryOp {
     Add,
@@ -14,10 +17,15 @@ pub enum BinaryOp {
     Mul,
     Div,
     Rem,
+    /// `&` on bits.
     And,
+    /// `|` on bits.
     Or,
+    /// `^` on bits.
     Xor,
+    /// `<<`. The value has the type of the left operand, as that of `>>`.
     Shl,
+    /// `>>`, which copies the sign of an int.
     Shr,
     Eq,
     Ne,
