@@ -1,4 +1,4 @@
--- What ports give and take (docs/FORMATS.md, "Port files").
+-- What ports give and take (docs/MACHINE.md, "Ports").
 use Rattle.std.specs.Prelude.{◌≡◌, ℕ, ◌<◌, ◌^◌, ◌==◌, if◌then◌else◌, List, [], ◌∷◌, ◌++◌, All}
 
 -- the words that each port has left
