@@ -8,14 +8,16 @@ use word_base::{NoMemory, Sink};
 
 /// Puts a line. A failure changes no status.
 pub fn say<K: Sink>(alloc: Global, out: &mut K, line: &[u8])
-    ensures { Puts K.tells (Some line.now) (K.bytes out.old) (K.bytes out.new) (K.faults out.old) (K.faults out.new) }
+    ensures { Puts K.tells (Some line.now)
+        (K.bytes out.old) (K.bytes out.new) (K.faults out.old) (K.faults out.new) }
 {
     let _ = out.put(alloc, line);
 }
 
 /// Puts the line of a refused build, where it has one.
 pub fn report<K: Sink>(alloc: Global, out: &mut K, fault: BuildFault, source: &str)
-    ensures { Puts K.tells (line_of fault source.now) (K.bytes out.old) (K.bytes out.new) (K.faults out.old) (K.faults out.new) }
+    ensures { Puts K.tells (line_of fault source.now)
+        (K.bytes out.old) (K.bytes out.new) (K.faults out.old) (K.faults out.new) }
 {
     match fault {
         BuildFault::NotYet => say(alloc, out, b"source refused: not yet\n"),
@@ -28,7 +30,8 @@ pub fn report<K: Sink>(alloc: Global, out: &mut K, fault: BuildFault, source: &s
 
 // Puts a line with a name in it. Without memory for it nothing is put.
 fn say_name<K: Sink>(alloc: Global, out: &mut K, before: &str, name: &str, behind: &str)
-    ensures { Puts K.tells (Some (before.now ++ (name.now ++ behind.now))) (K.bytes out.old) (K.bytes out.new) (K.faults out.old) (K.faults out.new) }
+    ensures { Puts K.tells (Some (before.now ++ (name.now ++ behind.now)))
+        (K.bytes out.old) (K.bytes out.new) (K.faults out.old) (K.faults out.new) }
 {
     if let Ok(line) = joined(alloc, before, name, behind) {
         say(alloc, out, line.as_bytes());

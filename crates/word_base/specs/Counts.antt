@@ -1,5 +1,5 @@
 -- The counts of shelves and sinks, which never fall and stay at their greatest value (docs/COMMANDS.md, "Faults").
-use Rattle.std.specs.Prelude.{◌≡◌, ℕ, ◌+◌, ◌-◌, ◌^◌, ◌≤◌, min}
+use Rattle.std.specs.Prelude.{ℕ, ◌+◌, ◌-◌, ◌^◌, ◌≤◌, min}
 
 -- the counts of a shelf: failed fetches, failed stores, and bytes read
 pub record Counts : Type 0 where
@@ -14,3 +14,11 @@ RoseBy n before now = min (before + n) (2 ^ 64 - 1) ≤ now
 -- the count is greater, or stands at its greatest value
 abbrev pub Rose : ℕ → ℕ → Type 0
 Rose before now = RoseBy 1 before now
+
+-- a fetch failed between the two
+abbrev pub FetchFailed : Counts → Counts → Type 0
+FetchFailed before now = Rose before.fetch_faults now.fetch_faults
+
+-- a store failed between the two
+abbrev pub StoreFailed : Counts → Counts → Type 0
+StoreFailed before now = Rose before.store_faults now.store_faults

@@ -1,12 +1,12 @@
 -- When a shelf gives each refusal, and what its calls make of its counts (docs/COMMANDS.md, "Faults").
 use Rattle.std.specs.Prelude.{◌≡◌, ℕ, ◌<◌, ◌≤◌, Bool, false, IsTrue, List, length, Option, Some, None, ⊤}
-use Rattle.word_base.specs.Counts.{Counts, Rose, RoseBy}
+use Rattle.word_base.specs.Counts.{Counts, FetchFailed, StoreFailed, RoseBy}
 use Rattle.word_base.specs.declared.shelf.ShelfFault.{ShelfFault}
 use Rattle.word_base.specs.declared.shelf.ShelfFault.TheVariants.{Failed, Absent, TooLong, NoMemory}
 
 -- when a fetch of at most `max` bytes is refused so, by what is held under the name
 abbrev pub FetchRefused : Bool → Option (List ℕ) → ℕ → Counts → Counts → ShelfFault → Type 0
-FetchRefused tells held max before now Failed = Rose before.fetch_faults now.fetch_faults
+FetchRefused tells held max before now Failed = FetchFailed before now
 FetchRefused tells held max before now Absent = IsTrue tells × (held ≡ None) × (now.fetch_faults ≡ before.fetch_faults)
 FetchRefused tells held max before now (TooLong at_least) =
     (max < at_least)
@@ -16,7 +16,7 @@ FetchRefused tells held max before now NoMemory = ⊤
 
 -- when a store is refused so
 abbrev pub StoreRefused : Counts → Counts → ShelfFault → Type 0
-StoreRefused before now Failed = Rose before.store_faults now.store_faults
+StoreRefused before now Failed = StoreFailed before now
 StoreRefused before now Absent = ⊥
 StoreRefused before now (TooLong at_least) = ⊥
 StoreRefused before now NoMemory = ⊤
