@@ -1,0 +1,31 @@
+//! Code before it is linked.
+use crate::instruction::{Instr, JumpOp};
+use crate::operand::Indirect;
+use word_base::Text;
+
+/// An instruction, or what linking makes one of.
+#[derive(Debug, Drop)]
+pub enum PieceItem {
+    Do(Instr),
+    /// The place of a mark, which is known in its own piece alone. It takes no word.
+    Mark(u32),
+    /// A jump to a mark of the same piece.
+    Jump {
+        op: JumpOp,
+        to: u32,
+        operand: Indirect,
+    },
+    /// A call of the piece of that name.
+    CallTo {
+        name: Text,
+        operand: Indirect,
+    },
+}
+
+/// The code of one function, of the startup or of a helper. A listed one becomes a function of the image.
+#[derive(Debug, Drop)]
+pub struct Piece {
+    pub name: Text,
+    pub listed: bool,
+    pub items: Vec<PieceItem>,
+}
