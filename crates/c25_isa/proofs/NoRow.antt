@@ -1,5 +1,5 @@
 -- A first word that is read as nothing is no instruction's, whatever stands behind it.
-use Rattle.std.proofs.Common.{◌≡◌, ℕ, ◌/◌, ◌%◌, ◌*◌, ◌+◌, Bool, true, false, cond, Option, Some, None, is_some, refl, sym, ap, ◌∙◌, subst}
+use Rattle.std.proofs.Common.{◌≡◌, ℕ, ◌/◌, ◌%◌, ◌*◌, ◌+◌, Bool, true, false, cond, Option, Some, None, IsNone, is_some, refl, sym, ap, ◌∙◌, subst}
 use Rattle.std.specs.Prelude.{◌==◌, nat_lt, ⊤}
 use Rattle.c25_isa.specs.declared.operand.Indirect.{Indirect}
 use Rattle.c25_isa.specs.declared.instruction.JumpOp.{JumpOp}
@@ -75,11 +75,11 @@ behind-follows : (o : Option ℕ) → Follows o (behind o)
 behind-follows None = tt
 behind-follows (Some word) = refl
 
-pub decode-none : (i : Instr) (first second : ℕ) → IsInstr i → first_word i ≡ first → decode first second ≡ None → ⊥
+pub decode-none : (i : Instr) (first second : ℕ) → IsInstr i → first_word i ≡ first → IsNone (decode first second) → ⊥
 decode-none i first second fits is none =
     let word = behind (second_word i) in
     let found : decode first word ≡ Some (i, length_of (second_word i)) =
         ap (λ f. decode f word) (sym is) ∙ decode-first_word i word fits (behind-follows (second_word i)) in
-    let contrary : true ≡ false =
-        ap is_some (sym found) ∙ (alike_parts (first / 4096) (first / 256 % 16) (first % 256) word second).same ∙ ap is_some none in
-    subst (λ t. cond t ⊤ ⊥) contrary tt
+    let alike = alike_parts (first / 4096) (first / 256 % 16) (first % 256) word second in
+    let contrary : true ≡ false = sym (ap is_some found) ∙ alike.same ∙ none in
+    subst (λ b. cond b ⊤ ⊥) contrary tt
