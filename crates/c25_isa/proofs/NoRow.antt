@@ -79,7 +79,7 @@ pub decode-none : (i : Instr) (first second : ℕ) → IsInstr i → first_word 
 decode-none i first second fits is none =
     let word = behind (second_word i) in
     let found : decode first word ≡ Some (i, length_of (second_word i)) =
-        ap (λ f. decode f word) (sym is) ∙ decode-first_word i word fits (behind-follows (second_word i)) in
+    ap (λ f. decode f word) (sym is) ∙ decode-first_word i word fits (behind-follows (second_word i)) in
     let alike = alike_parts (first / 4096) (first / 256 % 16) (first % 256) word second in
     let contrary : true ≡ false = sym (ap is_some found) ∙ alike.same ∙ none in
     subst (λ b. cond b ⊤ ⊥) contrary tt

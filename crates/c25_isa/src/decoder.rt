@@ -15,7 +15,12 @@ pub fn decode(first: u16, second: u16) -> Option<(Instr, u8)>
     ensures row { IfSome result (λ r. StandsFor r.0 r.1 first second) }
     ensures none { IsNone result → (i : AnInstr) → IsInstr i → first_word i ≢ first }
 {
-    decode_by_parts((first / 4096) as u8, (first / 256 % 16) as u8, (first % 256) as u8, second)
+    decode_by_parts(
+        (first / 4096) as u8,
+        (first / 256 % 16) as u8,
+        (first % 256) as u8,
+        second,
+    )
 }
 
 fn decode_by_parts(high: u8, n: u8, low: u8, second: u16) -> Option<(Instr, u8)>
@@ -23,20 +28,53 @@ fn decode_by_parts(high: u8, n: u8, low: u8, second: u16) -> Option<(Instr, u8)>
     ensures { result ≡ decode_parts high n low second }
 {
     match high {
-        0 => Some((Instr::Add { shift: n, operand: Operand::from_byte(low)? }, 1)),
-        1 => Some((Instr::Sub { shift: n, operand: Operand::from_byte(low)? }, 1)),
-        2 => Some((Instr::Lac { shift: n, operand: Operand::from_byte(low)? }, 1)),
+        0 => Some((
+            Instr::Add {
+                shift: n,
+                operand: Operand::from_byte(low)?,
+            },
+            1,
+        )),
+        1 => Some((
+            Instr::Sub {
+                shift: n,
+                operand: Operand::from_byte(low)?,
+            },
+            1,
+        )),
+        2 => Some((
+            Instr::Lac {
+                shift: n,
+                operand: Operand::from_byte(low)?,
+            },
+            1,
+        )),
         3 => decode_loads(n, low),
         4 => decode_word_operations(n, low),
         5 => decode_push_or_change(n, low),
         6 => decode_accumulator_stores(n, low),
         7 => decode_register_stores(n, low),
-        8 => Some((Instr::In { port: n, operand: Operand::from_byte(low)? }, 1)),
+        8 => Some((
+            Instr::In {
+                port: n,
+                operand: Operand::from_byte(low)?,
+            },
+            1,
+        )),
         10 => Some((Instr::Mpyk(signed_13(n as u16 * 256 + low as u16)), 1)),
-        11 => Some((Instr::Mpyk(signed_13(4096 + n as u16 * 256 + low as u16)), 1)),
+        11 => Some((
+            Instr::Mpyk(signed_13(4096 + n as u16 * 256 + low as u16)),
+            1,
+        )),
         12 => decode_constants(n, low),
         13 => decode_word_constants(n, low, second),
-        14 => Some((Instr::Out { port: n, operand: Operand::from_byte(low)? }, 1)),
+        14 => Some((
+            Instr::Out {
+                port: n,
+                operand: Operand::from_byte(low)?,
+            },
+            1,
+        )),
         15 => decode_jumps(n, low, second),
         _ => None,
     }
@@ -47,7 +85,13 @@ fn decode_loads(n: u8, low: u8) -> Option<(Instr, u8)>
     ensures { result ≡ decode_3 n low }
 {
     match n {
-        0..=7 => Some((Instr::Lar { register: n, operand: Operand::from_byte(low)? }, 1)),
+        0..=7 => Some((
+            Instr::Lar {
+                register: n,
+                operand: Operand::from_byte(low)?,
+            },
+            1,
+        )),
         8 => Some((Instr::Mpy(Operand::from_byte(low)?), 1)),
         12 => Some((Instr::Lt(Operand::from_byte(low)?), 1)),
         _ => None,
@@ -91,7 +135,13 @@ fn decode_accumulator_stores(n: u8, low: u8) -> Option<(Instr, u8)>
     if n < 8 {
         Some((Instr::Sacl { shift: n, operand }, 1))
     } else {
-        Some((Instr::Sach { shift: n - 8, operand }, 1))
+        Some((
+            Instr::Sach {
+                shift: n - 8,
+                operand,
+            },
+            1,
+        ))
     }
 }
 
@@ -100,7 +150,13 @@ fn decode_register_stores(n: u8, low: u8) -> Option<(Instr, u8)>
     ensures { result ≡ decode_7 n low }
 {
     match n {
-        0..=7 => Some((Instr::Sar { register: n, operand: Operand::from_byte(low)? }, 1)),
+        0..=7 => Some((
+            Instr::Sar {
+                register: n,
+                operand: Operand::from_byte(low)?,
+            },
+            1,
+        )),
         10 => Some((Instr::Popd(Operand::from_byte(low)?), 1)),
         14 => Some((Instr::Adrk(low), 1)),
         15 => Some((Instr::Sbrk(low), 1)),
@@ -113,7 +169,13 @@ fn decode_constants(n: u8, low: u8) -> Option<(Instr, u8)>
     ensures { result ≡ decode_c n low }
 {
     match n {
-        0..=7 => Some((Instr::Lark { register: n, constant: low }, 1)),
+        0..=7 => Some((
+            Instr::Lark {
+                register: n,
+                constant: low,
+            },
+            1,
+        )),
         8..=9 => Some((Instr::Ldpk((n as u16 - 8) * 256 + low as u16), 1)),
         10 => Some((Instr::Lack(low), 1)),
         11 => Some((Instr::Rptk(low), 1)),
@@ -152,13 +214,53 @@ fn decode_word_constants(n: u8, low: u8, second: u16) -> Option<(Instr, u8)>
     ensures { result ≡ decode_d n low second }
 {
     match low {
-        0 => if n < 8 { Some((Instr::Lrlk { register: n, word: second }, 2)) } else { None },
-        1 => Some((Instr::Lalk { shift: n, word: second }, 2)),
-        2 => Some((Instr::Adlk { shift: n, word: second }, 2)),
-        3 => Some((Instr::Sblk { shift: n, word: second }, 2)),
-        4 => if n == 0 { Some((Instr::Andk(second), 2)) } else { None },
-        5 => if n == 0 { Some((Instr::Ork(second), 2)) } else { None },
-        6 => if n == 0 { Some((Instr::Xork(second), 2)) } else { None },
+        0 => if n < 8 {
+            Some((
+                Instr::Lrlk {
+                    register: n,
+                    word: second,
+                },
+                2,
+            ))
+        } else {
+            None
+        },
+        1 => Some((
+            Instr::Lalk {
+                shift: n,
+                word: second,
+            },
+            2,
+        )),
+        2 => Some((
+            Instr::Adlk {
+                shift: n,
+                word: second,
+            },
+            2,
+        )),
+        3 => Some((
+            Instr::Sblk {
+                shift: n,
+                word: second,
+            },
+            2,
+        )),
+        4 => if n == 0 {
+            Some((Instr::Andk(second), 2))
+        } else {
+            None
+        },
+        5 => if n == 0 {
+            Some((Instr::Ork(second), 2))
+        } else {
+            None
+        },
+        6 => if n == 0 {
+            Some((Instr::Xork(second), 2))
+        } else {
+            None
+        },
         _ => None,
     }
 }
@@ -168,10 +270,23 @@ fn decode_jumps(n: u8, low: u8, second: u16) -> Option<(Instr, u8)>
     ensures { result ≡ decode_f n low second }
 {
     if n == 14 {
-        Some((Instr::Call { to: second, operand: Indirect::from_byte(low)? }, 2))
+        Some((
+            Instr::Call {
+                to: second,
+                operand: Indirect::from_byte(low)?,
+            },
+            2,
+        ))
     } else {
         let op = jump_from(n)?;
-        Some((Instr::Branch { op, to: second, operand: Indirect::from_byte(low)? }, 2))
+        Some((
+            Instr::Branch {
+                op,
+                to: second,
+                operand: Indirect::from_byte(low)?,
+            },
+            2,
+        ))
     }
 }
 
@@ -196,5 +311,9 @@ fn signed_13(bits: u16) -> i16
     requires { bits < 8192 }
     ensures { result ≡ signed13 bits }
 {
-    if bits < 4096 { bits as i16 } else { bits as i16 - 8192 }
+    if bits < 4096 {
+        bits as i16
+    } else {
+        bits as i16 - 8192
+    }
 }

@@ -131,7 +131,11 @@ fn low_13(constant: i16) -> u16
     requires { IsSigned13 constant }
     ensures { result ≡ low13 constant }
 {
-    if constant < 0 { (8192 + constant) as u16 } else { constant as u16 }
+    if constant < 0 {
+        (8192 + constant) as u16
+    } else {
+        constant as u16
+    }
 }
 
 // The word of two bytes.

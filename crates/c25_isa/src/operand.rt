@@ -65,7 +65,10 @@ impl Indirect {
     pub fn from_byte(byte: u8) -> Option<Self>
         ensures { result ≡ indirect_of byte }
     {
-        Some(Indirect { change: Change::from_high(byte / 16)?, next: next_from_low(byte % 16)? })
+        Some(Indirect {
+            change: Change::from_high(byte / 16)?,
+            next: next_from_low(byte % 16)?,
+        })
     }
 }
 
@@ -106,6 +109,10 @@ impl Operand {
     pub fn from_byte(byte: u8) -> Option<Self>
         ensures { result ≡ operand_of byte }
     {
-        if byte < 128 { Some(Operand::Direct(byte)) } else { Some(Operand::Indirect(Indirect::from_byte(byte)?)) }
+        if byte < 128 {
+            Some(Operand::Direct(byte))
+        } else {
+            Some(Operand::Indirect(Indirect::from_byte(byte)?))
+        }
     }
 }
