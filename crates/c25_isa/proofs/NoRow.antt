@@ -1,5 +1,5 @@
 -- A first word that is read as nothing is no instruction's, whatever stands behind it.
-use Rattle.std.proofs.Common.{◌≡◌, ℕ, ◌/◌, ◌%◌, ◌*◌, ◌+◌, Bool, true, false, cond, Option, Some, None, IsNone, is_some, refl, sym, ap, ◌∙◌, subst}
+use Rattle.std.proofs.Common.{◌≡◌, ℕ, ◌/◌, ◌%◌, Bool, true, false, cond, Option, Some, None, IsNone, is_some, refl, sym, ap, ◌∙◌, subst}
 use Rattle.std.specs.Prelude.{◌==◌, nat_lt, ⊤}
 use Rattle.c25_isa.specs.declared.operand.Indirect.{Indirect}
 use Rattle.c25_isa.specs.declared.instruction.JumpOp.{JumpOp}

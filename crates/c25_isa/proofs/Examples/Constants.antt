@@ -4,7 +4,7 @@ use Rattle.std.proofs.Common.{◌≡◌, refl}
 use Rattle.word_base.specs.declared.outcome.Ending.TheVariants as ending
 use Rattle.c25_isa.specs.State.{write}
 use Rattle.c25_isa.specs.Step.{Ran, Over, step}
-use Rattle.c25_isa.proofs.Examples.States.{at, registers, words}
+use Rattle.c25_isa.proofs.Examples.States.{at, registers}
 
 -- constants of eight bits
 adrk_greatest : step (at 0x7eff 0) ≡ Ran (record (at 0x7eff 0) { ar = write registers 1 0x4ff; pc = 17 })

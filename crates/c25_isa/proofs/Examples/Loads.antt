@@ -3,7 +3,7 @@ use Rattle.std.specs.Prelude.{true}
 use Rattle.std.proofs.Common.{◌≡◌, refl}
 use Rattle.c25_isa.specs.State.{write}
 use Rattle.c25_isa.specs.Step.{Ran, step}
-use Rattle.c25_isa.proofs.Examples.States.{at, registers, words}
+use Rattle.c25_isa.proofs.Examples.States.{at, registers}
 
 -- sums and differences; in direct operands the page is 6, so that the words are those from 0300h on
 add_unshifted : step (at 0x0000 0) ≡ Ran (record (at 0x0000 0) { acc = 0x12345978; pc = 17 })

@@ -4,7 +4,7 @@ use Rattle.std.proofs.Common.{◌≡◌, refl}
 use Rattle.c25_isa.specs.declared.trap.TrapKind.TheVariants as trap
 use Rattle.c25_isa.specs.State.{write}
 use Rattle.c25_isa.specs.Step.{Ran, Trapped, step}
-use Rattle.c25_isa.proofs.Examples.States.{at, words}
+use Rattle.c25_isa.proofs.Examples.States.{at}
 
 -- words that are no instruction
 bad_word_0081 : step (at 0x0081 0) ≡ Trapped trap.BadWord 16

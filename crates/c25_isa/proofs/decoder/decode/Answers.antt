@@ -1,4 +1,4 @@
-use Rattle.std.proofs.Common.{◌≡◌, IfSome, IsNone, sym, subst}
+use Rattle.std.proofs.Common.{IfSome, IsNone, sym, subst}
 use Rattle.c25_isa.specs.Table.{StandsFor}
 use Rattle.c25_isa.proofs.Rows.{decode-stands}
 use Rattle.c25_isa.proofs.NoRow.{decode-none}
