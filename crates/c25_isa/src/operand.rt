@@ -1,6 +1,7 @@
 //! Where an instruction finds its word in data memory.
 ghost use Rattle.std.specs.Prelude.{◌≡◌};
 ghost use Rattle.c25_isa.specs.Table.{IsIndirect, IsOperand, indirect_byte, operand_byte};
+ghost use Rattle.c25_isa.specs.Decode.{change_of, next_of, indirect_of, operand_of};
 
 /// How an indirect access changes its address register afterwards.
 #[derive(Clone, Copy, Debug, PartialEq, Eq)]
@@ -15,6 +16,22 @@ pub enum Change {
     DownIndex,
     /// `*0+`: plus AR0
     UpIndex,
+}
+
+impl Change {
+    // By the high four bits of an indirect byte.
+    fn from_high(high: u8) -> Option<Self>
+        ensures { result ≡ change_of high }
+    {
+        match high {
+            8 => Some(Change::Stay),
+            9 => Some(Change::Down),
+            10 => Some(Change::Up),
+            13 => Some(Change::DownIndex),
+            14 => Some(Change::UpIndex),
+            _ => None,
+        }
+    }
 }
 
 /// The word at the current address register. `next` is the register, below 8, that is current
@@ -43,6 +60,29 @@ impl Indirect {
             Some(register) => code + 8 + register,
         }
     }
+
+    /// The indirect operand of a byte, where the byte is one.
+    pub fn from_byte(byte: u8) -> Option<Self>
+        ensures { result ≡ indirect_of byte }
+    {
+        Some(Indirect {
+            change: Change::from_high(byte / 16)?,
+            next: next_from_low(byte % 16)?,
+        })
+    }
+}
+
+// The register that is current afterwards, by the low four bits of an indirect byte.
+fn next_from_low(low: u8) -> Option<Option<u8>>
+    ensures { result ≡ next_of low }
+{
+    if low == 0 {
+        Some(None)
+    } else if low < 8 {
+        None
+    } else {
+        Some(Some(low - 8))
+    }
 }
 
 /// Where an instruction finds its word.
@@ -62,6 +102,17 @@ impl Operand {
         match self {
             Operand::Direct(offset) => *offset,
             Operand::Indirect(indirect) => indirect.byte(),
+        }
+    }
+
+    /// The operand of a byte, where the byte is one.
+    pub fn from_byte(byte: u8) -> Option<Self>
+        ensures { result ≡ operand_of byte }
+    {
+        if byte < 128 {
+            Some(Operand::Direct(byte))
+        } else {
+            Some(Operand::Indirect(Indirect::from_byte(byte)?))
         }
     }
 }

@@ -1,0 +1,293 @@
+//! From words to the instruction that they stand for. A first word is read by its high four bits, then the four bits
+//! below them, then its low byte.
+ghost use Rattle.std.specs.Prelude.{◌≡◌, ◌≢◌, ◌<◌, IfSome, IsNone, Some};
+ghost use Rattle.c25_isa.specs.declared.instruction.Instr.{Instr as AnInstr};
+ghost use Rattle.c25_isa.specs.Table.{IsInstr, StandsFor, first_word};
+ghost use Rattle.c25_isa.specs.Decode.{decode as decode_of, decode_3, decode_4, decode_5, decode_6, decode_7, decode_ce, decode_c, decode_d, decode_f, decode_parts, jump_of, signed13};
+
+use crate::instruction::{Instr, JumpOp};
+use crate::operand::{Indirect, Operand};
+
+/// The instruction of a first word and the word behind it, and its length in words; none where the first word is no
+/// instruction's.
+pub fn decode(first: u16, second: u16) -> Option<(Instr, u8)>
+    ensures value { result ≡ decode_of first second }
+    ensures row { IfSome result (λ r. StandsFor r.0 r.1 first second) }
+    ensures none { IsNone result → (i : AnInstr) → IsInstr i → first_word i ≢ first }
+{
+    decode_by_parts(
+        (first / 4096) as u8,
+        (first / 256 % 16) as u8,
+        (first % 256) as u8,
+        second,
+    )
+}
+
+fn decode_by_parts(high: u8, n: u8, low: u8, second: u16) -> Option<(Instr, u8)>
+    requires { n < 16 }
+    ensures { result ≡ decode_parts high n low second }
+{
+    match high {
+        0 => {
+            let operand = Operand::from_byte(low)?;
+            one_word(Instr::Add { shift: n, operand })
+        }
+        1 => {
+            let operand = Operand::from_byte(low)?;
+            one_word(Instr::Sub { shift: n, operand })
+        }
+        2 => {
+            let operand = Operand::from_byte(low)?;
+            one_word(Instr::Lac { shift: n, operand })
+        }
+        3 => decode_loads(n, low),
+        4 => decode_word_operations(n, low),
+        5 => decode_push_or_change(n, low),
+        6 => decode_accumulator_stores(n, low),
+        7 => decode_register_stores(n, low),
+        8 => {
+            let operand = Operand::from_byte(low)?;
+            one_word(Instr::In { port: n, operand })
+        }
+        10 => one_word(Instr::Mpyk(signed_13(n as u16 * 256 + low as u16))),
+        11 => one_word(Instr::Mpyk(signed_13(4096 + n as u16 * 256 + low as u16))),
+        12 => decode_constants(n, low),
+        13 => decode_word_constants(n, low, second),
+        14 => {
+            let operand = Operand::from_byte(low)?;
+            one_word(Instr::Out { port: n, operand })
+        }
+        15 => decode_jumps(n, low, second),
+        _ => None,
+    }
+}
+
+// First words 3xxx.
+fn decode_loads(n: u8, low: u8) -> Option<(Instr, u8)>
+    ensures { result ≡ decode_3 n low }
+{
+    match n {
+        0..=7 => {
+            let operand = Operand::from_byte(low)?;
+            one_word(Instr::Lar {
+                register: n,
+                operand,
+            })
+        }
+        8 => one_word(Instr::Mpy(Operand::from_byte(low)?)),
+        12 => one_word(Instr::Lt(Operand::from_byte(low)?)),
+        _ => None,
+    }
+}
+
+// First words 4xxx.
+fn decode_word_operations(n: u8, low: u8) -> Option<(Instr, u8)>
+    ensures { result ≡ decode_4 n low }
+{
+    match n {
+        1 => one_word(Instr::Zals(Operand::from_byte(low)?)),
+        2 => one_word(Instr::Lact(Operand::from_byte(low)?)),
+        5 => one_word(Instr::Subs(Operand::from_byte(low)?)),
+        7 => one_word(Instr::Subc(Operand::from_byte(low)?)),
+        9 => one_word(Instr::Adds(Operand::from_byte(low)?)),
+        11 => one_word(Instr::Rpt(Operand::from_byte(low)?)),
+        12 => one_word(Instr::Xor(Operand::from_byte(low)?)),
+        13 => one_word(Instr::Or(Operand::from_byte(low)?)),
+        14 => one_word(Instr::And(Operand::from_byte(low)?)),
+        _ => None,
+    }
+}
+
+// First words 5xxx.
+fn decode_push_or_change(n: u8, low: u8) -> Option<(Instr, u8)>
+    ensures { result ≡ decode_5 n low }
+{
+    match n {
+        4 => one_word(Instr::Pshd(Operand::from_byte(low)?)),
+        5 => one_word(Instr::Mar(Indirect::from_byte(low)?)),
+        _ => None,
+    }
+}
+
+// First words 6xxx.
+fn decode_accumulator_stores(n: u8, low: u8) -> Option<(Instr, u8)>
+    ensures { result ≡ decode_6 n low }
+{
+    let operand = Operand::from_byte(low)?;
+    if n < 8 {
+        one_word(Instr::Sacl { shift: n, operand })
+    } else {
+        one_word(Instr::Sach {
+            shift: n - 8,
+            operand,
+        })
+    }
+}
+
+// First words 7xxx.
+fn decode_register_stores(n: u8, low: u8) -> Option<(Instr, u8)>
+    ensures { result ≡ decode_7 n low }
+{
+    match n {
+        0..=7 => {
+            let operand = Operand::from_byte(low)?;
+            one_word(Instr::Sar {
+                register: n,
+                operand,
+            })
+        }
+        10 => one_word(Instr::Popd(Operand::from_byte(low)?)),
+        14 => one_word(Instr::Adrk(low)),
+        15 => one_word(Instr::Sbrk(low)),
+        _ => None,
+    }
+}
+
+// First words cxxx.
+fn decode_constants(n: u8, low: u8) -> Option<(Instr, u8)>
+    ensures { result ≡ decode_c n low }
+{
+    match n {
+        0..=7 => one_word(Instr::Lark {
+            register: n,
+            constant: low,
+        }),
+        8..=9 => one_word(Instr::Ldpk((n as u16 - 8) * 256 + low as u16)),
+        10 => one_word(Instr::Lack(low)),
+        11 => one_word(Instr::Rptk(low)),
+        12 => one_word(Instr::Addk(low)),
+        13 => one_word(Instr::Subk(low)),
+        14 => decode_fixed_words(low),
+        _ => None,
+    }
+}
+
+// First words cexx.
+fn decode_fixed_words(low: u8) -> Option<(Instr, u8)>
+    ensures { result ≡ decode_ce low }
+{
+    match low {
+        0x01 => one_word(Instr::Dint),
+        0x02 => one_word(Instr::Rovm),
+        0x06 => one_word(Instr::Rsxm),
+        0x07 => one_word(Instr::Ssxm),
+        0x08 => one_word(Instr::Spm),
+        0x14 => one_word(Instr::Pac),
+        0x15 => one_word(Instr::Apac),
+        0x16 => one_word(Instr::Spac),
+        0x18 => one_word(Instr::Sfl),
+        0x19 => one_word(Instr::Sfr),
+        0x1f => one_word(Instr::Idle),
+        0x23 => one_word(Instr::Neg),
+        0x26 => one_word(Instr::Ret),
+        0x27 => one_word(Instr::Cmpl),
+        _ => None,
+    }
+}
+
+// First words dxxx. Those without a shift or a register have the number 0.
+fn decode_word_constants(n: u8, low: u8, second: u16) -> Option<(Instr, u8)>
+    ensures { result ≡ decode_d n low second }
+{
+    match low {
+        0 => if n < 8 {
+            two_words(Instr::Lrlk {
+                register: n,
+                word: second,
+            })
+        } else {
+            None
+        },
+        1 => two_words(Instr::Lalk {
+            shift: n,
+            word: second,
+        }),
+        2 => two_words(Instr::Adlk {
+            shift: n,
+            word: second,
+        }),
+        3 => two_words(Instr::Sblk {
+            shift: n,
+            word: second,
+        }),
+        4 => if n == 0 {
+            two_words(Instr::Andk(second))
+        } else {
+            None
+        },
+        5 => if n == 0 {
+            two_words(Instr::Ork(second))
+        } else {
+            None
+        },
+        6 => if n == 0 {
+            two_words(Instr::Xork(second))
+        } else {
+            None
+        },
+        _ => None,
+    }
+}
+
+// First words fxxx.
+fn decode_jumps(n: u8, low: u8, second: u16) -> Option<(Instr, u8)>
+    ensures { result ≡ decode_f n low second }
+{
+    if n == 14 {
+        let operand = Indirect::from_byte(low)?;
+        two_words(Instr::Call {
+            to: second,
+            operand,
+        })
+    } else {
+        let op = jump_from(n)?;
+        let operand = Indirect::from_byte(low)?;
+        two_words(Instr::Branch {
+            op,
+            to: second,
+            operand,
+        })
+    }
+}
+
+// The jump of first words fxxx.
+fn jump_from(n: u8) -> Option<JumpOp>
+    ensures { result ≡ jump_of n }
+{
+    match n {
+        1 => Some(JumpOp::Bgz),
+        2 => Some(JumpOp::Blez),
+        3 => Some(JumpOp::Blz),
+        4 => Some(JumpOp::Bgez),
+        5 => Some(JumpOp::Bnz),
+        6 => Some(JumpOp::Bz),
+        15 => Some(JumpOp::B),
+        _ => None,
+    }
+}
+
+// An instruction of one word.
+fn one_word(instr: Instr) -> Option<(Instr, u8)>
+    ensures { result ≡ Some (instr, 1) }
+{
+    Some((instr, 1))
+}
+
+// An instruction of two words.
+fn two_words(instr: Instr) -> Option<(Instr, u8)>
+    ensures { result ≡ Some (instr, 2) }
+{
+    Some((instr, 2))
+}
+
+// The number of its low 13 bits.
+fn signed_13(bits: u16) -> i16
+    requires { bits < 8192 }
+    ensures { result ≡ signed13 bits }
+{
+    if bits < 4096 {
+        bits as i16
+    } else {
+        bits as i16 - 8192
+    }
+}
