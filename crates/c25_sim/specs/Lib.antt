@@ -1,0 +1,3 @@
+pub mod MachineView
+pub mod Taken
+pub mod Answers
