@@ -1,7 +1,7 @@
--- The byte of an operand names that operand, and no other byte names one.
-use Rattle.std.proofs.Common.{◌≡◌, ℕ, ◌+◌, ◌-◌, ◌*◌, ◌/◌, ◌%◌, ◌<◌, ◌≤◌, Option, Some, None, IfSome, refl, sym, ap, arith, cond, lit<, eqb-true, ltb-true, ltb-false}
+-- The byte of an operand names that operand, and an operand that a byte names has that byte.
+use Rattle.std.proofs.Common.{◌≡◌, ℕ, ◌+◌, ◌-◌, ◌*◌, ◌/◌, ◌%◌, ◌<◌, ◌≤◌, Option, Some, None, IfSome, refl, sym, ap, ◌∙◌, arith, eqb-true, ltb-true, ltb-false}
 use Rattle.std.specs.Prelude.{◌==◌, nat_lt, if◌then◌else◌}
-use Rattle.std.proofs.lemmas.Bool.{lt-ltb, cond_both}
+use Rattle.std.proofs.lemmas.Bool.{lt-ltb, le-ltb, cond-true, cond-false, cond_both}
 use Rattle.c25_isa.specs.declared.operand.Change.{Change}
 use Rattle.c25_isa.specs.declared.operand.Change.TheVariants.{Stay, Down, Up, DownIndex, UpIndex}
 use Rattle.c25_isa.specs.declared.operand.Indirect.{Indirect}
@@ -11,55 +11,69 @@ use Rattle.c25_isa.specs.Table.{IsNext, IsIndirect, IsOperand, change_code, next
 use Rattle.c25_isa.specs.Decode.{change_of, next_of, indirect_with, indirect_of, operand_of, through}
 use Rattle.c25_isa.proofs.Cases.{at_below}
 
-indirect_at : (change : Change) (next : Option ℕ) → IsNext next → indirect_of (change_code change + next_code next) ≡ Some (record { change = change; next = next })
-indirect_at Stay None h = refl
-indirect_at Down None h = refl
-indirect_at Up None h = refl
-indirect_at DownIndex None h = refl
-indirect_at UpIndex None h = refl
-indirect_at Stay (Some r) h = at_below (λ n. indirect_of (0x80 + (8 + n)) ≡ Some (record { change = Stay; next = Some n })) 8 ((((((((tt, refl), refl), refl), refl), refl), refl), refl), refl) r h
-indirect_at Down (Some r) h = at_below (λ n. indirect_of (0x90 + (8 + n)) ≡ Some (record { change = Down; next = Some n })) 8 ((((((((tt, refl), refl), refl), refl), refl), refl), refl), refl) r h
-indirect_at Up (Some r) h = at_below (λ n. indirect_of (0xa0 + (8 + n)) ≡ Some (record { change = Up; next = Some n })) 8 ((((((((tt, refl), refl), refl), refl), refl), refl), refl), refl) r h
-indirect_at DownIndex (Some r) h = at_below (λ n. indirect_of (0xd0 + (8 + n)) ≡ Some (record { change = DownIndex; next = Some n })) 8 ((((((((tt, refl), refl), refl), refl), refl), refl), refl), refl) r h
-indirect_at UpIndex (Some r) h = at_below (λ n. indirect_of (0xe0 + (8 + n)) ≡ Some (record { change = UpIndex; next = Some n })) 8 ((((((((tt, refl), refl), refl), refl), refl), refl), refl), refl) r h
+-- the high four bits of a change's code
+abbrev change_high : Change → ℕ
+change_high Stay = 8
+change_high Down = 9
+change_high Up = 10
+change_high DownIndex = 13
+change_high UpIndex = 14
+
+change_code-is : (change : Change) → change_code change ≡ change_high change * 16
+change_code-is Stay = refl
+change_code-is Down = refl
+change_code-is Up = refl
+change_code-is DownIndex = refl
+change_code-is UpIndex = refl
+
+change_high-fits : (change : Change) → (8 ≤ change_high change) × (change_high change < 15)
+change_high-fits Stay = (omega arith, omega arith)
+change_high-fits Down = (omega arith, omega arith)
+change_high-fits Up = (omega arith, omega arith)
+change_high-fits DownIndex = (omega arith, omega arith)
+change_high-fits UpIndex = (omega arith, omega arith)
+
+change_of-high : (change : Change) → change_of (change_high change) ≡ Some change
+change_of-high Stay = refl
+change_of-high Down = refl
+change_of-high Up = refl
+change_of-high DownIndex = refl
+change_of-high UpIndex = refl
+
+next_code-lt : (next : Option ℕ) → IsNext next → next_code next < 16
+next_code-lt None h = omega arith
+next_code-lt (Some register) h = omega arith
+
+next_of-code : (next : Option ℕ) → IsNext next → next_of (next_code next) ≡ Some next
+next_of-code None h = refl
+next_of-code (Some register) h = at_below (λ n. next_of (8 + n) ≡ Some (Some n)) 8 ((((((((tt, refl), refl), refl), refl), refl), refl), refl), refl) register h
+
+-- an indirect byte is from 80h to ffh
+pub indirect_byte-fits : (i : Indirect) → IsIndirect i → (128 ≤ indirect_byte i) × (indirect_byte i < 256)
+indirect_byte-fits i h =
+    let high = change_high-fits i.change in
+    let low = next_code-lt i.next h in
+    (omega (arith, change_code-is i.change, high.0), omega (arith, change_code-is i.change, high.1, low))
 
 pub indirect_of-indirect_byte : (i : Indirect) → IsIndirect i → indirect_of (indirect_byte i) ≡ Some i
-indirect_of-indirect_byte i h = indirect_at i.change i.next h
-
--- an indirect byte isn't below 80h
-through_at : (change : Change) (next : Option ℕ) → IsNext next → operand_of (change_code change + next_code next) ≡ Some (operand.Indirect (record { change = change; next = next }))
-through_at Stay None h = refl
-through_at Down None h = refl
-through_at Up None h = refl
-through_at DownIndex None h = refl
-through_at UpIndex None h = refl
-through_at Stay (Some r) h = at_below (λ n. operand_of (0x80 + (8 + n)) ≡ Some (operand.Indirect (record { change = Stay; next = Some n }))) 8 ((((((((tt, refl), refl), refl), refl), refl), refl), refl), refl) r h
-through_at Down (Some r) h = at_below (λ n. operand_of (0x90 + (8 + n)) ≡ Some (operand.Indirect (record { change = Down; next = Some n }))) 8 ((((((((tt, refl), refl), refl), refl), refl), refl), refl), refl) r h
-through_at Up (Some r) h = at_below (λ n. operand_of (0xa0 + (8 + n)) ≡ Some (operand.Indirect (record { change = Up; next = Some n }))) 8 ((((((((tt, refl), refl), refl), refl), refl), refl), refl), refl) r h
-through_at DownIndex (Some r) h = at_below (λ n. operand_of (0xd0 + (8 + n)) ≡ Some (operand.Indirect (record { change = DownIndex; next = Some n }))) 8 ((((((((tt, refl), refl), refl), refl), refl), refl), refl), refl) r h
-through_at UpIndex (Some r) h = at_below (λ n. operand_of (0xe0 + (8 + n)) ≡ Some (operand.Indirect (record { change = UpIndex; next = Some n }))) 8 ((((((((tt, refl), refl), refl), refl), refl), refl), refl), refl) r h
+indirect_of-indirect_byte i h =
+    let small = next_code-lt i.next h in
+    let high : indirect_byte i / 16 ≡ change_high i.change = omega (arith, change_code-is i.change, small) in
+    let low : indirect_byte i % 16 ≡ next_code i.next = omega (arith, change_code-is i.change, small) in
+    ap (λ n. indirect_with (change_of n) (next_of (indirect_byte i % 16))) high
+    ∙ ap (λ n. indirect_with (change_of (change_high i.change)) (next_of n)) low
+    ∙ ap (λ c. indirect_with c (next_of (next_code i.next))) (change_of-high i.change)
+    ∙ ap (indirect_with (Some i.change)) (next_of-code i.next h)
 
 pub operand_of-operand_byte : (o : Operand) → IsOperand o → operand_of (operand_byte o) ≡ Some o
-operand_of-operand_byte (operand.Direct offset) h = ap (λ b. cond b (Some (operand.Direct offset)) (through (indirect_of offset))) (lt-ltb offset 128 h)
-operand_of-operand_byte (operand.Indirect i) h = through_at i.change i.next h
-
-change_code-lt : (change : Change) → change_code change < 241
-change_code-lt Stay = lit< tt
-change_code-lt Down = lit< tt
-change_code-lt Up = lit< tt
-change_code-lt DownIndex = lit< tt
-change_code-lt UpIndex = lit< tt
-
-code-lt : (change : Change) (next : Option ℕ) → IsNext next → change_code change + next_code next < 256
-code-lt change None h = omega (arith, change_code-lt change)
-code-lt change (Some r) h = omega (arith, change_code-lt change)
-
-pub indirect_byte-lt : (i : Indirect) → IsIndirect i → indirect_byte i < 256
-indirect_byte-lt i h = code-lt i.change i.next h
+operand_of-operand_byte (operand.Direct offset) h = cond-true _ _ _ (lt-ltb offset 128 h)
+operand_of-operand_byte (operand.Indirect i) h =
+    cond-false (nat_lt (indirect_byte i) 128) _ _ (le-ltb (indirect_byte i) 128 (indirect_byte-fits i h).0)
+    ∙ ap through (indirect_of-indirect_byte i h)
 
 pub operand_byte-lt : (o : Operand) → IsOperand o → operand_byte o < 256
 operand_byte-lt (operand.Direct offset) h = omega arith
-operand_byte-lt (operand.Indirect i) h = indirect_byte-lt i h
+operand_byte-lt (operand.Indirect i) h = (indirect_byte-fits i h).1
 
 -- how the register changes, with the code of that change
 change_of-fits : (high : ℕ) → IfSome (change_of high) (λ c. change_code c ≡ high * 16)

@@ -181,6 +181,7 @@ module _ (first second : ℕ) where
       where_is high 15 _ _ (λ is. row_f n low (omega (arith, is, whole)) small byte wide) (
       tt)))))))))))))))
 
+-- what is read, if anything, stands at its words
 pub decode-stands : (first second : ℕ) → first < 65536 → second < 65536 → IfSome (decode first second) (λ d. StandsFor d.0 d.1 first second)
 decode-stands first second narrow wide =
     let whole : first ≡ first / 4096 * 4096 + first / 256 % 16 * 256 + first % 256 = omega arith in

@@ -23,6 +23,7 @@ pub fn decode(first: u16, second: u16) -> Option<(Instr, u8)>
     )
 }
 
+// By the parts of the first word, and the second one.
 fn decode_by_parts(high: u8, n: u8, low: u8, second: u16) -> Option<(Instr, u8)>
     requires { n < 16 }
     ensures { result ≡ decode_parts high n low second }
@@ -186,67 +187,32 @@ fn decode_fixed_words(low: u8) -> Option<(Instr, u8)>
 }
 
 // First words dxxx. Those without a shift or a register have the number 0.
-fn decode_word_constants(n: u8, low: u8, second: u16) -> Option<(Instr, u8)>
-    ensures { result ≡ decode_d n low second }
+fn decode_word_constants(n: u8, low: u8, word: u16) -> Option<(Instr, u8)>
+    ensures { result ≡ decode_d n low word }
 {
     match low {
-        0 => if n < 8 {
-            two_words(Instr::Lrlk {
-                register: n,
-                word: second,
-            })
-        } else {
-            None
-        },
-        1 => two_words(Instr::Lalk {
-            shift: n,
-            word: second,
-        }),
-        2 => two_words(Instr::Adlk {
-            shift: n,
-            word: second,
-        }),
-        3 => two_words(Instr::Sblk {
-            shift: n,
-            word: second,
-        }),
-        4 => if n == 0 {
-            two_words(Instr::Andk(second))
-        } else {
-            None
-        },
-        5 => if n == 0 {
-            two_words(Instr::Ork(second))
-        } else {
-            None
-        },
-        6 => if n == 0 {
-            two_words(Instr::Xork(second))
-        } else {
-            None
-        },
+        0 if n < 8 => two_words(Instr::Lrlk { register: n, word }),
+        1 => two_words(Instr::Lalk { shift: n, word }),
+        2 => two_words(Instr::Adlk { shift: n, word }),
+        3 => two_words(Instr::Sblk { shift: n, word }),
+        4 if n == 0 => two_words(Instr::Andk(word)),
+        5 if n == 0 => two_words(Instr::Ork(word)),
+        6 if n == 0 => two_words(Instr::Xork(word)),
         _ => None,
     }
 }
 
 // First words fxxx.
-fn decode_jumps(n: u8, low: u8, second: u16) -> Option<(Instr, u8)>
-    ensures { result ≡ decode_f n low second }
+fn decode_jumps(n: u8, low: u8, to: u16) -> Option<(Instr, u8)>
+    ensures { result ≡ decode_f n low to }
 {
     if n == 14 {
         let operand = Indirect::from_byte(low)?;
-        two_words(Instr::Call {
-            to: second,
-            operand,
-        })
+        two_words(Instr::Call { to, operand })
     } else {
         let op = jump_from(n)?;
         let operand = Indirect::from_byte(low)?;
-        two_words(Instr::Branch {
-            op,
-            to: second,
-            operand,
-        })
+        two_words(Instr::Branch { op, to, operand })
     }
 }
 
