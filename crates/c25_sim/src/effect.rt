@@ -1,5 +1,5 @@
 //! What each instruction does.
-ghost use Rattle.std.specs.Prelude.{◌≡◌, ◌<◌, IsTrue};
+ghost use Rattle.std.specs.Prelude.{◌≡◌, ◌≢◌, ◌<◌, IsTrue};
 ghost use Rattle.arrayvec.specs.ArrayVec.{array_vec_len};
 ghost use Rattle.c25_isa.specs.Table.{IsIndirect, IsInstr, IsOperand};
 ghost use Rattle.c25_isa.specs.Step as spec;
@@ -16,7 +16,7 @@ impl Machine {
     // What an instruction of this length does once, where no trap comes.
     pub(crate) fn effect(&mut self, length: u8, instr: &Instr) -> Event
         requires fits { IsInstr instr.now }
-        requires room { IsTrue (spec.pushes instr.now) → array_vec_len self.old.stack < 8 }
+        requires room { IsTrue (spec.pushes instr.now) → array_vec_len self.old.stack ≢ 8 }
         ensures event { spec.effect (state_of self.old) length instr.now ≡ event_of result (state_of self.new) }
         ensures state { state_of self.new ≡ behind (event_of result (state_of self.new)) (state_of self.old) }
     {

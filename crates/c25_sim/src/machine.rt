@@ -117,10 +117,10 @@ impl Machine {
 
     // Pushes a word where there is room.
     pub(crate) fn push(&mut self, word: u16)
-        requires { array_vec_len self.old.stack < 8 }
+        requires { array_vec_len self.old.stack ≢ 8 }
         ensures { state_of self.new ≡ record (state_of self.old) { stack = word ∷ (state_of self.old).stack } }
     {
-        self.stack.push(word);
+        let _ = self.stack.try_push(word);
     }
 
     // Pops a word.

@@ -1,5 +1,5 @@
 //! Machines, their steps and their runs.
-ghost use Rattle.std.specs.Prelude.{◌≡◌, ◌<◌, ◌≤◌, [], ℕ, Some, IfOk, OnOk, OnErr, IsTrue, slice_index_or, vec_len};
+ghost use Rattle.std.specs.Prelude.{◌≡◌, ◌≢◌, ◌<◌, ◌≤◌, [], ℕ, Some, IfOk, OnOk, OnErr, IsTrue, slice_index_or, vec_len};
 ghost use Rattle.arrayvec.specs.ArrayVec.{array_vec_len};
 ghost use Rattle.word_base.specs.Ports.{input_of};
 ghost use Rattle.c25_isa.specs.Table.{IsInstr};
@@ -66,7 +66,7 @@ impl Machine {
     // Does an instruction at which no trap comes, and counts a pending repeat.
     fn perform(&mut self, length: u8, instr: &Instr) -> Event
         requires fits { IsInstr instr.now }
-        requires room { IsTrue (spec.pushes instr.now) → array_vec_len self.old.stack < 8 }
+        requires room { IsTrue (spec.pushes instr.now) → array_vec_len self.old.stack ≢ 8 }
         ensures event { spec.repeated (state_of self.old).repeats (state_of self.old).pc (spec.effect (state_of self.old) length instr.now)
             ≡ event_of result (state_of self.new) }
         ensures state { state_of self.new ≡ behind (event_of result (state_of self.new)) (state_of self.old) }
@@ -81,7 +81,8 @@ impl Machine {
 
     // Behind one of the times that a word runs: it stands until the last one.
     fn count_repeat(&mut self, times: u16, at: u16, event: &Event)
-        ensures { spec.repeated (Some times) at (event_of event.now (state_of self.old)) ≡ event_of event.now (state_of self.new) }
+        ensures event { spec.repeated (Some times) at (event_of event.now (state_of self.old)) ≡ event_of event.now (state_of self.new) }
+        ensures state { state_of self.new ≡ behind (event_of event.now (state_of self.new)) (state_of self.old) }
     {
         match event {
             Event::Ran | Event::Out(_) => {
