@@ -135,3 +135,22 @@ half_a_code = refl
 
 no_such_change : decode 0x60b0 0 ≡ None
 no_such_change = refl
+
+-- words in no row, next to words in one
+sach : decode 0x6800 0 ≡ None
+sach = refl
+
+dint : decode 0xce01 0 ≡ None
+dint = refl
+
+past_idle : decode 0xce20 0 ≡ None
+past_idle = refl
+
+adlk : decode 0xd002 0 ≡ None
+adlk = refl
+
+lack : decode 0xca00 0 ≡ None
+lack = refl
+
+past_out : decode 0xf000 0 ≡ None
+past_out = refl
