@@ -20,6 +20,7 @@ wants() {
 }
 
 "$top/c25cc" > /dev/null
+[ $? -eq 2 ] || { fail 'the program is not there'; exit 1; }
 
 for source in "$top"/examples/*.c; do
     wants 0 '' build "$source" made.img
@@ -39,6 +40,8 @@ wants 2 'words refused' build a.c a.img -r 5
 wants 2 'words refused' build a.c "$(printf '\377')"
 wants 3 'read fault: absent.c' build absent.c a.img
 wants 3 'read fault: .' build . a.img
+wants 1 'source refused: not yet' build b.c a.img
+cmp -s a.img "$top/examples/first.img" || fail 'a refused build changed its image'
 wants 4 '' build a.c no_folder/a.img
 head -c 1048576 /dev/zero > long.c
 wants 1 'source refused: not yet' build long.c b.img

@@ -10,7 +10,7 @@ use Rattle.cc_driver.specs.Line.{LinePut, Whole, Part, Nothing}
 pub line_put : (tells : Bool) (line before now : List ℕ) (faults_before faults_now : ℕ) (r : Result (Unit {0}) SinkFault) → OnOk r (IsTrue tells → now ≡ before ++ line) → IfErr r (PutRefused tells line before now faults_before faults_now) → IsTrue tells → LinePut line before now faults_before faults_now
 line_put tells line before now fb fn (Ok u) told refused t = Whole (told t)
 line_put tells line before now fb fn (Err Failed) told refused t = let part = refused.1 t in Part refused.0 part.0 part.1
-line_put tells line before now fb fn (Err NoMemory) told refused t = Nothing (refused.0 t)
+line_put tells line before now fb fn (Err NoMemory) told refused t = Nothing (refused.0 t) refused.1
 
 -- a put of the same line
 pub line_same : (a b before now : List ℕ) (faults_before faults_now : ℕ) → a ≡ b → LinePut a before now faults_before faults_now → LinePut b before now faults_before faults_now

@@ -1,16 +1,6 @@
 -- The lines that are put, and what a put makes of a sink (docs/COMMANDS.md, "Lines").
-use Rattle.std.specs.Prelude.{◌≡◌, ℕ, ◌==◌, Bool, IsTrue, if◌then◌else◌, List, [], ◌∷◌, ◌++◌, take, codes, Option, Some, None}
+use Rattle.std.specs.Prelude.{◌≡◌, ℕ, ◌==◌, Bool, IsTrue, if◌then◌else◌, List, ◌++◌, take, codes, Option, Some, None}
 use Rattle.word_base.specs.Counts.{Rose}
-use Rattle.cc_driver.specs.declared.build.BuildFault.{BuildFault}
-use Rattle.cc_driver.specs.declared.build.BuildFault.TheVariants.{Read, TooLong, NotYet, Write, NoMemory}
-
--- the line of a refused build
-abbrev pub line_of : BuildFault → List ℕ → Option (List ℕ)
-line_of NotYet source = Some (codes "source refused: not yet\n")
-line_of Read source = Some (codes "read fault: " ++ (source ++ codes "\n"))
-line_of Write source = None
-line_of NoMemory source = Some (codes "want of memory\n")
-line_of TooLong source = Some (codes "file refused: " ++ (source ++ codes " too long\n"))
 
 -- the line at each status of a build
 abbrev pub status_line : ℕ → List ℕ → Option (List ℕ)
@@ -27,8 +17,8 @@ pub data LinePut (line before now : List ℕ) (faults_before faults_now : ℕ) :
   Whole : now ≡ before ++ line → LinePut line before now faults_before faults_now
   -- the put failed, and a part of the line is there
   Part : Rose faults_before faults_now → (n : ℕ) → now ≡ before ++ take n line → LinePut line before now faults_before faults_now
-  -- memory was wanted for the line, and nothing is there
-  Nothing : now ≡ before → LinePut line before now faults_before faults_now
+  -- memory was wanted for the line, and the sink is as it was
+  Nothing : now ≡ before → faults_now ≡ faults_before → LinePut line before now faults_before faults_now
 
 -- a line was put into a sink, or none and the sink is as it was
 abbrev pub Puts : Bool → Option (List ℕ) → List ℕ → List ℕ → ℕ → ℕ → Type 0

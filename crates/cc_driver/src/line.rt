@@ -1,6 +1,7 @@
 //! The lines that the commands put.
 ghost use Rattle.std.specs.Prelude.{◌≡◌, ◌++◌, IfOk, string_bytes};
-ghost use Rattle.cc_driver.specs.Line.{Puts, line_of};
+ghost use Rattle.cc_driver.specs.Build.{status_of};
+ghost use Rattle.cc_driver.specs.Line.{Puts, status_line};
 
 use crate::build::BuildFault;
 use std::alloc::Global;
@@ -16,7 +17,7 @@ pub fn say<K: Sink>(alloc: Global, out: &mut K, line: &[u8])
 
 /// Puts the line of a refused build, where it has one.
 pub fn report<K: Sink>(alloc: Global, out: &mut K, fault: BuildFault, source: &str)
-    ensures { Puts K.tells (line_of fault source.now)
+    ensures { Puts K.tells (status_line (status_of (Err fault)) source.now)
         (K.bytes out.old) (K.bytes out.new) (K.faults out.old) (K.faults out.new) }
 {
     match fault {

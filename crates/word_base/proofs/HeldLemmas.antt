@@ -1,5 +1,5 @@
 -- On what a list of files holds.
-use Rattle.std.proofs.Common.{◌≡◌, ◌≢◌, ◌<◌, ◌≤◌, ◌+◌, suc, ℕ, map, Bool, List, [], ◌∷◌, ◌++◌, length, get_or, set, take, drop, Option, Some, None, refl, sym, ap, ◌∙◌, subst, true, false, cond, arith, length-append, drop-cons, zero, ⊎_elim}
+use Rattle.std.proofs.Common.{◌≡◌, ◌≢◌, ◌<◌, ◌+◌, suc, ℕ, Bool, List, [], ◌∷◌, ◌++◌, length, get_or, set, take, drop, Option, Some, None, refl, sym, ap, ◌∙◌, subst, true, false, cond, arith, length-append, drop-cons, zero, ⊎_elim}
 use Rattle.std.specs.List.{AllPairs, Contains, IsAnyAnswer}
 use Rattle.std.specs.Prelude.{nat_eq, IsTrue, ◌↔◌}
 use Rattle.std.proofs.lemmas.Bool.{cases_lt}
@@ -139,9 +139,9 @@ pushed_names files n new none named differ =
 
 -- behind a push that may have failed
 pub names_behind_push : (ok : Bool) (files after : List MemFile) (n : List ℕ) (new : MemFile) → after ≡ cond ok (files ++ new ∷ []) files → held files n ≡ None → new.name ≡ n → NamesDiffer files → NamesDiffer after
-names_behind_push true files after n new e none named differ =
-    subst NamesDiffer (sym e) (pushed_names files n new none named differ)
-names_behind_push false files after n new e none named differ = subst NamesDiffer (sym e) differ
+names_behind_push true files after n new e none is differ =
+    subst NamesDiffer (sym e) (pushed_names files n new none is differ)
+names_behind_push false files after n new e none is differ = subst NamesDiffer (sym e) differ
 
 -- whether a number is in a list
 pub contains_is : (items shown : List ℕ) (n : ℕ) (b : Bool) → shown ≡ items → IsAnyAnswer (λ y t. nat_eq y n ≡ t) shown b → IsTrue b ↔ Contains items n

@@ -7,9 +7,13 @@ pub record Counts : Type 0 where
   pub store_faults : ℕ
   pub bytes_read : ℕ
 
--- the count is greater by at least n, or stands at the greatest value of 64 bits
+-- a count raised by n, where its 64 bits hold that, else its greatest value
+abbrev pub raised : ℕ → ℕ → ℕ
+raised count n = min (count + n) (2 ^ 64 - 1)
+
+-- the count is greater by at least n, or stands at its greatest value
 abbrev pub RoseBy : ℕ → ℕ → ℕ → Type 0
-RoseBy n before now = min (before + n) (2 ^ 64 - 1) ≤ now
+RoseBy n before now = raised before n ≤ now
 
 -- the count is greater, or stands at its greatest value
 abbrev pub Rose : ℕ → ℕ → Type 0

@@ -3,6 +3,7 @@
 #![tactic(auto)]
 
 mod file_shelf;
+mod items;
 mod mem_shelf;
 mod mem_sink;
 mod name;
@@ -15,6 +16,7 @@ mod stream;
 mod text;
 
 pub use file_shelf::FileShelf;
+pub use items::Items;
 pub use mem_shelf::{MemFile, MemShelf};
 pub use mem_sink::MemSink;
 pub use name::is_name;

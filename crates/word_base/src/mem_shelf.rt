@@ -1,6 +1,7 @@
 //! A shelf in memory.
 ghost use Rattle.std.specs.Prelude.{◌≡◌, ◌≢◌, ◌≤◌, [], List, ℕ, Some, None, true, MatchOption, OnOk, OnErr, IfOk, IfErr, IsErrOf, IsTrue, ◌↔◌, Contains, vec_len};
 ghost use Rattle.word_base.specs.ShelfAnswers.{FetchRefused, StoreRefused, AfterFetch, AfterStore};
+ghost use Rattle.word_base.specs.Counts.{raised};
 ghost use Rattle.word_base.specs.Files.{Unchanged};
 ghost use Rattle.word_base.specs.Held.{held, NamesDiffer, FirstAt};
 
@@ -80,9 +81,10 @@ impl MemShelf {
         Ok(())
     }
 
-    // Counts a call, and says whether it is to fail.
-    fn is_to_fail(&mut self) -> bool
+    // Counts a call. The answer is whether it is to fail.
+    fn count_call(&mut self) -> bool
         ensures fails { IsTrue result ↔ Contains self.old.fail_at.items self.old.calls }
+        ensures calls { self.new.calls ≡ raised self.old.calls 1 }
         ensures files { self.new.files ≡ self.old.files }
         ensures counts { counts_of self.new ≡ counts_of self.old }
         ensures fail_at { self.new.fail_at ≡ self.old.fail_at }
@@ -111,12 +113,15 @@ impl Shelf for MemShelf {
             (FetchRefused true (held self.old.files.items name.now) max (counts_of self.old) (counts_of self.new)) }
         ensures counts { AfterFetch (counts_of self.old) (counts_of self.new) }
 
-        // A call fails exactly where its number is one of `fail_at`, and else it counts no fault.
+        // Calls are counted. One fails exactly where its number is in `fail_at`, and else it counts no fault.
+        ensures calls { self.new.calls ≡ raised self.old.calls 1 }
         ensures fails { IsErrOf result ShelfFault.Failed ↔ Contains self.old.fail_at.items self.old.calls }
-        ensures faults { ¬ Contains self.old.fail_at.items self.old.calls → self.new.fetch_faults ≡ self.old.fetch_faults }
+        ensures fault { IsErrOf result ShelfFault.Failed → self.new.fetch_faults ≡ raised self.old.fetch_faults 1 }
+        ensures no_fault { ¬ Contains self.old.fail_at.items self.old.calls → self.new.fetch_faults ≡ self.old.fetch_faults }
+        ensures read { IfOk result (λ bytes. self.new.read ≡ raised self.old.read (vec_len bytes)) }
         ensures fail_at { self.new.fail_at ≡ self.old.fail_at }
     {
-        if self.is_to_fail() {
+        if self.count_call() {
             self.fetch_faults = self.fetch_faults.saturating_add(1);
             return Err(ShelfFault::Failed);
         }
@@ -140,12 +145,15 @@ impl Shelf for MemShelf {
         ensures refused { IfErr result (StoreRefused (counts_of self.old) (counts_of self.new)) }
         ensures counts { AfterStore (counts_of self.old) (counts_of self.new) }
 
-        // As above.
+        // As above, and a call that fails changes no file.
+        ensures calls { self.new.calls ≡ raised self.old.calls 1 }
         ensures fails { IsErrOf result ShelfFault.Failed ↔ Contains self.old.fail_at.items self.old.calls }
-        ensures faults { ¬ Contains self.old.fail_at.items self.old.calls → self.new.store_faults ≡ self.old.store_faults }
+        ensures failed { IsErrOf result ShelfFault.Failed → Unchanged (held self.old.files.items) (held self.new.files.items) }
+        ensures fault { IsErrOf result ShelfFault.Failed → self.new.store_faults ≡ raised self.old.store_faults 1 }
+        ensures no_fault { ¬ Contains self.old.fail_at.items self.old.calls → self.new.store_faults ≡ self.old.store_faults }
         ensures fail_at { self.new.fail_at ≡ self.old.fail_at }
     {
-        if self.is_to_fail() {
+        if self.count_call() {
             self.store_faults = self.store_faults.saturating_add(1);
             return Err(ShelfFault::Failed);
         }

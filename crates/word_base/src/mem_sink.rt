@@ -1,5 +1,6 @@
 //! A sink in memory.
 ghost use Rattle.std.specs.Prelude.{◌≡◌, ◌≤◌, ◌++◌, [], true, OnOk, IfErr, IsErrOf, ◌↔◌, Contains};
+ghost use Rattle.word_base.specs.Counts.{raised};
 ghost use Rattle.word_base.specs.SinkAnswers.{PutRefused};
 
 use crate::sink::{Sink, SinkFault};
@@ -47,9 +48,12 @@ impl Sink for MemSink {
             (PutRefused true piece.now self.old.bytes.items self.new.bytes.items self.old.faults self.new.faults) }
         ensures later { self.old.faults ≤ self.new.faults }
 
-        // A call fails exactly where its number is one of `fail_at`, and else it counts no fault.
+        // Calls are counted. One fails exactly where its number is in `fail_at`, then puts nothing, and else counts no fault.
+        ensures calls { self.new.calls ≡ raised self.old.calls 1 }
         ensures fails { IsErrOf result SinkFault.Failed ↔ Contains self.old.fail_at.items self.old.calls }
-        ensures faults { ¬ Contains self.old.fail_at.items self.old.calls → self.new.faults ≡ self.old.faults }
+        ensures failed { IsErrOf result SinkFault.Failed → self.new.bytes.items ≡ self.old.bytes.items }
+        ensures fault { IsErrOf result SinkFault.Failed → self.new.faults ≡ raised self.old.faults 1 }
+        ensures no_fault { ¬ Contains self.old.fail_at.items self.old.calls → self.new.faults ≡ self.old.faults }
         ensures fail_at { self.new.fail_at ≡ self.old.fail_at }
     {
         let is_to_fail = self.fail_at.contains(&self.calls);

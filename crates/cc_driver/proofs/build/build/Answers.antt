@@ -1,10 +1,11 @@
-use Rattle.std.proofs.Common.{◌≡◌, ◌∙◌, ◌≤◌, ◌-◌, ◌∷◌, [], length, Some, ap, sym, subst, arith, List, ℕ}
-use Rattle.c_tree.specs.SourceRun.{source_run, main_name}
+use Rattle.std.proofs.Common.{◌∙◌, ℕ, List, Some, ap, sym, subst, arith}
+use Rattle.c_tree.specs.SourceRun.{source_run}
 use Rattle.c25_isa.specs.Agrees.{Agrees}
 use Rattle.c25_isa.specs.Table.{code_words}
-use Rattle.cc_driver.specs.Image.{image_text}
+use Rattle.cc_driver.specs.Build.{main_alone}
+use Rattle.cc_driver.specs.Image.{IsImage, image_text}
 use Rattle.cc_driver.specs.Thin.{IsThin, thin_program}
-use Rattle.cc_driver.proofs.ThinRun.{thin_agrees}
+use Rattle.cc_driver.proofs.ThinRun.{thin_image}
 use Rattle.cc_driver.proofs.build.build.Goals as goal
 
 pub returns-in_default-clause-refused : goal.returns-in_default-clause-refused
@@ -35,7 +36,8 @@ returns-in-Ok-store-clause-done g c =
         word = t.word;
         answer = t.answer;
         thin = subst (λ l. IsThin l t.port t.word t.answer) c.deref.ensures.value found;
-        agrees = subst (λ (l : List ℕ). Agrees (source_run (thin_program t.port t.word t.answer)) l) (sym c.in_ok-words.ensures) (subst (λ code. Agrees (source_run (thin_program t.port t.word t.answer)) (code_words code)) (sym c.code.ensures) (thin_agrees t.port t.word t.answer found.port_fits found.word_fits found.answer_fits));
+        agrees = subst (λ (l : List ℕ). Agrees (source_run (thin_program t.port t.word t.answer)) l) (sym c.in_ok-words.ensures) c.code.ensures.agrees;
       };
-      held = c.in-Ok-store.ensures.told told ∙ ap Some (c.deref-3.ensures.value ∙ c.in_ok-text.ensures ∙ ap (λ w. image_text w (record { name = main_name; first = 0; last = length w - 1 } ∷ [])) c.deref-2.ensures.value);
+      is_image = subst (λ (l : List ℕ). IsImage l (main_alone l)) (sym (c.in_ok-words.ensures ∙ ap code_words c.code.ensures.value)) (thin_image t.port t.word t.answer found.numbers);
+      held = c.in-Ok-store.ensures.told told ∙ ap Some (c.deref-3.ensures.value ∙ c.in_ok-text.ensures ∙ ap (λ w. image_text w (main_alone w)) c.deref-2.ensures.value);
     }

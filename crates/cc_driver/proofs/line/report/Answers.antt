@@ -1,5 +1,3 @@
-use Rattle.std.proofs.Common.{sym, subst}
-use Rattle.cc_driver.specs.Line.{Puts, line_of}
 use Rattle.cc_driver.proofs.line.report.Goals as goal
 
 pub returns-in-NotYet : goal.returns-in-NotYet
