@@ -1,9 +1,9 @@
 //! What instructions compute.
 ghost use Rattle.std.specs.Prelude.{◌≡◌, ◌<◌, ◌*◌, ◌^◌, ◌≤ℤ◌, pos, negsuc};
-ghost use Rattle.word_base.specs.Words.{signed_of};
 ghost use Rattle.c25_isa.specs.Step as spec;
 
 use c25_isa::Change;
+use word_base::signed;
 
 /// A sum of 32 bits, which wraps.
 pub fn plus(a: u32, b: u32) -> u32
@@ -36,19 +36,6 @@ pub fn shifted_left(value: u32, shift: u8) -> u32
     ensures { result ≡ spec.wrap32 (value * 2 ^ shift) }
 {
     value.wrapping_mul(1 << shift)
-}
-
-/// A word by its sign bit.
-pub fn signed(word: u16) -> i32
-    ensures value { result ≡ signed_of word }
-    ensures low { negsuc 32767 ≤ℤ result }
-    ensures high { result ≤ℤ pos 32767 }
-{
-    if word < 0x8000 {
-        i32::from(word)
-    } else {
-        i32::from(word) - 0x1_0000
-    }
 }
 
 /// The low 32 bits of a number.

@@ -5,10 +5,10 @@ ghost use Rattle.c25_isa.specs.Table.{IsIndirect, IsInstr, IsOperand};
 ghost use Rattle.c25_isa.specs.Step as spec;
 ghost use Rattle.c25_sim.specs.Answers.{event_of, behind};
 
-use crate::arithmetic::{divided, extended, half, minus, plus, product, shifted_left, signed};
+use crate::arithmetic::{divided, extended, half, minus, plus, product, shifted_left};
 use crate::machine::Machine;
 use c25_isa::{Event, Indirect, Instr, JumpOp, Operand, TrapKind};
-use word_base::{Ending, PortWord};
+use word_base::{Ending, PortWord, signed};
 
 impl Machine {
     ghost use Rattle.c25_sim.specs.MachineView.{state_of};

@@ -9,3 +9,6 @@ mod run;
 mod traps;
 
 pub use machine::Machine;
+
+#[cfg(test)]
+mod tests;

@@ -1,6 +1,6 @@
 -- The readings of a word of 16 bits, and the value of each operator on words: ISO 9899:1990 6.1.2.5, 6.2.1.2 and
 -- 6.3.3 to 6.3.12, with the choices of docs/LANGUAGE.md, "Values". Each computes on whole numbers without a limit.
-use Rattle.std.specs.Prelude.{ℕ, ◌-◌, ◌*◌, ◌/◌, ◌%◌, ◌^◌, ℤ, pos, negsuc, ◌+ℤ◌, ◌-ℤ◌, ◌*ℤ◌, int_lt, int_div, int_rem, Bool, true, false, nat_lt, ◌==◌, ◌||◌, if◌then◌else◌, bit_and, bit_or, bit_xor}
+use Rattle.std.specs.Prelude.{◌≡◌, ◌⊎◌, ℕ, ◌-◌, ◌*◌, ◌/◌, ◌%◌, ◌^◌, ℤ, pos, negsuc, ◌+ℤ◌, ◌-ℤ◌, ◌*ℤ◌, int_lt, int_div, int_rem, Bool, true, false, nat_lt, ◌==◌, ◌||◌, if◌then◌else◌, bit_and, bit_or, bit_xor}
 use Rattle.word_base.specs.declared.outcome.UndefinedKind.{UndefinedKind}
 use Rattle.word_base.specs.declared.outcome.UndefinedKind.TheVariants.{Overflow, DivideByZero, ShiftCount}
 
@@ -117,3 +117,7 @@ int_less a b = int_lt (signed_of a) (signed_of b)
 
 abbrev pub unsigned_less : ℕ → ℕ → Bool
 unsigned_less a b = nat_lt a b
+
+-- two numbers of 32 bits without a quotient of 32 bits: by 0, and of the least number by -1
+abbrev pub HasNoQuotient : ℤ → ℤ → Type 0
+HasNoQuotient a b = (b ≡ pos 0) ⊎ ((a ≡ negsuc 2147483647) × (b ≡ negsuc 0))

@@ -3,6 +3,7 @@
 #![tactic(auto)]
 
 mod file_shelf;
+mod gate;
 mod items;
 mod mem_shelf;
 mod mem_sink;
@@ -14,8 +15,10 @@ mod shelf;
 mod sink;
 mod stream;
 mod text;
+mod word;
 
 pub use file_shelf::FileShelf;
+pub use gate::{Gate, OpenGate};
 pub use items::Items;
 pub use mem_shelf::{MemFile, MemShelf};
 pub use mem_sink::MemSink;
@@ -26,3 +29,4 @@ pub use port::{Outs, PortWord, Ports};
 pub use shelf::{Shelf, ShelfFault};
 pub use sink::{Sink, SinkFault};
 pub use text::{NoMemory, Text};
+pub use word::{div_trunc, rem_trunc, signed, wrap16, zero_ext};

@@ -1,0 +1,37 @@
+//! A gate at the pieces of a parallel search.
+
+/// Sees where a piece begins and ends, by its number. A gate has no meaning: it lets a test see that two pieces are under
+/// way.
+pub trait Gate {
+    fn enter(&self, piece: u32);
+
+    fn leave(&self, piece: u32);
+}
+
+/// A gate that does nothing.
+#[derive(Clone, Copy, Debug, Default, PartialEq, Eq)]
+pub struct OpenGate;
+
+impl Gate for OpenGate {
+    fn enter(&self, _piece: u32) {}
+
+    fn leave(&self, _piece: u32) {}
+}
+
+#[cfg(test)]
+mod tests {
+    use super::*;
+    use crate::NoMemory;
+
+    fn is_shared<T: Send + Sync>(_: &T) -> bool {
+        true
+    }
+
+    // What the pieces of a search share, and what they give back when memory is wanting.
+    #[test]
+    fn shared_types(rt: HostRuntime) {
+        assert!(rt; is_shared(&OpenGate) && is_shared(&NoMemory));
+        OpenGate.enter(0);
+        OpenGate.leave(0);
+    }
+}
