@@ -1,1 +1,3 @@
 pub mod WordLines
+pub mod Rows
+pub mod Ranges

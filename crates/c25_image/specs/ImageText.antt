@@ -20,9 +20,13 @@ word_lines (suc n) ws = word_line (take 8 ws) ∷ word_lines n (drop 8 ws)
 abbrev pub line_count : ℕ → ℕ
 line_count words = (words + 7) / 8
 
+-- two words, each behind one space
+abbrev pub range_words : ℕ → ℕ → List ℕ
+range_words first last = 32 ∷ hex4 first ++ 32 ∷ hex4 last
+
 -- the line of a function: its name, its first and its last word
 abbrev pub range_line : FunctionRange → List ℕ
-range_line f = codes "func " ++ (f.name ++ (32 ∷ hex4 f.first ++ 32 ∷ hex4 f.last))
+range_line f = codes "func " ++ (f.name ++ range_words f.first f.last)
 
 -- the line that says how many words there are
 abbrev pub size_line : ℕ → List ℕ

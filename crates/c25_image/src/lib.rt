@@ -2,6 +2,8 @@
 #![tactic(auto)]
 
 mod hex;
+mod image_lines;
+mod lines;
 mod writing;
 
 pub use writing::{write_image, write_outs};
