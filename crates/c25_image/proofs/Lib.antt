@@ -1,3 +1,4 @@
 pub mod WordLines
 pub mod Rows
 pub mod Ranges
+pub mod ImageLoops

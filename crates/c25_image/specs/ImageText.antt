@@ -32,11 +32,19 @@ range_line f = codes "func " ++ (f.name ++ range_words f.first f.last)
 abbrev pub size_line : ℕ → List ℕ
 size_line words = codes "words " ++ decimal words
 
--- the two head lines, the words, the functions, and the last line
+abbrev pub first_line : List ℕ
+first_line = codes "C25 IMAGE 1"
+
+abbrev pub last_line : List ℕ
+last_line = codes "end"
+
+-- the two head lines, the words and the functions
+abbrev pub open_lines : Contents → List (List ℕ)
+open_lines c = first_line ∷ size_line (length c.words) ∷ (word_lines (line_count (length c.words)) c.words ++ map range_line c.functions)
+
+-- all lines
 abbrev pub image_lines : Contents → List (List ℕ)
-image_lines c =
-    codes "C25 IMAGE 1" ∷ size_line (length c.words)
-    ∷ (word_lines (line_count (length c.words)) c.words ++ (map range_line c.functions ++ codes "end" ∷ []))
+image_lines c = open_lines c ++ last_line ∷ []
 
 -- the one spelling of an image
 abbrev pub image_text : Contents → List ℕ

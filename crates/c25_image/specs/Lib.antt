@@ -3,3 +3,5 @@ pub mod Lines
 pub mod ImageText
 pub mod OutsText
 pub mod ImageReading
+pub mod ImageFaults
+pub mod ImageStops
