@@ -182,7 +182,7 @@ spaced_length : (words : List ℕ) → length (flat_map (λ v. 32 ∷ hex4 v) wo
 spaced_length [] = refl
 spaced_length (w ∷ ws) = omega (arith, spaced_length ws)
 
-line_length : (words : List ℕ) → 0 < length words → length (word_line words) + 1 ≡ 5 * length words
+pub line_length : (words : List ℕ) → 0 < length words → length (word_line words) + 1 ≡ 5 * length words
 line_length [] some = absurd (omega arith)
 line_length (w ∷ ws) some = omega (arith, spaced_length ws)
 

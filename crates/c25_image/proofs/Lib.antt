@@ -2,3 +2,9 @@ pub mod WordLines
 pub mod Rows
 pub mod Ranges
 pub mod ImageLoops
+pub mod ImageLines
+pub mod ImageNext
+pub mod ImageRefused
+pub mod ImageStopped
+pub mod ImageEnds
+pub mod ImageAnswers

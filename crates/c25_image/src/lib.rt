@@ -9,4 +9,5 @@ mod reading;
 mod writing;
 
 pub use fault::ImageFault;
+pub use reading::read_image;
 pub use writing::{write_image, write_outs};

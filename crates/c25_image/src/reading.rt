@@ -1,12 +1,16 @@
 //! Reading the text of an image, line by line.
-ghost use Rattle.std.specs.Prelude.{◌≡◌, ◌≤◌, ◌<◌, ◌+◌, [], length, min, MatchOption, MatchResult, IfOk};
+ghost use Rattle.std.specs.Prelude.{◌≡◌, ◌≤◌, ◌<◌, ◌+◌, [], length, min, MatchOption, MatchResult, IfOk, IfErr};
+ghost use Rattle.c25_isa.specs.Image.{Contents};
+ghost use Rattle.c25_image.specs.ImageText.{image_text};
+ghost use Rattle.c25_image.specs.ImageFaults.{IsWhole, Says};
+ghost use Rattle.c25_image.specs.declared.fault.ImageFault.TheVariants as image_faults;
 ghost use Rattle.c25_image.specs.ImageReading.{IsRowOf, IsStuck, NextRow, ReadsHead, ReadsRows, ReadsRanges};
 ghost use Rattle.c25_image.specs.ImageStops.{StopsInHead, StopsInRows, StopsInRanges};
 
 use crate::fault::ImageFault;
 use crate::image_lines::{read_range, read_row, read_size};
 use crate::lines::front_line;
-use c25_isa::FunctionRange;
+use c25_isa::{FunctionRange, Image};
 use std::alloc::Global;
 use word_base::NoMemory;
 
@@ -101,4 +105,30 @@ fn read_ranges(alloc: Global, bytes: &[u8], count: usize, first_line: u64) -> Re
         line += 1;
     }
     Err(ImageFault::BadLine { line })
+}
+
+/// The image whose text the bytes are. An image has one text, so each line has one form.
+///
+/// `TooLong` comes where the first line is right and the second is well formed and states more
+/// than 65,536 words, and `BadRange` where the first faulty line is well formed and is that of a
+/// function whose range breaks the rule of an image. Every other text that is no image's is a
+/// `BadLine`: no image's text begins with its lines up to that one, or there is no such line.
+pub fn read_image(alloc: Global, bytes: &[u8]) -> Result<Image, ImageFault>
+    // What is read has this text.
+    ensures text { IfOk result (λ image. bytes.now ≡ image_text image) }
+    // The text of an image is read as that image, unless memory is wanting.
+    ensures written { (c : Contents) → IsWhole c → bytes.now ≡ image_text c → MatchResult result (λ image. image ≡ c) (λ fault. fault ≡ image_faults.NoMemory) }
+    // Which fault it is, and where.
+    ensures fault { IfErr result (Says bytes.now) }
+{
+    let (count, rest) = read_head(bytes)?;
+    let mut words = Vec::new(alloc);
+    let rest = read_rows(&mut words, rest, count)?;
+    let first_range = FIRST_ROW + count.div_ceil(WORDS_TO_A_LINE) as u64;
+    let (functions, rest) = read_ranges(alloc, rest, count, first_range)?;
+    if !rest.is_empty() {
+        let line = first_range + functions.len() as u64 + 1;
+        return Err(ImageFault::BadLine { line });
+    }
+    Ok(Image::new(words, functions))
 }
