@@ -8,3 +8,4 @@ pub mod ImageRefused
 pub mod ImageStopped
 pub mod ImageEnds
 pub mod ImageAnswers
+pub mod PortLines

@@ -5,3 +5,5 @@ pub mod OutsText
 pub mod ImageReading
 pub mod ImageFaults
 pub mod ImageStops
+pub mod PortText
+pub mod PortReading

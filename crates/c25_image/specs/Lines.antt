@@ -10,6 +10,10 @@ with_feed line = line ++ 10 ∷ []
 abbrev pub lines_text : List (List ℕ) → List ℕ
 lines_text lines = flat_map with_feed lines
 
+-- no byte is of this kind
+abbrev pub Lacks : ℕ → List ℕ → Type 0
+Lacks mark bytes = AllByRecursion (λ b. b ≢ mark) bytes
+
 -- what a line can be
 abbrev pub HasNoFeed : List ℕ → Type 0
-HasNoFeed line = AllByRecursion (λ b. b ≢ 10) line
+HasNoFeed line = Lacks 10 line

@@ -1,6 +1,7 @@
 //! Why texts are refused.
 ghost use Rattle.std.specs.Prelude.{◌≡◌};
 ghost use Rattle.c25_image.specs.declared.fault.ImageFault.TheVariants as image_faults;
+ghost use Rattle.c25_image.specs.declared.fault.PortFault.TheVariants as port_faults;
 
 use std::alloc::{AllocError, AllocFailed};
 use thiserror::Error;
@@ -43,5 +44,23 @@ impl<T: Drop> From<AllocFailed<T>> for ImageFault {
 
     fn from(_: AllocFailed<T>) -> Self {
         ImageFault::NoMemory
+    }
+}
+
+/// Why bytes are no port file.
+#[derive(Clone, Copy, Debug, PartialEq, Eq, Error)]
+pub enum PortFault {
+    /// The first faulty line, counted from 1. Blank lines count.
+    #[error("a line of the port file is not in its format")]
+    BadLine { line: u64 },
+    #[error("memory was wanting for the port file")]
+    NoMemory,
+}
+
+impl<T: Drop> From<AllocFailed<T>> for PortFault {
+    ghost from_gives = { λ _ e. e ≡ port_faults.NoMemory };
+
+    fn from(_: AllocFailed<T>) -> Self {
+        PortFault::NoMemory
     }
 }

@@ -1,36 +1,19 @@
 //! The lines of an image's text, read one by one.
-ghost use Rattle.std.specs.Prelude.{◌≡◌, ◌≢◌, ◌<◌, ◌^◌, ◌∷◌, ◌++◌, ℕ, List, MatchOption, IfOk, length, codes, decimal};
+ghost use Rattle.std.specs.Prelude.{◌≡◌, ◌≢◌, ◌<◌, ◌^◌, ◌∷◌, ◌++◌, ℕ, List, MatchOption, IfOk, length, codes};
 ghost use Rattle.c25_isa.specs.declared.image.FunctionRange.{FunctionRange};
 ghost use Rattle.word_base.specs.Name.{IsName};
 ghost use Rattle.c25_image.specs.ImageText.{range_words, range_line, size_line};
 ghost use Rattle.c25_image.specs.ImageReading.{IsRow, ReadsRow, IsNamed};
 
+use crate::decimal::read_decimal;
 use crate::hex::{front_spaced, front_word};
 use c25_isa::FunctionRange;
-use itoa::{Buffer, Integer};
 use std::alloc::Global;
 use std::str;
 use word_base::{is_name, NoMemory, Text};
 
 /// The bytes of a function's first and last word, each behind one space.
 const RANGE_BYTES: usize = 10;
-
-// The number that the digits spell, without a leading zero.
-fn read_decimal(digits: &[u8]) -> Option<u64>
-    ensures { MatchOption result ((n : ℕ) → n < 2 ^ 64 → digits.now ≢ decimal n) (λ n. digits.now ≡ decimal n) }
-{
-    let Ok(text) = str::from_utf8(digits) else {
-        return None;
-    };
-    let Ok(number) = text.parse::<u64>() else {
-        return None;
-    };
-    if Buffer::new().format(number) == text {
-        Some(number)
-    } else {
-        None
-    }
-}
 
 // How many words the line states.
 pub(crate) fn read_size(line: &[u8]) -> Option<u64>

@@ -1,13 +1,16 @@
 //! The texts of images, of port files and of outputs.
 #![tactic(auto)]
 
+mod decimal;
 mod fault;
 mod hex;
 mod image_lines;
 mod lines;
+mod ports;
 mod reading;
 mod writing;
 
-pub use fault::ImageFault;
+pub use fault::{ImageFault, PortFault};
+pub use ports::read_ports;
 pub use reading::read_image;
 pub use writing::{write_image, write_outs};

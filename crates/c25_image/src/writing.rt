@@ -1,25 +1,16 @@
 //! Writing the texts of images and of outputs.
-ghost use Rattle.std.specs.Prelude.{◌≡◌, ◌<◌, ◌++◌, ◌∷◌, [], length, map, decimal, IfOk, OnOk};
+ghost use Rattle.std.specs.Prelude.{◌≡◌, ◌<◌, ◌++◌, ◌∷◌, [], length, map, IfOk, OnOk};
 ghost use Rattle.c25_image.specs.Lines.{with_feed, lines_text};
 ghost use Rattle.c25_image.specs.ImageText.{word_line, word_lines, line_count, range_line, size_line, image_text};
 ghost use Rattle.c25_image.specs.OutsText.{out_line, outs_text};
 
+use crate::decimal::push_decimal;
 use crate::hex::push_hex;
 use c25_isa::{FunctionRange, Image};
-use itoa::{Buffer, Integer};
 use std::alloc::Global;
 use word_base::{NoMemory, PortWord};
 
 const WORDS_TO_A_LINE: usize = 8;
-
-// A number in decimal, behind the text.
-fn push_decimal(text: &mut Vec<u8>, number: usize) -> Result<(), NoMemory>
-    ensures { OnOk result (text.new.items ≡ text.old.items ++ decimal number) }
-{
-    let mut buffer = Buffer::new();
-    text.extend_from_slice(buffer.format(number).as_bytes())?;
-    Ok(())
-}
 
 // The line that says how many words there are.
 fn push_size(text: &mut Vec<u8>, count: usize) -> Result<(), NoMemory>

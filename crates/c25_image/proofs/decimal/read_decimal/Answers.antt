@@ -4,7 +4,7 @@ use Rattle.std.proofs.lemmas.Bool.{false≢true}
 use Rattle.std.proofs.lemmas.Fmt.{parse-decimal, IsAscii-decimal}
 use Rattle.std.proofs.lemmas.Str.{IsUtf8-from_ascii}
 use Rattle.std.proofs.lemmas.Slice.Eq.{bytes_eq-Decides}
-use Rattle.c25_image.proofs.image_lines.read_decimal.Goals as goal
+use Rattle.c25_image.proofs.decimal.read_decimal.Goals as goal
 
 pub returns-in_default : goal.returns-in_default
 returns-in_default c = λ n lt e. c.in_default.ensures.cases.0 (IsUtf8-from_ascii c.args.digits.now (subst IsAscii (sym e) (IsAscii-decimal n lt)))
