@@ -1,6 +1,5 @@
 -- What each part's fault says of the whole text.
-use Rattle.std.proofs.Common.{◌≡◌, ◌≢◌, ℕ, ◌+◌, ◌<◌, List, [], ◌++◌, length, refl, sym, ap, subst, append-nil, ◌∙◌, inl, inr, arith}
-use Rattle.std.specs.Prelude.{◌⊎◌}
+use Rattle.std.proofs.Common.{◌≡◌, ◌≢◌, ℕ, ◌+◌, List, [], ◌++◌, length, refl, sym, ap, subst, append-nil, ◌∙◌, inl, inr, arith}
 use Rattle.c25_isa.specs.declared.image.FunctionRange.{FunctionRange}
 use Rattle.c25_isa.specs.Image.{Contents}
 use Rattle.c25_image.specs.Lines.{lines_text}
@@ -12,7 +11,7 @@ use Rattle.c25_image.specs.declared.fault.ImageFault.{ImageFault}
 use Rattle.c25_image.specs.declared.fault.ImageFault.TheVariants as faults
 use Rattle.c25_image.proofs.ImageRefused.{long_no_text, range_no_text}
 use Rattle.c25_image.proofs.ImageStopped.{faulty_first, no_text_first, faulty_second, no_text_second, faulty_row, no_text_row, faulty_range, no_text_range, bad_range, read_of}
-use Rattle.c25_image.proofs.ImageEnds.{Ends, read_all, ends_faulty, ends_no_text, image_length, text_injective}
+use Rattle.c25_image.proofs.ImageEnds.{read_all, ends_faulty, ends_no_text, image_length, text_injective}
 
 -- no image's text, unless memory was wanting
 abbrev pub Refused : List ℕ → ImageFault → Type 0

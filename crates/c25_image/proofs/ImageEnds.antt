@@ -1,15 +1,15 @@
 -- The end of an image's text, and that it tells the image.
-use Rattle.std.proofs.Common.{◌≡◌, ◌≢◌, ℕ, zero, suc, ◌+◌, ◌-◌, ◌*◌, ◌/◌, ◌<◌, ◌≤◌, ◌^◌, min, List, [], ◌∷◌, ◌++◌, length, take, drop, map, refl, sym, ap, subst, ◌∙◌, inl, inr, arith, append_assoc, append-nil, length-append, take-append-drop}
+use Rattle.std.proofs.Common.{◌≡◌, ◌≢◌, ℕ, zero, suc, ◌+◌, ◌-◌, ◌≤◌, List, [], ◌∷◌, ◌++◌, length, take, drop, map, refl, sym, ap, subst, ◌∙◌, inl, inr, arith, append_assoc, append-nil, length-append, take-append-drop}
 use Rattle.std.specs.Prelude.{◌⊎◌}
 use Rattle.std.specs.List.{flat_map}
-use Rattle.std.proofs.lemmas.List.{length-drop, length-take, nil_from_length}
+use Rattle.std.proofs.lemmas.List.{length-drop, nil_from_length}
 use Rattle.c25_isa.specs.declared.image.FunctionRange.{FunctionRange}
-use Rattle.c25_isa.specs.Image.{Contents, IsImage, AreRanges, IsRange}
+use Rattle.c25_isa.specs.Image.{Contents, AreRanges}
 use Rattle.c25_image.specs.Hex.{hex4}
-use Rattle.c25_image.specs.Lines.{with_feed, lines_text, HasNoFeed}
-use Rattle.c25_image.specs.ImageText.{first_line, last_line, size_line, word_line, word_lines, line_count, range_line, open_lines, image_lines, image_text}
+use Rattle.c25_image.specs.Lines.{with_feed, lines_text}
+use Rattle.c25_image.specs.ImageText.{last_line, word_line, word_lines, line_count, range_line, open_lines, image_lines, image_text}
 use Rattle.c25_image.specs.ImageReading.{AreWords, ReadsHead, ReadsRows, ReadsRanges}
-use Rattle.c25_image.specs.ImageFaults.{IsWhole, IsNoText, Begins, StatesTooMany, HasBadRange, IsFirstFaulty, behind}
+use Rattle.c25_image.specs.ImageFaults.{IsWhole, IsNoText, Begins, HasBadRange, IsFirstFaulty, behind}
 use Rattle.c25_image.proofs.ImageLoops.{same_line, lines_text-append}
 use Rattle.c25_image.proofs.ImageLines.{NoFeeds, NoFeeds-front, NoFeeds-back, open_no_feeds, image_no_feeds, range_no_feed, GoesOn, lines_cut, nothing_left, hex4_injective, range_injective, size_injective, last_no_range}
 use Rattle.c25_image.proofs.ImageNext.{open_next, image_ends, range_fits}
@@ -27,8 +27,8 @@ pub read_all : (bytes one two : List ℕ) (count : ℕ) (words : List ℕ) (func
 read_all bytes one two count words functions rest h r s = record {
   whole = read_whole count words functions h.short r.counted r.fit s.ranges;
   text =
-  read_text bytes one two count words functions (lines_text (last_line ∷ []) ++ rest) h r (s.text ∙ lines_text-append (map range_line functions) (last_line ∷ []) rest)
-  ∙ sym (lines_text-append (open_lines (read_of words functions)) (last_line ∷ []) rest);
+      read_text bytes one two count words functions (lines_text (last_line ∷ []) ++ rest) h r (s.text ∙ lines_text-append (map range_line functions) (last_line ∷ []) rest)
+      ∙ sym (lines_text-append (open_lines (read_of words functions)) (last_line ∷ []) rest);
 }
 
 ends_before : (bytes : List ℕ) (c : Contents) (rest : List ℕ) → Ends bytes c rest → Begins (length (image_lines c)) bytes
@@ -156,11 +156,11 @@ lines_injective c d v w e =
     let same : length d.words ≡ n = size_injective (length d.words) n (omega (arith, w.image.short)) (omega (arith, v.image.short)) cc in
     let rows : (word_lines (line_count n) c.words ++ map range_line c.functions) ++ last_line ∷ [] ≡ (word_lines (line_count (length d.words)) d.words ++ map range_line d.functions) ++ last_line ∷ [] = cc e in
     let one : word_lines (line_count n) c.words ++ (map range_line c.functions ++ last_line ∷ []) ≡ word_lines (line_count n) d.words ++ (map range_line d.functions ++ last_line ∷ []) =
-      sym (append_assoc (word_lines (line_count n) c.words) (map range_line c.functions) (last_line ∷ []))
-      ∙ rows
-      ∙ append_assoc (word_lines (line_count (length d.words)) d.words) (map range_line d.functions) (last_line ∷ [])
-      ∙ ap (λ k. word_lines (line_count k) d.words ++ (map range_line d.functions ++ last_line ∷ [])) same
-      in
+    sym (append_assoc (word_lines (line_count n) c.words) (map range_line c.functions) (last_line ∷ []))
+    ∙ rows
+    ∙ append_assoc (word_lines (line_count (length d.words)) d.words) (map range_line d.functions) (last_line ∷ [])
+    ∙ ap (λ k. word_lines (line_count k) d.words ++ (map range_line d.functions ++ last_line ∷ [])) same
+    in
     let words = rows_injective (line_count n) c.words d.words _ _ v.words w.words refl (sym same) one in
     let functions = ranges_injective 0 n c.functions d.functions v.image.short v.image.ranges (subst (λ k. AreRanges 0 k d.functions) same w.image.ranges) words.1 in
     same_contents c.words d.words c.functions d.functions words.0 functions

@@ -1,18 +1,17 @@
 -- Lines of images: none has a line feed, so a text is cut into them in one way, and they tell what they were written of.
-use Rattle.std.proofs.Common.{◌≡◌, ◌≢◌, ℕ, zero, suc, ◌+◌, ◌-◌, ◌*◌, ◌/◌, ◌%◌, ◌<◌, ◌≤◌, ◌^◌, List, [], ◌∷◌, ◌++◌, length, take, drop, map, All, refl, sym, ap, subst, ◌∙◌, inl, inr, arith, rules, append_assoc, append-nil, length-append, take-append-drop}
+use Rattle.std.proofs.Common.{◌≡◌, ◌≢◌, ℕ, zero, suc, ◌+◌, ◌/◌, ◌%◌, ◌<◌, ◌^◌, List, [], ◌∷◌, ◌++◌, length, take, drop, map, refl, sym, ◌∙◌, inl, inr, arith, rules, append_assoc}
 use Rattle.std.specs.Prelude.{◌⊎◌, codes, decimal}
 use Rattle.std.specs.List.{flat_map, AllByRecursion}
 use Rattle.std.proofs.lemmas.Fmt.{decimal_by_steps, decimal_injective}
 use Rattle.std.proofs.lemmas.List.Elements.{recursion_from_All}
-use Rattle.std.proofs.lemmas.List.{append_cancel_left, length-take, length-drop}
+use Rattle.std.proofs.lemmas.List.{append_cancel_left}
 use Rattle.std.proofs.lemmas.Bool.Decides.{nat_tests}
 use Rattle.c25_isa.specs.declared.image.FunctionRange.{FunctionRange}
-use Rattle.c25_isa.specs.Image.{Contents, IsImage, AreRanges, IsRange}
+use Rattle.c25_isa.specs.Image.{Contents, AreRanges}
 use Rattle.word_base.specs.Name.{IsName, IsNamePart}
 use Rattle.c25_image.specs.Hex.{hex_digit, hex4}
 use Rattle.c25_image.specs.Lines.{with_feed, lines_text, HasNoFeed}
-use Rattle.c25_image.specs.ImageText.{first_line, last_line, size_line, word_line, word_lines, line_count, range_words, range_line, open_lines, image_lines, image_text}
-use Rattle.c25_image.specs.ImageReading.{AreWords, IsNamed}
+use Rattle.c25_image.specs.ImageText.{first_line, last_line, size_line, word_line, word_lines, line_count, range_words, range_line, open_lines, image_lines}
 use Rattle.c25_image.specs.ImageFaults.{IsWhole}
 use Rattle.c25_image.proofs.Ranges.{cut_end}
 use Rattle.c25_image.proofs.ImageLoops.{same_line}
@@ -86,8 +85,8 @@ name_no_feed name h = parts_no_feed name (recursion_from_All IsNamePart name h.e
 pub range_no_feed : (f : FunctionRange) → IsName f.name → HasNoFeed (range_line f)
 range_no_feed f name =
     let pair : HasNoFeed (range_words f.first f.last) =
-      (above 32 (omega arith), HasNoFeed-append (hex4 f.first) (32 ∷ hex4 f.last) (hex4_no_feed f.first) (above 32 (omega arith), hex4_no_feed f.last))
-      in
+    (above 32 (omega arith), HasNoFeed-append (hex4 f.first) (32 ∷ hex4 f.last) (hex4_no_feed f.first) (above 32 (omega arith), hex4_no_feed f.last))
+    in
     HasNoFeed-append (codes "func ") (f.name ++ range_words f.first f.last) func_no_feed (HasNoFeed-append f.name (range_words f.first f.last) (name_no_feed f.name name) pair)
 
 -- no line has a line feed

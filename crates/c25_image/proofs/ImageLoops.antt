@@ -1,5 +1,5 @@
 -- What the loops over an image's lines keep.
-use Rattle.std.proofs.Common.{◌≡◌, ◌≢◌, ℕ, zero, suc, ◌+◌, ◌-◌, ◌*◌, ◌/◌, ◌<◌, ◌≤◌, ◌^◌, min, Bool, true, false, List, [], ◌∷◌, ◌++◌, length, take, drop, map, refl, sym, ap, subst, ◌∙◌, inl, inr, ⊎_elim, arith, append_assoc, append-nil, length-append}
+use Rattle.std.proofs.Common.{◌≡◌, ◌≢◌, ℕ, zero, suc, ◌+◌, ◌-◌, ◌*◌, ◌<◌, ◌≤◌, min, Bool, true, false, List, [], ◌∷◌, ◌++◌, length, take, drop, map, refl, sym, ap, subst, ◌∙◌, inl, inr, arith, append_assoc, append-nil, length-append}
 use Rattle.std.proofs.lemmas.List.{take_all, take-append-le, drop-append-le, length-drop, nil_from_length, map-append}
 use Rattle.std.specs.List.{flat_map}
 use Rattle.std.specs.Prelude.{◌⊎◌}
@@ -8,8 +8,8 @@ use Rattle.c25_image.specs.Hex.{hex4}
 use Rattle.c25_isa.specs.declared.image.FunctionRange.{FunctionRange}
 use Rattle.c25_isa.specs.Image.{AreRanges, IsRange}
 use Rattle.c25_image.specs.Lines.{with_feed, lines_text, HasNoFeed}
-use Rattle.c25_image.specs.ImageText.{first_line, last_line, size_line, word_line, word_lines, line_count, range_line}
-use Rattle.c25_image.specs.ImageReading.{AreWords, IsRow, IsNamed, IsStuck, IsRowOf, Joins, ReadsRow, NextRow, StatesSize, ReadsRows, ReadsRanges}
+use Rattle.c25_image.specs.ImageText.{last_line, word_line, word_lines, line_count, range_line}
+use Rattle.c25_image.specs.ImageReading.{AreWords, IsNamed, IsStuck, IsRowOf, ReadsRow, NextRow, ReadsRows, ReadsRanges}
 use Rattle.c25_image.specs.ImageFaults.{behind}
 use Rattle.c25_image.specs.ImageStops.{StopsAtRow, StopsAtRange, StopsAtBadRange, IsRangeOrLast}
 
@@ -89,10 +89,10 @@ rows_more bytes rest after count line in_line old new s lt is n =
       needed = omega arith;
       fit = subst AreWords (sym n.joined) (AreWords-append old n.words s.fit n.row.fit);
       text =
-      s.text ∙ ap (λ t. lines_text (word_lines s.lines old) ++ t) (n.text ∙ sym (lines_text-one (word_line n.words) after))
-      ∙ sym (lines_text-append (word_lines s.lines old) (word_line n.words ∷ []) after)
-      ∙ ap (λ l. lines_text l ++ after) (sym (word_lines-append s.lines old n.words full (omega (arith, n.counted))))
-      ∙ ap (λ w. lines_text (word_lines (suc s.lines) w) ++ after) (sym n.joined);
+          s.text ∙ ap (λ t. lines_text (word_lines s.lines old) ++ t) (n.text ∙ sym (lines_text-one (word_line n.words) after))
+          ∙ sym (lines_text-append (word_lines s.lines old) (word_line n.words ∷ []) after)
+          ∙ ap (λ l. lines_text l ++ after) (sym (word_lines-append s.lines old n.words full (omega (arith, n.counted))))
+          ∙ ap (λ w. lines_text (word_lines (suc s.lines) w) ++ after) (sym n.joined);
     }
 
 pub rows_stop : (bytes rest : List ℕ) (count line in_line : ℕ) (words : List ℕ) → RowsSoFar bytes rest count line words → length words < count → in_line ≡ min 8 (count - length words) → IsStuck (IsRowOf in_line) rest → StopsAtRow bytes count line
@@ -147,10 +147,10 @@ ranges_more bytes rest after text count first line from low high functions more 
   few = omega (arith, s.few, ap length pushed, length-append functions (f ∷ []));
   within = omega arith;
   text =
-  s.text ∙ ap (λ t. lines_text (map range_line functions) ++ t) (is ∙ ap (λ t. with_feed t ++ after) text-is ∙ sym (lines_text-one (range_line f) after))
-  ∙ sym (lines_text-append (map range_line functions) (range_line f ∷ []) after)
-  ∙ ap (λ l. lines_text l ++ after) (sym (map-append range_line functions (f ∷ [])))
-  ∙ ap (λ l. lines_text (map range_line l) ++ after) (sym pushed);
+      s.text ∙ ap (λ t. lines_text (map range_line functions) ++ t) (is ∙ ap (λ t. with_feed t ++ after) text-is ∙ sym (lines_text-one (range_line f) after))
+      ∙ sym (lines_text-append (map range_line functions) (range_line f ∷ []) after)
+      ∙ ap (λ l. lines_text l ++ after) (sym (map-append range_line functions (f ∷ [])))
+      ∙ ap (λ l. lines_text (map range_line l) ++ after) (sym pushed);
 }
 
 pub ranges_stop : (bytes rest : List ℕ) (count first line from : ℕ) (functions : List FunctionRange) → RangesSoFar bytes rest count first line from functions → IsStuck IsRangeOrLast rest → StopsAtRange bytes count first line
@@ -172,8 +172,8 @@ pub ranges_end : (bytes rest after text : List ℕ) (count first line from : ℕ
 ranges_end bytes rest after text count first line from functions s is last = record {
   ranges = s.ranges;
   text =
-  s.text ∙ ap (λ t. lines_text (map range_line functions) ++ t) (is ∙ ap (λ t. with_feed t ++ after) last ∙ sym (lines_text-one last_line after))
-  ∙ sym (lines_text-append (map range_line functions) (last_line ∷ []) after);
+      s.text ∙ ap (λ t. lines_text (map range_line functions) ++ t) (is ∙ ap (λ t. with_feed t ++ after) last ∙ sym (lines_text-one last_line after))
+      ∙ sym (lines_text-append (map range_line functions) (last_line ∷ []) after);
 }
 
 -- ---- one line of words

@@ -1,15 +1,14 @@
 -- Which line may follow some lines of an image.
-use Rattle.std.proofs.Common.{◌≡◌, ◌≢◌, ℕ, zero, suc, ◌+◌, ◌-◌, ◌*◌, ◌/◌, ◌<◌, ◌≤◌, ◌^◌, min, List, [], ◌∷◌, ◌++◌, length, take, drop, map, refl, sym, ap, subst, ◌∙◌, inl, inr, arith, append_assoc}
+use Rattle.std.proofs.Common.{◌≡◌, ℕ, zero, suc, ◌+◌, ◌-◌, ◌*◌, ◌<◌, ◌≤◌, min, List, [], ◌∷◌, ◌++◌, length, take, drop, map, refl, sym, ap, subst, ◌∙◌, inl, inr, arith, append_assoc}
 use Rattle.std.specs.Prelude.{◌⊎◌}
 use Rattle.std.proofs.lemmas.List.{length-take, length-drop}
 use Rattle.c25_isa.specs.declared.image.FunctionRange.{FunctionRange}
-use Rattle.c25_isa.specs.Image.{Contents, IsImage, AreRanges, IsRange}
+use Rattle.c25_isa.specs.Image.{Contents, AreRanges, IsRange}
 use Rattle.c25_image.specs.ImageText.{first_line, last_line, size_line, word_line, word_lines, line_count, range_line, open_lines, image_lines}
-use Rattle.c25_image.specs.ImageReading.{AreWords, IsRow, IsNamed, IsRowOf, StatesSize}
+use Rattle.c25_image.specs.ImageReading.{AreWords, IsNamed, IsRowOf, StatesSize}
 use Rattle.c25_image.specs.ImageFaults.{IsWhole, behind}
 use Rattle.c25_image.specs.ImageStops.{IsRangeOrLast}
-use Rattle.c25_image.proofs.ImageLines.{SameRange, range_injective, size_injective, last_no_range}
-use Rattle.c25_image.proofs.ImageLoops.{AreWords-append}
+use Rattle.c25_image.proofs.ImageLines.{range_injective, size_injective, last_no_range}
 
 -- a first line, which is allowed
 pub record Next (Allowed : List ℕ → Type 0) (lines : List (List ℕ)) : Type 0 where
@@ -72,10 +71,10 @@ pub leads_rows : (count lines : ℕ) (words : List ℕ) → count ≤ 65536 → 
 leads_rows count lines words short more c tail w e =
     let same : length c.words ≡ count = size_injective (length c.words) count (omega (arith, w.image.short)) (omega arith) cc in
     let rows : word_lines (line_count (length c.words)) c.words ++ (map range_line c.functions ++ last_line ∷ []) ≡ word_lines lines words ++ tail =
-      sym (append_assoc (word_lines (line_count (length c.words)) c.words) (map range_line c.functions) (last_line ∷ [])) ∙ cc e
-      in
+    sym (append_assoc (word_lines (line_count (length c.words)) c.words) (map range_line c.functions) (last_line ∷ [])) ∙ cc e
+    in
     subst (λ n. Next (IsRowOf (min 8 (n - 8 * lines))) tail) same
-      (rows_next lines (line_count (length c.words)) c.words words (map range_line c.functions ++ last_line ∷ []) tail w.words refl (omega arith) rows)
+    (rows_next lines (line_count (length c.words)) c.words words (map range_line c.functions ++ last_line ∷ []) tail w.words refl (omega arith) rows)
 
 -- ---- the functions
 
@@ -108,11 +107,11 @@ open_next c d tail v w e =
     let same : length d.words ≡ n = size_injective (length d.words) n (omega (arith, w.image.short)) (omega (arith, v.image.short)) cc in
     let rows : (word_lines (line_count (length d.words)) d.words ++ map range_line d.functions) ++ last_line ∷ [] ≡ (word_lines (line_count n) c.words ++ map range_line c.functions) ++ tail = cc e in
     let one : word_lines (line_count n) d.words ++ (map range_line d.functions ++ last_line ∷ []) ≡ word_lines (line_count n) c.words ++ (map range_line c.functions ++ tail) =
-      ap (λ k. word_lines (line_count k) d.words ++ (map range_line d.functions ++ last_line ∷ [])) (sym same)
-      ∙ sym (append_assoc (word_lines (line_count (length d.words)) d.words) (map range_line d.functions) (last_line ∷ []))
-      ∙ rows
-      ∙ append_assoc (word_lines (line_count n) c.words) (map range_line c.functions) tail
-      in
+    ap (λ k. word_lines (line_count k) d.words ++ (map range_line d.functions ++ last_line ∷ [])) (sym same)
+    ∙ sym (append_assoc (word_lines (line_count (length d.words)) d.words) (map range_line d.functions) (last_line ∷ []))
+    ∙ rows
+    ∙ append_assoc (word_lines (line_count n) c.words) (map range_line c.functions) tail
+    in
     ranges_next 0 n d.functions c.functions tail v.image.short (subst (λ k. AreRanges 0 k d.functions) same w.image.ranges) v.image.ranges (rows_cancel (line_count n) d.words c.words _ _ one)
 
 allowed_next : (from count : ℕ) (tail : List (List ℕ)) → count ≤ 65536 → NextRange from count tail → Next IsRangeOrLast tail

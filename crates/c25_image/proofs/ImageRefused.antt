@@ -1,17 +1,15 @@
 -- A text in which reading stops is no image's, and the line is the first faulty one.
-use Rattle.std.proofs.Common.{◌≡◌, ◌≢◌, ℕ, zero, suc, ◌+◌, ◌-◌, ◌*◌, ◌/◌, ◌<◌, ◌≤◌, ◌^◌, min, List, [], ◌∷◌, ◌++◌, length, take, drop, map, replicate, refl, sym, ap, subst, ◌∙◌, inl, inr, arith, append_assoc, append-nil, length-append}
+use Rattle.std.proofs.Common.{◌≡◌, ℕ, ◌+◌, ◌-◌, ◌<◌, ◌≤◌, List, [], ◌∷◌, ◌++◌, length, refl, sym, ap, subst, ◌∙◌, inl, inr, arith, append_assoc, append-nil, length-append}
 use Rattle.std.specs.Prelude.{◌⊎◌}
-use Rattle.std.proofs.lemmas.List.{length-map, length-replicate, length-drop, nil_from_length, take-append-le, drop-append-le}
 use Rattle.c25_isa.specs.declared.image.FunctionRange.{FunctionRange}
-use Rattle.c25_isa.specs.Image.{Contents, IsImage, AreRanges, IsRange}
-use Rattle.c25_image.specs.Lines.{with_feed, lines_text, HasNoFeed}
-use Rattle.c25_image.specs.ImageText.{first_line, last_line, size_line, word_line, word_lines, line_count, range_line, open_lines, image_lines, image_text}
-use Rattle.c25_image.specs.ImageReading.{AreWords, IsRow, IsNamed, IsStuck, IsRowOf, StatesSize}
+use Rattle.c25_isa.specs.Image.{Contents, IsRange}
+use Rattle.c25_image.specs.Lines.{with_feed, lines_text}
+use Rattle.c25_image.specs.ImageText.{first_line, last_line, size_line, range_line, open_lines, image_lines, image_text}
+use Rattle.c25_image.specs.ImageReading.{IsNamed, IsStuck}
 use Rattle.c25_image.specs.ImageFaults.{IsWhole, IsNoText, Begins, StatesTooMany, HasBadRange, IsFirstFaulty, behind}
-use Rattle.c25_image.specs.ImageStops.{IsRangeOrLast}
-use Rattle.c25_image.proofs.ImageLoops.{same_line, AreWords-append, lines_text-append, lines_text-one, two_lines}
+use Rattle.c25_image.proofs.ImageLoops.{same_line, lines_text-append, lines_text-one, two_lines}
 use Rattle.c25_image.proofs.ImageLines.{NoFeeds, NoFeeds-front, NoFeeds-back, size_no_feed, first_no_feed, range_no_feed, open_no_feeds, image_no_feeds, GoesOn, lines_cut, nothing_left, range_injective, size_injective, last_no_range}
-use Rattle.c25_image.proofs.ImageNext.{Next, Leads, NextRange, open_next, image_ends, range_fits}
+use Rattle.c25_image.proofs.ImageNext.{Next, Leads, NextRange, open_next, range_fits}
 
 -- reading stops behind some lines with which an image begins: none that may follow stands there
 pub record Stops (bytes : List ℕ) (lines : List (List ℕ)) (Allowed : List ℕ → Type 0) : Type 0 where
@@ -48,7 +46,7 @@ stops_here bytes lines Allowed s b =
     pick feeds (inl g) =
         let one : 0 < length g.more = omega (arith, ap length g.lines, length-append lines g.more, b.count) in
         no_next Allowed s.rest b.rest g.more b.back s.stuck one (NoFeeds-back lines g.more (subst NoFeeds g.lines feeds)) g.text
-          (s.leads b.contents (g.more ++ b.back) b.whole (b.lines ∙ ap (λ l. l ++ b.back) g.lines ∙ append_assoc lines g.more b.back))
+        (s.leads b.contents (g.more ++ b.back) b.whole (b.lines ∙ ap (λ l. l ++ b.back) g.lines ∙ append_assoc lines g.more b.back))
     pick feeds (inr g) = absurd (omega (arith, ap length g.lines, length-append b.front g.more, b.count))
 
 pub stops_no_text : (bytes : List ℕ) (lines : List (List ℕ)) (Allowed : List ℕ → Type 0) → Stops bytes lines Allowed → IsNoText bytes
@@ -89,7 +87,7 @@ stops_not_range bytes lines Allowed s other h =
     shorter [] is text = here (is ∙ append-nil lines) text
     shorter (d ∷ more) is text =
         no_next Allowed s.rest (with_feed (range_line h.function) ++ h.rest) (d ∷ more) (last_line ∷ []) s.stuck (omega arith) (NoFeeds-back lines (d ∷ more) (subst NoFeeds is (open_no_feeds h.contents h.whole))) text
-          (s.leads h.contents ((d ∷ more) ++ last_line ∷ []) h.whole (ap (λ l. l ++ last_line ∷ []) is ∙ append_assoc lines (d ∷ more) (last_line ∷ [])))
+        (s.leads h.contents ((d ∷ more) ++ last_line ∷ []) h.whole (ap (λ l. l ++ last_line ∷ []) is ∙ append_assoc lines (d ∷ more) (last_line ∷ [])))
 
     longer : (more : List (List ℕ)) → lines ≡ open_lines h.contents ++ more → with_feed (range_line h.function) ++ h.rest ≡ lines_text more ++ s.rest → ⊥
     longer [] is text = here (sym (is ∙ append-nil (open_lines h.contents))) (sym text)
@@ -97,7 +95,7 @@ stops_not_range bytes lines Allowed s other h =
         let feeds = NoFeeds-back (open_lines h.contents) (d ∷ more) (subst NoFeeds is (stops_no_feeds bytes lines Allowed s)) in
         let same = same_line (range_line h.function) d h.rest (lines_text more ++ s.rest) (range_no_feed h.function h.named.name) feeds.0 (text ∙ append_assoc (with_feed d) (lines_text more) s.rest) in
         bad_next (behind 0 h.contents.functions) (length h.contents.words) h.function d (more ++ s.back) h.whole.image.short h.named h.breaks same.0
-          (open_next h.contents s.contents (d ∷ more ++ s.back) h.whole s.whole (s.begun ∙ ap (λ l. l ++ s.back) is ∙ append_assoc (open_lines h.contents) (d ∷ more) s.back))
+        (open_next h.contents s.contents (d ∷ more ++ s.back) h.whole s.whole (s.begun ∙ ap (λ l. l ++ s.back) is ∙ append_assoc (open_lines h.contents) (d ∷ more) s.back))
 
     pick : GoesOn lines (open_lines h.contents) s.rest (with_feed (range_line h.function) ++ h.rest) ⊎ GoesOn (open_lines h.contents) lines (with_feed (range_line h.function) ++ h.rest) s.rest → ⊥
     pick (inl g) = shorter g.more g.lines g.text

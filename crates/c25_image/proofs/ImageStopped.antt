@@ -1,19 +1,16 @@
 -- The parts in which the reading of an image's text stops, and its end.
-use Rattle.std.proofs.Common.{◌≡◌, ◌≢◌, ℕ, zero, suc, ◌+◌, ◌-◌, ◌*◌, ◌/◌, ◌<◌, ◌≤◌, ◌^◌, min, List, [], ◌∷◌, ◌++◌, length, take, drop, map, replicate, refl, sym, ap, subst, ◌∙◌, inl, inr, arith, append_assoc, append-nil, length-append}
-use Rattle.std.specs.Prelude.{◌⊎◌}
-use Rattle.std.proofs.lemmas.List.{length-replicate, length-map, length-drop, nil_from_length, take-append-le, drop-append-le, take-append-drop, length-take}
+use Rattle.std.proofs.Common.{◌≡◌, ℕ, zero, suc, ◌+◌, ◌-◌, ◌*◌, ◌<◌, ◌≤◌, min, List, [], ◌∷◌, ◌++◌, length, take, drop, map, replicate, refl, sym, ap, subst, ◌∙◌, inr, arith, append_assoc, append-nil, length-append}
+use Rattle.std.proofs.lemmas.List.{length-replicate, length-map, length-drop, nil_from_length, take-append-le, drop-append-le}
 use Rattle.c25_isa.specs.declared.image.FunctionRange.{FunctionRange}
-use Rattle.c25_isa.specs.Image.{Contents, IsImage, AreRanges, IsRange}
-use Rattle.c25_image.specs.Hex.{hex4}
-use Rattle.std.specs.List.{flat_map}
-use Rattle.c25_image.specs.Lines.{with_feed, lines_text, HasNoFeed}
-use Rattle.c25_image.specs.ImageText.{first_line, last_line, size_line, word_line, word_lines, line_count, range_line, open_lines, image_lines, image_text}
-use Rattle.c25_image.specs.ImageReading.{AreWords, IsRow, IsNamed, IsStuck, IsRowOf, StatesSize, ReadsHead, ReadsRows, ReadsRanges}
-use Rattle.c25_image.specs.ImageFaults.{IsWhole, IsNoText, Begins, StatesTooMany, HasBadRange, IsFirstFaulty, behind}
+use Rattle.c25_isa.specs.Image.{Contents, AreRanges, IsRange}
+use Rattle.c25_image.specs.Lines.{with_feed, lines_text}
+use Rattle.c25_image.specs.ImageText.{first_line, last_line, size_line, word_line, word_lines, line_count, range_line, open_lines, image_lines}
+use Rattle.c25_image.specs.ImageReading.{AreWords, IsRowOf, StatesSize, ReadsHead, ReadsRows}
+use Rattle.c25_image.specs.ImageFaults.{IsWhole, IsNoText, StatesTooMany, HasBadRange, IsFirstFaulty, behind}
 use Rattle.c25_image.specs.ImageStops.{StopsAtFirst, StopsAtSecond, StopsAtRow, StopsAtRange, StopsAtBadRange, IsRangeOrLast}
 use Rattle.c25_image.proofs.ImageLoops.{AreWords-append, lines_text-append, lines_text-one, two_lines, line_length}
-use Rattle.c25_image.proofs.ImageLines.{NoFeeds, first_no_feed, size_no_feed, image_no_feeds, GoesOn, lines_cut, nothing_left, hex4_injective, range_injective, size_injective}
-use Rattle.c25_image.proofs.ImageNext.{Next, Leads, leads_first, leads_second, leads_rows, leads_ranges, image_ends, range_fits}
+use Rattle.c25_image.proofs.ImageLines.{first_no_feed, size_no_feed}
+use Rattle.c25_image.proofs.ImageNext.{leads_first, leads_second, leads_rows, leads_ranges}
 use Rattle.c25_image.proofs.ImageRefused.{Stops, stops_faulty, stops_no_text, too_many}
 
 empty : Contents
@@ -128,14 +125,14 @@ stop_rows bytes rest count line h s = record {
   begun = filled_lines count s.lines s.words s.full s.more;
   rest = s.rest;
   text =
-  h.text ∙ ap (λ t. lines_text (first_line ∷ size_line count ∷ []) ++ t) s.text
-  ∙ sym (lines_text-append (first_line ∷ size_line count ∷ []) (word_lines s.lines s.words) s.rest);
+      h.text ∙ ap (λ t. lines_text (first_line ∷ size_line count ∷ []) ++ t) s.text
+      ∙ sym (lines_text-append (first_line ∷ size_line count ∷ []) (word_lines s.lines s.words) s.rest);
   leads = leads_rows count s.lines s.words h.short s.more;
   ranges = λ c w e f named.
-    let next = leads_rows count s.lines s.words h.short s.more c (last_line ∷ []) w (ap (λ l. l ++ last_line ∷ []) e) in
-    let is = next.is in
-    let same : next.line ≡ last_line = cc in
-    absurd (last_no_row (min 8 (count - 8 * s.lines)) (subst (IsRowOf (min 8 (count - 8 * s.lines))) same next.allowed));
+      let next = leads_rows count s.lines s.words h.short s.more c (last_line ∷ []) w (ap (λ l. l ++ last_line ∷ []) e) in
+      let is = next.is in
+      let same : next.line ≡ last_line = cc in
+      absurd (last_no_row (min 8 (count - 8 * s.lines)) (subst (IsRowOf (min 8 (count - 8 * s.lines))) same next.allowed));
   stuck = s.stuck;
 }
 
@@ -150,7 +147,7 @@ pub faulty_row : (bytes rest : List ℕ) (count line : ℕ) → ReadsHead bytes 
 faulty_row bytes rest count line h s =
     let stop = stop_rows bytes rest count line h s in
     stops_faulty bytes (row_lines count s.lines s.words) (IsRowOf (min 8 (count - 8 * s.lines))) line stop (omega (arith, s.number, row_lines_length count s.lines s.words))
-      (too_many bytes count (word_lines s.lines s.words) stop.rest h.short stop.text)
+    (too_many bytes count (word_lines s.lines s.words) stop.rest h.short stop.text)
 
 pub no_text_row : (bytes rest : List ℕ) (count line : ℕ) → ReadsHead bytes count rest → StopsAtRow rest count line → IsNoText bytes
 no_text_row bytes rest count line h s = stops_no_text bytes (row_lines count s.lines s.words) (IsRowOf (min 8 (count - 8 * s.lines))) (stop_rows bytes rest count line h s)
@@ -171,10 +168,10 @@ pub read_text : (bytes one two : List ℕ) (count : ℕ) (words : List ℕ) (fun
 read_text bytes one two count words functions rest h r is =
     let rows = word_lines (line_count count) words in
     let all : bytes ≡ lines_text (first_line ∷ size_line count ∷ (rows ++ map range_line functions)) ++ rest =
-      h.text
-      ∙ ap (λ t. lines_text (first_line ∷ size_line count ∷ []) ++ t) (r.text ∙ ap (λ t. lines_text rows ++ t) is ∙ sym (lines_text-append rows (map range_line functions) rest))
-      ∙ sym (lines_text-append (first_line ∷ size_line count ∷ []) (rows ++ map range_line functions) rest)
-      in
+    h.text
+    ∙ ap (λ t. lines_text (first_line ∷ size_line count ∷ []) ++ t) (r.text ∙ ap (λ t. lines_text rows ++ t) is ∙ sym (lines_text-append rows (map range_line functions) rest))
+    ∙ sym (lines_text-append (first_line ∷ size_line count ∷ []) (rows ++ map range_line functions) rest)
+    in
     all ∙ ap (λ n. lines_text (first_line ∷ size_line n ∷ (word_lines (line_count n) words ++ map range_line functions)) ++ rest) (sym r.counted)
 
 stop_range : (bytes one two : List ℕ) (count : ℕ) (words : List ℕ) (from line : ℕ) → ReadsHead bytes count one → ReadsRows one count words two → (s : StopsAtRange two count from line) → Stops bytes (open_lines (read_of words s.functions)) IsRangeOrLast
@@ -200,7 +197,7 @@ pub faulty_range : (bytes one two : List ℕ) (count : ℕ) (words : List ℕ) (
 faulty_range bytes one two count words from line first h r s =
     let stop = stop_range bytes one two count words from line h r s in
     stops_faulty bytes (open_lines (read_of words s.functions)) IsRangeOrLast line stop (omega (arith, s.number, r.counted, open_length words s.functions, ap line_count r.counted))
-      (too_many bytes (length words) (word_lines (line_count (length words)) words ++ map range_line s.functions) stop.rest (omega (arith, h.short, r.counted)) stop.text)
+    (too_many bytes (length words) (word_lines (line_count (length words)) words ++ map range_line s.functions) stop.rest (omega (arith, h.short, r.counted)) stop.text)
 
 pub no_text_range : (bytes one two : List ℕ) (count : ℕ) (words : List ℕ) (from line : ℕ) → ReadsHead bytes count one → ReadsRows one count words two → StopsAtRange two count from line → IsNoText bytes
 no_text_range bytes one two count words from line h r s = stops_no_text bytes (open_lines (read_of words s.functions)) IsRangeOrLast (stop_range bytes one two count words from line h r s)
@@ -215,7 +212,7 @@ bad_range bytes one two count words from line first h r s = record {
   breaks = subst (λ n. IsRange (behind 0 s.functions) n s.function → ⊥) (sym r.counted) s.breaks;
   rest = s.rest;
   text =
-  read_text bytes one two count words s.functions (with_feed (range_line s.function) ++ s.rest) h r s.text
-  ∙ ap (λ t. lines_text (open_lines (read_of words s.functions)) ++ t) (sym (lines_text-one (range_line s.function) s.rest))
-  ∙ sym (lines_text-append (open_lines (read_of words s.functions)) (range_line s.function ∷ []) s.rest);
+      read_text bytes one two count words s.functions (with_feed (range_line s.function) ++ s.rest) h r s.text
+      ∙ ap (λ t. lines_text (open_lines (read_of words s.functions)) ++ t) (sym (lines_text-one (range_line s.function) s.rest))
+      ∙ sym (lines_text-append (open_lines (read_of words s.functions)) (range_line s.function ∷ []) s.rest);
 }

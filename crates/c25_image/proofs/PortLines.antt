@@ -1,17 +1,16 @@
 -- The lines of port files.
-use Rattle.std.proofs.Common.{◌≡◌, ◌≢◌, ℕ, zero, suc, ◌+◌, ◌-◌, ◌*◌, ◌/◌, ◌%◌, ◌<◌, ◌≤◌, ◌^◌, Bool, true, false, ◌==◌, cond, List, [], ◌∷◌, ◌++◌, length, get_or, take, drop, replicate, All, refl, sym, ap, subst, ◌∙◌, inl, inr, arith, append_assoc, append-nil, length-append, eqb-true}
+use Rattle.std.proofs.Common.{◌≡◌, ◌≢◌, ℕ, zero, suc, ◌+◌, ◌*◌, ◌%◌, ◌<◌, ◌≤◌, ◌^◌, false, ◌==◌, cond, List, [], ◌∷◌, ◌++◌, length, get_or, drop, replicate, refl, sym, ap, subst, ◌∙◌, inl, inr, arith, append_assoc, append-nil, length-append}
 use Rattle.std.specs.Prelude.{◌⊎◌, decimal}
 use Rattle.std.specs.List.{slice_split, AllByRecursion}
 use Rattle.std.specs.Str.Lines.{lines, lines_of_parts, strip_carriage_return}
 use Rattle.std.proofs.lemmas.List.{drop_more, drop_all, replicate_more}
 use Rattle.std.proofs.lemmas.List.Elements.{All-from_recursion}
 use Rattle.std.proofs.lemmas.List.Splits.{slice_split_at, slice_split_none, length-slice_split}
-use Rattle.std.proofs.lemmas.Fmt.{decimal_digit, decimal_step, decimal_by_steps, decimal_injective}
+use Rattle.std.proofs.lemmas.Fmt.{decimal_by_steps, decimal_injective}
 use Rattle.std.proofs.lemmas.Bool.Decides.{nat_tests}
-use Rattle.std.proofs.lemmas.Bool.{cases_Bool, ltb-true}
 use Rattle.c25_image.specs.Hex.{hex_digit}
 use Rattle.c25_image.specs.Lines.{with_feed, Lacks, HasNoFeed}
-use Rattle.c25_image.specs.PortText.{upper_digit, IsHexDigit, Spells, IsHexWord, IsPortLine, Gives, GivesBefore, AllGive, PortText, IsFirstBad}
+use Rattle.c25_image.specs.PortText.{upper_digit, IsHexDigit, Spells, IsHexWord, IsPortLine, Gives, AllGive, PortText, IsFirstBad}
 use Rattle.c25_image.specs.PortReading.{HasNoBlankFirst, IsBehindBlanks}
 
 -- ---- spaces
@@ -104,8 +103,8 @@ spells_more digits index word value s lt short d =
       three = λ h. let z = s.two (omega arith) in omega (arith, d.below);
       four = λ h. let z = s.three (omega arith) in omega (arith, d.below);
       on = λ w h.
-        let t = subst (λ l. Spells word l w) e (s.on w h) in
-        subst (λ v. Spells (word * 16 + v) (drop (index + 1) digits) w) (digit_same (get_or digits index 0) t.0 value t.1 d) t.2;
+          let t = subst (λ l. Spells word l w) e (s.on w h) in
+          subst (λ v. Spells (word * 16 + v) (drop (index + 1) digits) w) (digit_same (get_or digits index 0) t.0 value t.1 d) t.2;
       back = λ w h. s.back w (subst (λ l. Spells word l w) (sym e) (value, d, h));
     }
 

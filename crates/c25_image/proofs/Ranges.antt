@@ -1,15 +1,10 @@
 -- The line of a function, read from both ends.
-use Rattle.std.proofs.Common.{◌≡◌, ◌≢◌, ℕ, ◌+◌, ◌-◌, ◌<◌, ◌≤◌, ◌^◌, List, [], ◌∷◌, ◌++◌, length, take, drop, refl, sym, ap, ◌∙◌, arith, length-append, All}
-use Rattle.std.specs.Prelude.{codes}
-use Rattle.std.specs.Str.{IsAscii, IsUtf8}
+use Rattle.std.proofs.Common.{◌≡◌, ℕ, ◌<◌, List, ◌++◌, length, take, drop, refl, sym, ap, ◌∙◌, arith, length-append}
+use Rattle.std.specs.Str.{IsUtf8}
 use Rattle.std.proofs.lemmas.Str.{IsUtf8-from_ascii}
 use Rattle.std.proofs.lemmas.Str.Ascii.{IsAscii-from_all}
-use Rattle.std.proofs.lemmas.List.{take_at, drop_at, append_cancel_left, take-append-drop}
-use Rattle.c25_isa.specs.declared.image.FunctionRange.{FunctionRange}
+use Rattle.std.proofs.lemmas.List.{take_at, drop_at}
 use Rattle.word_base.specs.Name.{IsName, IsNamePart}
-use Rattle.c25_image.specs.Hex.{hex4}
-use Rattle.c25_image.specs.ImageText.{range_words, range_line}
-use Rattle.c25_image.specs.ImageReading.{IsNamed}
 
 -- texts with ends of one length
 pub cut_end : (a b c d : List ℕ) → a ++ b ≡ c ++ d → length b ≡ length d → (a ≡ c) × (b ≡ d)

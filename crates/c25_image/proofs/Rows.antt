@@ -1,11 +1,11 @@
 -- Lines of words, read from left to right.
-use Rattle.std.proofs.Common.{◌≡◌, ◌≢◌, ℕ, zero, suc, ◌+◌, ◌<◌, ◌≤◌, ◌^◌, Bool, true, false, ◌==◌, List, [], ◌∷◌, ◌++◌, length, refl, sym, ap, subst, ◌∙◌, inl, inr, ⊎_elim, arith, append_assoc, append-nil, length-append, eqb-true}
+use Rattle.std.proofs.Common.{◌≡◌, ◌≢◌, ℕ, ◌<◌, ◌^◌, Bool, true, false, ◌==◌, List, [], ◌∷◌, ◌++◌, length, sym, ap, ◌∙◌, inl, inr, ⊎_elim, arith, append_assoc, append-nil, length-append, eqb-true}
 use Rattle.std.specs.List.{flat_map}
 use Rattle.std.specs.Prelude.{◌⊎◌}
 use Rattle.std.proofs.lemmas.List.Concat.{flat_map-append}
 use Rattle.c25_image.specs.Hex.{hex4}
 use Rattle.c25_image.specs.ImageText.{word_line}
-use Rattle.c25_image.specs.ImageReading.{AreWords, IsRow, Joins, ReadsRow}
+use Rattle.c25_image.specs.ImageReading.{AreWords, IsRow, ReadsRow}
 
 abbrev spaced : List ℕ → List ℕ
 spaced words = flat_map (λ v. 32 ∷ hex4 v) words

@@ -1,8 +1,8 @@
 -- What the lines of an image's text say, one by one, and the first that isn't allowed (docs/FORMATS.md, "Image").
-use Rattle.std.specs.Prelude.{◌≡◌, ◌≢◌, ◌⊎◌, ℕ, ◌+◌, ◌-◌, ◌*◌, ◌<◌, ◌≤◌, ◌^◌, min, Bool, true, false, List, [], ◌∷◌, ◌++◌, length, map, codes}
+use Rattle.std.specs.Prelude.{◌≡◌, ◌≢◌, ℕ, ◌<◌, ◌≤◌, ◌^◌, Bool, true, false, List, [], ◌∷◌, ◌++◌, length, map}
 use Rattle.std.specs.List.{AllByRecursion}
 use Rattle.c25_isa.specs.declared.image.FunctionRange.{FunctionRange}
-use Rattle.c25_isa.specs.Image.{AreRanges, IsRange}
+use Rattle.c25_isa.specs.Image.{AreRanges}
 use Rattle.word_base.specs.Name.{IsName}
 use Rattle.c25_image.specs.Lines.{with_feed, lines_text, HasNoFeed}
 use Rattle.c25_image.specs.ImageText.{first_line, last_line, size_line, word_line, word_lines, line_count, range_line}

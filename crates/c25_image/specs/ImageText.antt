@@ -1,8 +1,8 @@
 -- The text of an image (docs/FORMATS.md, "Image").
-use Rattle.std.specs.Prelude.{ℕ, zero, suc, ◌+◌, ◌/◌, ◌<◌, ◌^◌, List, [], ◌∷◌, ◌++◌, length, take, drop, map, codes, decimal, All}
+use Rattle.std.specs.Prelude.{ℕ, zero, suc, ◌+◌, ◌/◌, List, [], ◌∷◌, ◌++◌, length, take, drop, map, codes, decimal}
 use Rattle.std.specs.List.{flat_map}
 use Rattle.c25_isa.specs.declared.image.FunctionRange.{FunctionRange}
-use Rattle.c25_isa.specs.Image.{Contents, IsImage}
+use Rattle.c25_isa.specs.Image.{Contents}
 use Rattle.c25_image.specs.Hex.{hex4}
 use Rattle.c25_image.specs.Lines.{lines_text}
 

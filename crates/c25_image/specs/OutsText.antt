@@ -1,5 +1,5 @@
 -- The text of the words that were put out (docs/FORMATS.md, "Outputs").
-use Rattle.std.specs.Prelude.{ℕ, List, [], ◌∷◌, ◌++◌, map, decimal}
+use Rattle.std.specs.Prelude.{ℕ, List, ◌∷◌, ◌++◌, map, decimal}
 use Rattle.c25_image.specs.Hex.{hex4}
 use Rattle.c25_image.specs.Lines.{lines_text}
 

@@ -10,7 +10,7 @@ use crate::hex::{front_spaced, front_word};
 use c25_isa::FunctionRange;
 use std::alloc::Global;
 use std::str;
-use word_base::{is_name, NoMemory, Text};
+use word_base::{NoMemory, Text, is_name};
 
 /// The bytes of a function's first and last word, each behind one space.
 const RANGE_BYTES: usize = 10;

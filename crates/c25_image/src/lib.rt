@@ -8,6 +8,8 @@ mod image_lines;
 mod lines;
 mod ports;
 mod reading;
+#[cfg(test)]
+mod tests;
 mod writing;
 
 pub use fault::{ImageFault, PortFault};

@@ -12,6 +12,7 @@ use std::alloc::Global;
 use word_base::{PortWord, Ports};
 
 const MOST_DIGITS: usize = 4;
+
 const LAST_PORT: u64 = 15;
 
 // The value of a digit of either case.

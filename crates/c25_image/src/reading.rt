@@ -15,7 +15,9 @@ use std::alloc::Global;
 use word_base::NoMemory;
 
 const MOST_WORDS: u64 = 65_536;
+
 const WORDS_TO_A_LINE: usize = 8;
+
 const FIRST_ROW: u64 = 3;
 
 // How many words the two head lines state, and what stands behind them.
@@ -41,7 +43,11 @@ fn read_head(bytes: &[u8]) -> Result<(usize, &[u8]), ImageFault>
 }
 
 // Reads a line of so many words behind the others, and gives what stands behind it.
-fn next_row<'a>(words: &mut Vec<u16>, bytes: &'a [u8], count: usize) -> Result<Option<&'a [u8]>, NoMemory>
+fn next_row<'a>(
+    words: &mut Vec<u16>,
+    bytes: &'a [u8],
+    count: usize,
+) -> Result<Option<&'a [u8]>, NoMemory>
     requires { length words.old.items + count ≤ 65536 }
     ensures { IfOk result (λ found. MatchOption found
         (IsStuck (IsRowOf count) bytes.now)
@@ -59,7 +65,11 @@ fn next_row<'a>(words: &mut Vec<u16>, bytes: &'a [u8], count: usize) -> Result<O
 }
 
 // Reads the lines of all words, and gives what stands behind them.
-fn read_rows<'a>(words: &mut Vec<u16>, bytes: &'a [u8], count: usize) -> Result<&'a [u8], ImageFault>
+fn read_rows<'a>(
+    words: &mut Vec<u16>,
+    bytes: &'a [u8],
+    count: usize,
+) -> Result<&'a [u8], ImageFault>
     requires empty { words.old.items ≡ [] }
     requires short { count ≤ 65536 }
     ensures { MatchResult result (λ rest. ReadsRows bytes.now count words.new.items rest.now) (StopsInRows bytes.now count) }
@@ -78,7 +88,12 @@ fn read_rows<'a>(words: &mut Vec<u16>, bytes: &'a [u8], count: usize) -> Result<
 }
 
 // Reads the lines of all functions and the last line, and gives what stands behind that.
-fn read_ranges(alloc: Global, bytes: &[u8], count: usize, first_line: u64) -> Result<(Vec<FunctionRange>, &[u8]), ImageFault>
+fn read_ranges(
+    alloc: Global,
+    bytes: &[u8],
+    count: usize,
+    first_line: u64,
+) -> Result<(Vec<FunctionRange>, &[u8]), ImageFault>
     requires short { count ≤ 65536 }
     requires early { first_line ≤ 65536 }
     ensures { MatchResult result (λ found. ReadsRanges bytes.now count found.0.items found.1.now) (StopsInRanges bytes.now count first_line) }

@@ -1,4 +1,4 @@
-use Rattle.std.proofs.Common.{◌≡◌, ◌∙◌, sym, ap, subst, decimal, Ok}
+use Rattle.std.proofs.Common.{◌≡◌, ◌∙◌, sym, ap, subst, decimal}
 use Rattle.std.specs.Str.{IsAscii}
 use Rattle.std.proofs.lemmas.Bool.{false≢true}
 use Rattle.std.proofs.lemmas.Fmt.{parse-decimal, IsAscii-decimal}

@@ -16,10 +16,10 @@ pub loop-rest-preserved : goal.loop-rest-preserved
 loop-rest-preserved c =
     elim c.if-not-is_empty.branch [
       | then-not-is_empty+in-Some+in_ok-push w ↦
-      given_put c.args.bytes.now c.loop-rest.rest.now c.next_line.result.1.now c.next_line.result.0.now c.loop-rest.number c.loop-rest.puts.items c.if-not-is_empty.puts.items w.in-Some.put c.loop-rest.invariant c.next_line.ensures.lines c.next_line.ensures.shorter w.in-Some.ensures (rw w.puts-is w.in_ok-push.ensures.items)
+          given_put c.args.bytes.now c.loop-rest.rest.now c.next_line.result.1.now c.next_line.result.0.now c.loop-rest.number c.loop-rest.puts.items c.if-not-is_empty.puts.items w.in-Some.put c.loop-rest.invariant c.next_line.ensures.lines c.next_line.ensures.shorter w.in-Some.ensures (rw w.puts-is w.in_ok-push.ensures.items)
       | else-not-is_empty w ↦
-      let blank : c.next_line.result.0.now ≡ [] = nil_from_length c.next_line.result.0.now (search rules) in
-      rw w.puts-is (given_blank c.args.bytes.now c.loop-rest.rest.now c.next_line.result.1.now c.next_line.result.0.now c.loop-rest.number c.loop-rest.puts.items c.loop-rest.invariant c.next_line.ensures.lines c.next_line.ensures.shorter blank)
+          let blank : c.next_line.result.0.now ≡ [] = nil_from_length c.next_line.result.0.now (search rules) in
+          rw w.puts-is (given_blank c.args.bytes.now c.loop-rest.rest.now c.next_line.result.1.now c.next_line.result.0.now c.loop-rest.number c.loop-rest.puts.items c.loop-rest.invariant c.next_line.ensures.lines c.next_line.ensures.shorter blank)
     ]
 
 pub returns-clause-written : goal.returns-clause-written

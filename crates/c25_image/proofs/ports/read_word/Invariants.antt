@@ -1,4 +1,3 @@
-use Rattle.std.proofs.Common.{drop}
 use Rattle.c25_image.proofs.PortLines.{SpellsSoFar}
 use Rattle.c25_image.proofs.ports.read_word.Given as goal
 

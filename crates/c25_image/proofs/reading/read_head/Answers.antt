@@ -1,4 +1,4 @@
-use Rattle.std.proofs.Common.{rules, ◌≡◌, ◌≢◌, ◌<◌, ◌^◌, ◌++◌, ◌∙◌, ap, sym, inl, inr, refl, arith}
+use Rattle.std.proofs.Common.{rules, ◌≡◌, ◌≢◌, ◌++◌, ◌∙◌, ap, sym, inl, inr, refl}
 use Rattle.c25_image.specs.Lines.{with_feed}
 use Rattle.c25_image.specs.ImageText.{first_line, size_line}
 use Rattle.c25_image.specs.ImageReading.{StatesSize}
@@ -35,7 +35,7 @@ returns-then-count-gt-MOST_WORDS c =
       fits = search rules;
       rest = c.in-Some-front_line.rest.now;
       text =
-      c.in-Some.ensures.1 ∙ ap (λ l. with_feed l ++ c.in-Some.rest.now) same
-      ∙ ap (λ t. with_feed first_line ++ t) (c.in-Some-front_line.ensures.1 ∙ ap (λ l. with_feed l ++ c.in-Some-front_line.rest.now) c.in-Some-read_size.ensures)
-      ∙ sym (two_lines first_line (size_line c.in-Some-read_size.count) c.in-Some-front_line.rest.now);
+          c.in-Some.ensures.1 ∙ ap (λ l. with_feed l ++ c.in-Some.rest.now) same
+          ∙ ap (λ t. with_feed first_line ++ t) (c.in-Some-front_line.ensures.1 ∙ ap (λ l. with_feed l ++ c.in-Some-front_line.rest.now) c.in-Some-read_size.ensures)
+          ∙ sym (two_lines first_line (size_line c.in-Some-read_size.count) c.in-Some-front_line.rest.now);
     }

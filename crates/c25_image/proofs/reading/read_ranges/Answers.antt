@@ -14,7 +14,7 @@ returns-in_default-2 c =
     let differs : c.in-Some.text.now ≢ last_line = search rules in
     let none = rw c.in_default-2.is at c.in_ok-function.ensures in
     ranges_stop c.args.bytes.now c.loop-text.rest.now c.args.count c.args.first_line c.loop-text.line c.loop-text.from c.loop-text.functions.items c.loop-text.invariant
-      (stuck_at_line IsRangeOrLast c.loop-text.rest.now c.in-Some.text.now c.in-Some.after.now c.in-Some.ensures.0 c.in-Some.ensures.1 (λ r. ⊎_elim differs (λ h. none h.0 h.1 h.2) r))
+    (stuck_at_line IsRangeOrLast c.loop-text.rest.now c.in-Some.text.now c.in-Some.after.now c.in-Some.ensures.0 c.in-Some.ensures.1 (λ r. ⊎_elim differs (λ h. none h.0 h.1 h.2) r))
 
 pub loop-text-preserved : goal.loop-text-preserved
 loop-text-preserved c =
