@@ -34,17 +34,17 @@ hex4_injective v w p q e =
 
 -- ---- lines without line feeds
 
-HasNoFeed-append : (xs ys : List ℕ) → HasNoFeed xs → HasNoFeed ys → HasNoFeed (xs ++ ys)
+pub HasNoFeed-append : (xs ys : List ℕ) → HasNoFeed xs → HasNoFeed ys → HasNoFeed (xs ++ ys)
 HasNoFeed-append [] ys a b = b
 HasNoFeed-append (x ∷ xs) ys a b = (a.0, HasNoFeed-append xs ys a.1 b)
 
-hex4_no_feed : (w : ℕ) → HasNoFeed (hex4 w)
+pub hex4_no_feed : (w : ℕ) → HasNoFeed (hex4 w)
 hex4_no_feed w = (hex_digit-above (w / 4096), (hex_digit-above (w / 256 % 16), (hex_digit-above (w / 16 % 16), (hex_digit-above (w % 16), tt {0}))))
 
 above : (b : ℕ) → 10 < b → b ≢ 10
 above b lt e = omega arith
 
-decimal_no_feed : (n : ℕ) → n < 2 ^ 64 → HasNoFeed (decimal n)
+pub decimal_no_feed : (n : ℕ) → n < 2 ^ 64 → HasNoFeed (decimal n)
 decimal_no_feed = decimal_by_steps (λ n ds. HasNoFeed ds)
     (λ n lt. (above (48 + n) (omega arith), tt {0}))
     (λ n ds le more. HasNoFeed-append ds ((48 + n % 10) ∷ []) more (above (48 + n % 10) (omega arith), tt {0}))

@@ -9,3 +9,4 @@ pub mod ImageStopped
 pub mod ImageEnds
 pub mod ImageAnswers
 pub mod PortLines
+pub mod OutLines

@@ -4,8 +4,8 @@ ghost use Rattle.c25_image.specs.Hex.{hex_digit, hex4};
 
 use word_base::NoMemory;
 
-/// The bytes of a word.
-pub(crate) const DIGITS: usize = 4;
+/// The digits of a word.
+const DIGITS: usize = 4;
 
 // A lower-case digit.
 fn digit_of(value: u16) -> u8

@@ -12,6 +12,9 @@ use std::alloc::Global;
 use std::str;
 use word_base::{NoMemory, Text, is_name};
 
+/// The words on a full line.
+pub(crate) const WORDS_TO_A_LINE: usize = 8;
+
 /// The bytes of a function's first and last word, each behind one space.
 const RANGE_BYTES: usize = 10;
 

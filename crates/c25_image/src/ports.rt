@@ -11,8 +11,10 @@ use crate::lines::{front_line, front_until};
 use std::alloc::Global;
 use word_base::{PortWord, Ports};
 
+/// The most digits that a word has.
 const MOST_DIGITS: usize = 4;
 
+/// The greatest port.
 const LAST_PORT: u64 = 15;
 
 // The value of a digit of either case.

@@ -8,16 +8,16 @@ ghost use Rattle.c25_image.specs.ImageReading.{IsRowOf, IsStuck, NextRow, ReadsH
 ghost use Rattle.c25_image.specs.ImageStops.{StopsInHead, StopsInRows, StopsInRanges};
 
 use crate::fault::ImageFault;
-use crate::image_lines::{read_range, read_row, read_size};
+use crate::image_lines::{WORDS_TO_A_LINE, read_range, read_row, read_size};
 use crate::lines::front_line;
 use c25_isa::{FunctionRange, Image};
 use std::alloc::Global;
 use word_base::NoMemory;
 
+/// The most words that an image holds.
 const MOST_WORDS: u64 = 65_536;
 
-const WORDS_TO_A_LINE: usize = 8;
-
+/// The number of the first line of words.
 const FIRST_ROW: u64 = 3;
 
 // How many words the two head lines state, and what stands behind them.

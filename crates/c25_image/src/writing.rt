@@ -2,15 +2,15 @@
 ghost use Rattle.std.specs.Prelude.{◌≡◌, ◌<◌, ◌++◌, ◌∷◌, [], length, map, IfOk, OnOk};
 ghost use Rattle.c25_image.specs.Lines.{with_feed, lines_text};
 ghost use Rattle.c25_image.specs.ImageText.{word_line, word_lines, line_count, range_line, size_line, image_text};
-ghost use Rattle.c25_image.specs.OutsText.{out_line, outs_text};
+ghost use Rattle.c25_image.specs.PortText.{PortText};
+ghost use Rattle.c25_image.specs.OutsText.{IsOut, out_line, outs_text};
 
 use crate::decimal::push_decimal;
 use crate::hex::push_hex;
+use crate::image_lines::WORDS_TO_A_LINE;
 use c25_isa::{FunctionRange, Image};
 use std::alloc::Global;
 use word_base::{NoMemory, PortWord};
-
-const WORDS_TO_A_LINE: usize = 8;
 
 // The line that says how many words there are.
 fn push_size(text: &mut Vec<u8>, count: usize) -> Result<(), NoMemory>
@@ -88,7 +88,8 @@ pub fn write_image(alloc: Global, image: &Image) -> Result<Vec<u8>, NoMemory>
 
 // The line of an output.
 fn push_out(text: &mut Vec<u8>, out: PortWord) -> Result<(), NoMemory>
-    ensures { OnOk result (text.new.items ≡ text.old.items ++ with_feed (out_line out)) }
+    ensures text { OnOk result (text.new.items ≡ text.old.items ++ with_feed (out_line out)) }
+    ensures out { IsOut out }
 {
     push_decimal(text, usize::from(out.port()))?;
     text.push(b' ')?;
@@ -100,7 +101,9 @@ fn push_out(text: &mut Vec<u8>, out: PortWord) -> Result<(), NoMemory>
 /// The text of outputs: a line for each, in their order, with the port in decimal and the word as
 /// four lower-case hexadecimal digits.
 pub fn write_outs(alloc: Global, outs: &[PortWord]) -> Result<Vec<u8>, NoMemory>
-    ensures { IfOk result (λ text. text.items ≡ outs_text outs.now) }
+    ensures text { IfOk result (λ text. text.items ≡ outs_text outs.now) }
+    // A port file of this text gives the outputs again.
+    ensures read_back { IfOk result (λ text. PortText text.items outs.now) }
 {
     let mut text = Vec::new(alloc);
     for out in outs {
