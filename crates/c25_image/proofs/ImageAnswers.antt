@@ -11,6 +11,7 @@ use Rattle.c25_image.specs.declared.fault.ImageFault.{ImageFault}
 use Rattle.c25_image.specs.declared.fault.ImageFault.TheVariants as faults
 use Rattle.c25_image.proofs.ImageRefused.{long_no_text, range_no_text}
 use Rattle.c25_image.proofs.ImageStopped.{faulty_first, no_text_first, faulty_second, no_text_second, faulty_row, no_text_row, faulty_range, no_text_range, bad_range, read_of}
+use Rattle.c25_image.proofs.ImageExact.{says_no_text}
 use Rattle.c25_image.proofs.ImageEnds.{read_all, ends_faulty, ends_no_text, image_length, text_injective}
 
 -- no image's text, unless memory was wanting
@@ -62,9 +63,9 @@ ranges_say bytes one two count words from faults.NoMemory first h r s = tt {0}
 pub end_refused : (bytes one two : List ℕ) (count : ℕ) (words : List ℕ) (functions : List FunctionRange) (rest : List ℕ) (line : ℕ) → rest ≢ [] → ReadsHead bytes count one → ReadsRows one count words two → ReadsRanges two count functions rest → Refused bytes (faults.BadLine line)
 end_refused bytes one two count words functions rest line some h r s = refused bytes (faults.BadLine line) (ends_no_text bytes (read_of words functions) rest some (read_all bytes one two count words functions rest h r s))
 
-pub end_says : (bytes one two : List ℕ) (count : ℕ) (words : List ℕ) (functions : List FunctionRange) (rest : List ℕ) (line : ℕ) → line ≡ 3 + line_count count + length functions + 1 → ReadsHead bytes count one → ReadsRows one count words two → ReadsRanges two count functions rest → IsFirstFaulty bytes line
-end_says bytes one two count words functions rest line number h r s =
-    ends_faulty bytes (read_of words functions) rest line (omega (arith, image_length words functions, r.counted, ap line_count r.counted)) (read_all bytes one two count words functions rest h r s)
+pub end_says : (bytes one two : List ℕ) (count : ℕ) (words : List ℕ) (functions : List FunctionRange) (rest : List ℕ) (line : ℕ) → line ≡ 3 + line_count count + length functions + 1 → rest ≢ [] → ReadsHead bytes count one → ReadsRows one count words two → ReadsRanges two count functions rest → IsFirstFaulty bytes line
+end_says bytes one two count words functions rest line number some h r s =
+    ends_faulty bytes (read_of words functions) rest line (omega (arith, image_length words functions, r.counted, ap line_count r.counted)) some (read_all bytes one two count words functions rest h r s)
 
 -- nothing stands there: the text is that of the image
 pub end_text : (bytes one two : List ℕ) (count : ℕ) (words : List ℕ) (functions : List FunctionRange) (rest : List ℕ) → rest ≡ [] → ReadsHead bytes count one → ReadsRows one count words two → ReadsRanges two count functions rest → bytes ≡ image_text (read_of words functions)
@@ -75,3 +76,7 @@ end_text bytes one two count words functions rest none h r s =
 pub end_same : (bytes one two : List ℕ) (count : ℕ) (words : List ℕ) (functions : List FunctionRange) (rest : List ℕ) → rest ≡ [] → ReadsHead bytes count one → ReadsRows one count words two → ReadsRanges two count functions rest → (c : Contents) → IsWhole c → bytes ≡ image_text c → read_of words functions ≡ c
 end_same bytes one two count words functions rest none h r s c w e =
     text_injective (read_of words functions) c (read_all bytes one two count words functions rest h r s).whole w (sym (end_text bytes one two count words functions rest none h r s) ∙ e)
+
+pub end_only : (bytes one two : List ℕ) (count : ℕ) (words : List ℕ) (functions : List FunctionRange) (rest : List ℕ) → rest ≡ [] → ReadsHead bytes count one → ReadsRows one count words two → ReadsRanges two count functions rest → (fault : ImageFault) → fault ≢ faults.NoMemory → Says bytes fault → ⊥
+end_only bytes one two count words functions rest none h r s fault other says =
+    says_no_text bytes fault other says (read_of words functions) (read_all bytes one two count words functions rest h r s).whole (end_text bytes one two count words functions rest none h r s)

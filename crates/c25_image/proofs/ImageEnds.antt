@@ -72,8 +72,9 @@ ends_not_range bytes c rest s other h =
     pick (inl g) = shorter g.more g.lines
     pick (inr g) = longer g.more g.lines g.text
 
-pub ends_faulty : (bytes : List ℕ) (c : Contents) (rest : List ℕ) (line : ℕ) → line ≡ length (image_lines c) + 1 → Ends bytes c rest → IsFirstFaulty bytes line
-ends_faulty bytes c rest line number s = record {
+pub ends_faulty : (bytes : List ℕ) (c : Contents) (rest : List ℕ) (line : ℕ) → line ≡ length (image_lines c) + 1 → rest ≢ [] → Ends bytes c rest → IsFirstFaulty bytes line
+ends_faulty bytes c rest line number some s = record {
+  wrong = ends_no_text bytes c rest some s;
   from_one = omega arith;
   before = subst (λ n. Begins n bytes) (let e : length (image_lines c) ≡ line - 1 = omega arith in e) (ends_before bytes c rest s);
   here = λ b. ends_here bytes c rest s (subst (λ n. Begins n bytes) number b);

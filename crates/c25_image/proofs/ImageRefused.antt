@@ -103,6 +103,7 @@ stops_not_range bytes lines Allowed s other h =
 
 pub stops_faulty : (bytes : List ℕ) (lines : List (List ℕ)) (Allowed : List ℕ → Type 0) (line : ℕ) → Stops bytes lines Allowed → line ≡ length lines + 1 → ((count : ℕ) → StatesTooMany bytes count → ⊥) → IsFirstFaulty bytes line
 stops_faulty bytes lines Allowed line s number not_long = record {
+  wrong = stops_no_text bytes lines Allowed s;
   from_one = omega arith;
   before = subst (λ n. Begins n bytes) (let e : length lines ≡ line - 1 = omega arith in e) (stops_before bytes lines Allowed s);
   here = λ b. stops_here bytes lines Allowed s (subst (λ n. Begins n bytes) number b);

@@ -7,6 +7,7 @@ pub mod ImageNext
 pub mod ImageRefused
 pub mod ImageStopped
 pub mod ImageEnds
+pub mod ImageExact
 pub mod ImageAnswers
 pub mod PortLines
 pub mod OutLines

@@ -1,14 +1,14 @@
 -- The text of outputs is that of a port file that gives them.
-use Rattle.std.proofs.Common.{◌≡◌, ◌≢◌, ℕ, ◌+◌, ◌-◌, ◌*◌, ◌/◌, ◌%◌, ◌<◌, ◌≤◌, ◌^◌, false, cond, List, [], ◌∷◌, ◌++◌, length, get_or, take, drop, suc, append-nil, refl, sym, ap, subst, ◌∙◌, inl, inr, arith, append_assoc, length-append}
+use Rattle.std.proofs.Common.{◌≡◌, ◌≢◌, ℕ, ◌-◌, ◌/◌, ◌%◌, ◌<◌, ◌≤◌, ◌^◌, false, cond, List, [], ◌∷◌, ◌++◌, length, get_or, take, drop, suc, append-nil, refl, sym, ap, subst, ◌∙◌, inl, inr, arith, append_assoc, length-append}
 use Rattle.std.specs.Prelude.{◌==◌, decimal}
 use Rattle.std.specs.List.{AllByRecursion}
 use Rattle.std.specs.Str.Lines.{lines, strip_carriage_return}
 use Rattle.std.proofs.lemmas.List.{get_or_at, drop_all}
 use Rattle.std.proofs.lemmas.Bool.Decides.{nat_tests}
 use Rattle.c25_image.specs.Hex.{hex_digit, hex4}
-use Rattle.c25_image.specs.Lines.{with_feed, lines_text, HasNoFeed}
+use Rattle.c25_image.specs.Lines.{HasNoFeed}
 use Rattle.c25_image.specs.OutsText.{IsOut, out_line, outs_text}
-use Rattle.c25_image.specs.PortText.{IsHexDigit, Spells, IsHexWord, IsPortLine, AllGive, PortText}
+use Rattle.c25_image.specs.PortText.{IsHexDigit, Spells, IsPortLine, AllGive, PortText}
 use Rattle.c25_image.proofs.ImageLines.{HasNoFeed-append, hex4_no_feed, decimal_no_feed}
 use Rattle.c25_image.proofs.PortLines.{lines_front}
 

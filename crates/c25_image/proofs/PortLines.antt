@@ -306,3 +306,19 @@ bad_no_text bytes number s puts p =
 pub no_blank_here : (rest : List ℕ) → ((tail : List ℕ) → rest ≢ 32 ∷ tail) → HasNoBlankFirst rest
 no_blank_here [] h = tt {0}
 no_blank_here (c ∷ cs) h = λ e. h cs (ap (λ b. b ∷ cs) e)
+
+-- the lines before the first bad one are as many, however it is found
+first_same : (one two back more : List (List ℕ)) (line other : List ℕ) (puts outs : List (ℕ × ℕ)) → one ++ line ∷ back ≡ two ++ other ∷ more → AllGive one puts → AllGive two outs → ((p : List (ℕ × ℕ)) → Gives line p → ⊥) → ((p : List (ℕ × ℕ)) → Gives other p → ⊥) → length one ≡ length two
+first_same [] [] back more line other puts outs e g h bad worse = refl
+first_same [] (y ∷ two) back more line other puts outs e g h bad worse =
+    let same : y ≡ line = cc in
+    absurd (bad h.front (subst (λ l. Gives l h.front) same h.first))
+first_same (x ∷ one) [] back more line other puts outs e g h bad worse =
+    let same : x ≡ other = cc in
+    absurd (worse g.front (subst (λ l. Gives l g.front) same g.first))
+first_same (x ∷ one) (y ∷ two) back more line other puts outs e g h bad worse = ap suc (first_same one two back more line other g.back h.back (cc) g.others h.others bad worse)
+
+pub bad_same : (bytes : List ℕ) (m n : ℕ) → IsFirstBad bytes m → IsFirstBad bytes n → m ≡ n
+bad_same bytes m n s t =
+    let same = first_same s.front t.front s.back t.back s.line t.line s.puts t.puts (sym s.cut ∙ t.cut) s.good t.good s.bad t.bad in
+    omega (arith, s.counted, t.counted)

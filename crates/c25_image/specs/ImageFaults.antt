@@ -51,8 +51,9 @@ pub record HasBadRange (bytes : List ℕ) (line : ℕ) : Type 0 where
   pub rest : List ℕ
   pub text : bytes ≡ lines_text (open_lines contents ++ range_line function ∷ []) ++ rest
 
--- the line is the first that no image's text begins with, and it has no fault of its own kind
+-- no image has this text, the line is the first with which none begins, and it has no fault of its own kind
 pub record IsFirstFaulty (bytes : List ℕ) (line : ℕ) : Type 0 where
+  pub wrong : IsNoText bytes
   pub from_one : 0 < line
   pub before : Begins (line - 1) bytes
   pub here : Begins line bytes → ⊥

@@ -1,7 +1,7 @@
 //! Reading port files.
-ghost use Rattle.std.specs.Prelude.{◌≡◌, ◌<◌, ◌∷◌, ℕ, List, length, MatchOption, MatchResult, IfOk, IfErr};
+ghost use Rattle.std.specs.Prelude.{◌≡◌, ◌⊎◌, ◌<◌, ◌∷◌, ℕ, List, length, MatchOption, MatchResult, IfOk, IfErr};
 ghost use Rattle.std.specs.Str.Lines.{lines, strip_carriage_return};
-ghost use Rattle.c25_image.specs.PortText.{IsHexDigit, IsHexWord, IsPortLine, PortText, PortSays};
+ghost use Rattle.c25_image.specs.PortText.{IsHexDigit, IsHexWord, IsPortLine, PortText, IsFirstBad, PortSays};
 ghost use Rattle.c25_image.specs.PortReading.{IsBehindBlanks};
 ghost use Rattle.c25_image.specs.declared.fault.PortFault.TheVariants as port_faults;
 
@@ -102,6 +102,8 @@ pub fn read_ports(alloc: Global, bytes: &[u8]) -> Result<Ports, PortFault>
     ensures written { (puts : List (ℕ × ℕ)) → PortText bytes.now puts → MatchResult result (λ ports. ports ≡ puts) (λ fault. fault ≡ port_faults.NoMemory) }
     // Which fault it is, and where.
     ensures fault { IfErr result (PortSays bytes.now) }
+    // Where a line is the first bad one, it is answered, unless memory is wanting.
+    ensures only { (line : ℕ) → IsFirstBad bytes.now line → MatchResult result (λ _. ⊥) (λ found. (found ≡ port_faults.BadLine line) ⊎ (found ≡ port_faults.NoMemory)) }
 {
     let mut puts = Vec::new(alloc);
     let mut rest = bytes;

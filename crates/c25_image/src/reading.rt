@@ -1,8 +1,9 @@
 //! Reading the text of an image, line by line.
-ghost use Rattle.std.specs.Prelude.{◌≡◌, ◌≤◌, ◌<◌, ◌+◌, [], length, min, MatchOption, MatchResult, IfOk, IfErr};
+ghost use Rattle.std.specs.Prelude.{◌≡◌, ◌≢◌, ◌⊎◌, ◌≤◌, ◌<◌, ◌+◌, [], length, min, MatchOption, MatchResult, IfOk, IfErr};
 ghost use Rattle.c25_isa.specs.Image.{Contents};
 ghost use Rattle.c25_image.specs.ImageText.{image_text};
 ghost use Rattle.c25_image.specs.ImageFaults.{IsWhole, Says};
+ghost use Rattle.c25_image.specs.declared.fault.ImageFault.{ImageFault};
 ghost use Rattle.c25_image.specs.declared.fault.ImageFault.TheVariants as image_faults;
 ghost use Rattle.c25_image.specs.ImageReading.{IsRowOf, IsStuck, NextRow, ReadsHead, ReadsRows, ReadsRanges};
 ghost use Rattle.c25_image.specs.ImageStops.{StopsInHead, StopsInRows, StopsInRanges};
@@ -135,6 +136,8 @@ pub fn read_image(alloc: Global, bytes: &[u8]) -> Result<Image, ImageFault>
     ensures written { (c : Contents) → IsWhole c → bytes.now ≡ image_text c → MatchResult result (λ image. image ≡ c) (λ fault. fault ≡ image_faults.NoMemory) }
     // Which fault it is, and where.
     ensures fault { IfErr result (Says bytes.now) }
+    // A text that has a fault is answered with that one, unless memory is wanting.
+    ensures only { (fault : ImageFault) → fault ≢ image_faults.NoMemory → Says bytes.now fault → MatchResult result (λ _. ⊥) (λ found. (found ≡ fault) ⊎ (found ≡ image_faults.NoMemory)) }
 {
     let (count, rest) = read_head(bytes)?;
     let mut words = Vec::new(alloc);

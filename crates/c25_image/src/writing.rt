@@ -2,6 +2,7 @@
 ghost use Rattle.std.specs.Prelude.{◌≡◌, ◌<◌, ◌++◌, ◌∷◌, [], length, map, IfOk, OnOk};
 ghost use Rattle.c25_image.specs.Lines.{with_feed, lines_text};
 ghost use Rattle.c25_image.specs.ImageText.{word_line, word_lines, line_count, range_line, size_line, image_text};
+ghost use Rattle.c25_image.specs.ImageFaults.{IsWhole};
 ghost use Rattle.c25_image.specs.PortText.{PortText};
 ghost use Rattle.c25_image.specs.OutsText.{IsOut, out_line, outs_text};
 
@@ -75,7 +76,9 @@ fn push_ranges(text: &mut Vec<u8>, functions: &[FunctionRange]) -> Result<(), No
 
 /// The text of an image.
 pub fn write_image(alloc: Global, image: &Image) -> Result<Vec<u8>, NoMemory>
-    ensures { IfOk result (λ text. text.items ≡ image_text image.now) }
+    ensures text { IfOk result (λ text. text.items ≡ image_text image.now) }
+    // So reading the text gives the image again.
+    ensures whole { IsWhole image.now }
 {
     let words = image.words();
     let mut text = Vec::from_slice(alloc, b"C25 IMAGE 1\n")?;
