@@ -1,0 +1,13 @@
+pub mod WordLines
+pub mod Rows
+pub mod Ranges
+pub mod ImageLoops
+pub mod ImageLines
+pub mod ImageNext
+pub mod ImageRefused
+pub mod ImageStopped
+pub mod ImageEnds
+pub mod ImageExact
+pub mod ImageAnswers
+pub mod PortLines
+pub mod OutLines

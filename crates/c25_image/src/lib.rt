@@ -1,0 +1,18 @@
+//! The texts of images, of port files and of outputs.
+#![tactic(auto)]
+
+mod decimal;
+mod fault;
+mod hex;
+mod image_lines;
+mod lines;
+mod ports;
+mod reading;
+#[cfg(test)]
+mod tests;
+mod writing;
+
+pub use fault::{ImageFault, PortFault};
+pub use ports::read_ports;
+pub use reading::read_image;
+pub use writing::{write_image, write_outs};
