@@ -5,7 +5,7 @@ use Rattle.std.specs.Prelude.{option_map, option_and_then}
 use Rattle.std.specs.Str.{bytes_eq}
 use Rattle.std.specs.Str.Parse.{digits_value, without_leading_plus}
 use Rattle.std.specs.declared.alloc.Global.{Global}
-use Rattle.clap.specs.ValueTests.{is_numeral}
+use Rattle.clap.specs.ValueTests.{is_numeral, is_unsigned_in}
 use Rattle.clap.specs.Walk.{is_empty}
 use Rattle.clap.specs.Words.{App, Row, Text, fault_of, first_of, matches_of, one_of}
 use Rattle.cc_words.specs.Commands.{build_app, run_app}
@@ -77,4 +77,9 @@ Asks words what = asked words ≡ Some what
 -- a word that `clap` takes for no option: it doesn't begin with `-`, or is `-` alone
 abbrev pub is_plain_word : Text → Bool
 is_plain_word [] = true
-is_plain_word (x ∷ rest) = not (x == 45) || is_empty rest
+is_plain_word (x ∷ []) = true
+is_plain_word (x ∷ y ∷ rest) = not (x == 45)
+
+-- the text writes a number of steps: in decimal, from 1 to 100,000,000; a plus may stand first
+abbrev pub in_range : Text → Bool
+in_range = is_unsigned_in 1 100000000
