@@ -5,8 +5,8 @@ use itoa::{Buffer, Integer};
 use std::str;
 use word_base::NoMemory;
 
-// A number in decimal, behind the text.
-pub(crate) fn push_decimal(text: &mut Vec<u8>, number: usize) -> Result<(), NoMemory>
+/// Puts a number in decimal behind a text.
+pub fn push_decimal(text: &mut Vec<u8>, number: u64) -> Result<(), NoMemory>
     ensures { OnOk result (text.new.items ≡ text.old.items ++ decimal number) }
 {
     let mut buffer = Buffer::new();

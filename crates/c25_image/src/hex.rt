@@ -19,8 +19,8 @@ fn digit_of(value: u16) -> u8
     }
 }
 
-// A word as four lower-case digits, behind the text.
-pub(crate) fn push_hex(text: &mut Vec<u8>, word: u16) -> Result<(), NoMemory>
+/// Puts a word as four lower-case hexadecimal digits behind a text.
+pub fn push_hex(text: &mut Vec<u8>, word: u16) -> Result<(), NoMemory>
     ensures { OnOk result (text.new.items ≡ text.old.items ++ hex4 word) }
 {
     text.extend_from_slice(&[

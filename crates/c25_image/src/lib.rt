@@ -12,7 +12,9 @@ mod reading;
 mod tests;
 mod writing;
 
+pub use decimal::push_decimal;
 pub use fault::{ImageFault, PortFault};
+pub use hex::push_hex;
 pub use ports::read_ports;
 pub use reading::read_image;
 pub use writing::{write_image, write_outs};

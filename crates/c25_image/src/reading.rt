@@ -132,6 +132,8 @@ fn read_ranges(
 pub fn read_image(alloc: Global, bytes: &[u8]) -> Result<Image, ImageFault>
     // What is read has this text.
     ensures text { IfOk result (λ image. bytes.now ≡ image_text image) }
+    // It is one that can be written.
+    ensures whole { IfOk result IsWhole }
     // The text of an image is read as that image, unless memory is wanting.
     ensures written { (c : Contents) → IsWhole c → bytes.now ≡ image_text c → MatchResult result (λ image. image ≡ c) (λ fault. fault ≡ image_faults.NoMemory) }
     // Which fault it is, and where.

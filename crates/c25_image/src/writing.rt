@@ -18,7 +18,7 @@ fn push_size(text: &mut Vec<u8>, count: usize) -> Result<(), NoMemory>
     ensures { OnOk result (text.new.items ≡ text.old.items ++ with_feed (size_line count)) }
 {
     text.extend_from_slice(b"words ")?;
-    push_decimal(text, count)?;
+    push_decimal(text, count as u64)?;
     text.push(b'\n')?;
     Ok(())
 }
@@ -94,7 +94,7 @@ fn push_out(text: &mut Vec<u8>, out: PortWord) -> Result<(), NoMemory>
     ensures text { OnOk result (text.new.items ≡ text.old.items ++ with_feed (out_line out)) }
     ensures out { IsOut out }
 {
-    push_decimal(text, usize::from(out.port()))?;
+    push_decimal(text, u64::from(out.port()))?;
     text.push(b' ')?;
     push_hex(text, out.word())?;
     text.push(b'\n')?;

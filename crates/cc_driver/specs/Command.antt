@@ -1,15 +1,16 @@
 -- What the words of a command line ask for (docs/COMMANDS.md).
-use Rattle.std.specs.Prelude.{◌≡◌, ℕ, List, [], ◌∷◌, map, String, string_bytes, codes}
+use Rattle.std.specs.Prelude.{◌≡◌, ℕ, List, String, None}
 use Rattle.std.specs.declared.alloc.Global.{Global}
-
--- the words, by their bytes
-abbrev pub texts_of : List (String Global) → List (List ℕ)
-texts_of words = map string_bytes words
-
--- the words are `build`, a source and an image
-abbrev pub AsksToBuild : List (String Global) → List ℕ → List ℕ → Type 0
-AsksToBuild words source image = texts_of words ≡ codes "build" ∷ source ∷ image ∷ []
+use Rattle.cc_words.specs.Asked.{Asks, ToBuild, ToRun, asked, texts_of}
 
 -- a fact of the build that the words ask for, where they ask for one
 abbrev pub OnBuild : List (String Global) → (List ℕ → List ℕ → Type 0) → Type 0
-OnBuild words P = (source image : List ℕ) → AsksToBuild words source image → P source image
+OnBuild words P = (source image : List ℕ) → Asks (texts_of words) (ToBuild source image) → P source image
+
+-- a fact of the run that the words ask for, where they ask for one
+abbrev pub OnRun : List (String Global) → (List ℕ → List ℕ → ℕ → Type 0) → Type 0
+OnRun words P = (image ports : List ℕ) (steps : ℕ) → Asks (texts_of words) (ToRun image ports steps) → P image ports steps
+
+-- the words ask for nothing that is done
+abbrev pub AskForNothing : List (String Global) → Type 0
+AskForNothing words = asked (texts_of words) ≡ None

@@ -1,9 +1,11 @@
 //! The lines that the commands put.
-ghost use Rattle.std.specs.Prelude.{◌≡◌, ◌++◌, IfOk, string_bytes};
+ghost use Rattle.std.specs.Prelude.{◌≡◌, ◌++◌, Some, Err, IfOk, string_bytes};
 ghost use Rattle.cc_driver.specs.Build.{status_of};
 ghost use Rattle.cc_driver.specs.Line.{Puts, status_line};
+ghost use Rattle.cc_driver.specs.RunText.{file_line, fault_line};
 
 use crate::build::BuildFault;
+use crate::fault::{FileFault, RunFault};
 use std::alloc::Global;
 use word_base::{NoMemory, Sink};
 
@@ -43,4 +45,46 @@ fn joined(alloc: Global, before: &str, name: &str, behind: &str) -> Result<Strin
     ensures { IfOk result (λ line. string_bytes line ≡ before.now ++ (name.now ++ behind.now)) }
 {
     Ok(format!(in alloc; "{before}{name}{behind}")?)
+}
+
+// The line that refuses a file.
+fn file_line(alloc: Global, name: &str, fault: FileFault) -> Result<String, NoMemory>
+    ensures { IfOk result (λ line. string_bytes line ≡ file_line name.now fault) }
+{
+    let line = match fault {
+        FileFault::Read => format!(in alloc; "read fault: {name}\n")?,
+        FileFault::TooLong => format!(in alloc; "file refused: {name} too long\n")?,
+        FileFault::BadLine { line } => {
+            format!(in alloc; "file refused: {name} bad line {line}\n")?
+        }
+        FileFault::BadRange { line } => {
+            format!(in alloc; "file refused: {name} bad range line {line}\n")?
+        }
+        FileFault::TooManyWords { count } => {
+            format!(in alloc; "file refused: {name} too long {count}\n")?
+        }
+    };
+    Ok(line)
+}
+
+// Puts the line that refuses a file.
+fn report_file<K: Sink>(alloc: Global, out: &mut K, name: &str, fault: FileFault)
+    ensures { Puts K.tells (Some (file_line name.now fault))
+        (K.bytes out.old) (K.bytes out.new) (K.faults out.old) (K.faults out.new) }
+{
+    if let Ok(line) = file_line(alloc, name, fault) {
+        say(alloc, out, line.as_bytes());
+    }
+}
+
+/// Puts the line of a refused run.
+pub fn report_run<K: Sink>(alloc: Global, out: &mut K, fault: RunFault, image: &str, ports: &str)
+    ensures { Puts K.tells (Some (fault_line image.now ports.now fault))
+        (K.bytes out.old) (K.bytes out.new) (K.faults out.old) (K.faults out.new) }
+{
+    match fault {
+        RunFault::Image(why) => report_file(alloc, out, image, why),
+        RunFault::Ports(why) => report_file(alloc, out, ports, why),
+        RunFault::NoMemory => say(alloc, out, b"want of memory\n"),
+    }
 }

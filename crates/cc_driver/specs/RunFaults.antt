@@ -1,0 +1,28 @@
+-- How the faults of readers refuse a run.
+use Rattle.c25_image.specs.declared.fault.ImageFault.{ImageFault}
+use Rattle.c25_image.specs.declared.fault.ImageFault.TheVariants as image_faults
+use Rattle.c25_image.specs.declared.fault.PortFault.{PortFault}
+use Rattle.c25_image.specs.declared.fault.PortFault.TheVariants as port_faults
+use Rattle.word_base.specs.declared.shelf.ShelfFault.{ShelfFault}
+use Rattle.word_base.specs.declared.shelf.ShelfFault.TheVariants as shelf_faults
+use Rattle.cc_driver.specs.declared.fault.FileFault.{FileFault}
+use Rattle.cc_driver.specs.declared.fault.FileFault.TheVariants.{Read, TooLong, BadLine, BadRange, TooManyWords}
+use Rattle.cc_driver.specs.declared.fault.RunFault.{RunFault}
+use Rattle.cc_driver.specs.declared.fault.RunFault.TheVariants as fault
+
+abbrev pub of_image_fault : ImageFault → RunFault
+of_image_fault (image_faults.BadLine line) = fault.Image (BadLine line)
+of_image_fault (image_faults.TooLong count) = fault.Image (TooManyWords count)
+of_image_fault (image_faults.BadRange line) = fault.Image (BadRange line)
+of_image_fault image_faults.NoMemory = fault.NoMemory
+
+abbrev pub of_port_fault : PortFault → RunFault
+of_port_fault (port_faults.BadLine line) = fault.Ports (BadLine line)
+of_port_fault port_faults.NoMemory = fault.NoMemory
+
+-- a file that can't be fetched
+abbrev pub of_shelf_fault : (FileFault → RunFault) → ShelfFault → RunFault
+of_shelf_fault refused shelf_faults.Failed = refused Read
+of_shelf_fault refused shelf_faults.Absent = refused Read
+of_shelf_fault refused (shelf_faults.TooLong at_least) = refused TooLong
+of_shelf_fault refused shelf_faults.NoMemory = fault.NoMemory
