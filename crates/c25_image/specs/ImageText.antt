@@ -32,9 +32,11 @@ range_line f = codes "func " ++ (f.name ++ range_words f.first f.last)
 abbrev pub size_line : ℕ → List ℕ
 size_line words = codes "words " ++ decimal words
 
+-- the line that names the format
 abbrev pub first_line : List ℕ
 first_line = codes "C25 IMAGE 1"
 
+-- the line behind which nothing stands
 abbrev pub last_line : List ℕ
 last_line = codes "end"
 

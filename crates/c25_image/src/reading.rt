@@ -123,12 +123,14 @@ fn read_ranges(
     Err(ImageFault::BadLine { line })
 }
 
-/// The image whose text the bytes are. An image has one text, so each line has one form.
+/// The image whose text the bytes are. An image has one text, so no other spelling is read.
 ///
 /// `TooLong` comes where the first line is right and the second is well formed and states more
 /// than 65,536 words, and `BadRange` where the first faulty line is well formed and is that of a
-/// function whose range breaks the rule of an image. Every other text that is no image's is a
-/// `BadLine`: no image's text begins with its lines up to that one, or there is no such line.
+/// function whose range breaks the rule of an image. For every other text that is no image's,
+/// `BadLine` names the first line N, from 1, for which no image's text begins with the lines up to
+/// N: a text that ends early is faulty at the line behind its last, a last line without its line
+/// feed is faulty itself, and so is the line behind `end`.
 pub fn read_image(alloc: Global, bytes: &[u8]) -> Result<Image, ImageFault>
     // What is read has this text.
     ensures text { IfOk result (λ image. bytes.now ≡ image_text image) }

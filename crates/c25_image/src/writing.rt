@@ -74,7 +74,8 @@ fn push_ranges(text: &mut Vec<u8>, functions: &[FunctionRange]) -> Result<(), No
     Ok(())
 }
 
-/// The text of an image.
+/// The text of an image: its one spelling, with at most 65,536 words, eight to a line. Only the
+/// want of memory is refused.
 pub fn write_image(alloc: Global, image: &Image) -> Result<Vec<u8>, NoMemory>
     ensures text { IfOk result (λ text. text.items ≡ image_text image.now) }
     // So reading the text gives the image again.
