@@ -15,3 +15,8 @@ line_put tells line before now fb fn (Err NoMemory) told refused t = Nothing (re
 -- a put of the same line
 pub line_same : (a b before now : List ℕ) (faults_before faults_now : ℕ) → a ≡ b → LinePut a before now faults_before faults_now → LinePut b before now faults_before faults_now
 line_same a b before now fb fn e put = subst (λ l. LinePut l before now fb fn) e put
+
+-- a put behind one that left the sink as it was
+pub line_behind : (tells : Bool) (line b0 b1 b2 : List ℕ) (f0 f1 f2 : ℕ) → (IsTrue tells → b1 ≡ b0) → f1 ≡ f0 → (IsTrue tells → LinePut line b1 b2 f1 f2) → IsTrue tells → LinePut line b0 b2 f0 f2
+line_behind tells line b0 b1 b2 f0 f1 f2 same faults put t =
+    subst (λ f. LinePut line b0 b2 f f2) faults (subst (λ b. LinePut line b b2 f1 f2) (same t) (put t))

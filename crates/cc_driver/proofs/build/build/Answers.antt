@@ -1,11 +1,9 @@
 use Rattle.std.proofs.Common.{◌∙◌, ℕ, List, Some, ap, sym, subst, arith}
 use Rattle.c_tree.specs.SourceRun.{source_run}
 use Rattle.c25_isa.specs.Agrees.{Agrees}
-use Rattle.c25_isa.specs.Table.{code_words}
-use Rattle.cc_driver.specs.Build.{main_alone}
-use Rattle.cc_driver.specs.Image.{IsImage, image_text}
+use Rattle.c25_image.specs.ImageText.{image_text}
+use Rattle.c25_image.specs.ImageFaults.{IsWhole}
 use Rattle.cc_driver.specs.Thin.{IsThin, thin_program}
-use Rattle.cc_driver.proofs.ThinRun.{thin_image}
 use Rattle.cc_driver.proofs.build.build.Goals as goal
 
 pub returns-in_default-clause-refused : goal.returns-in_default-clause-refused
@@ -38,6 +36,6 @@ returns-in-Ok-store-clause-done g c =
         thin = subst (λ l. IsThin l t.port t.word t.answer) c.deref.ensures.value found;
         agrees = subst (λ (l : List ℕ). Agrees (source_run (thin_program t.port t.word t.answer)) l) (sym c.in_ok-words.ensures) c.code.ensures.agrees;
       };
-      is_image = subst (λ (l : List ℕ). IsImage l (main_alone l)) (sym (c.in_ok-words.ensures ∙ ap code_words c.code.ensures.value)) (thin_image t.port t.word t.answer found.numbers);
-      held = c.in-Ok-store.ensures.told told ∙ ap Some (c.deref-3.ensures.value ∙ c.in_ok-text.ensures ∙ ap (λ w. image_text w (main_alone w)) c.deref-2.ensures.value);
+      whole = subst IsWhole c.in_ok-built.ensures c.write_image.ensures.whole;
+      held = c.in-Ok-store.ensures.told told ∙ ap Some (c.deref-2.ensures.value ∙ c.in_ok-text.ensures.text ∙ ap image_text c.in_ok-built.ensures);
     }

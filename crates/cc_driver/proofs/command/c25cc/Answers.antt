@@ -1,5 +1,37 @@
-use Rattle.std.proofs.Common.{lit<, refl}
+use Rattle.std.proofs.Common.{lit<, refl, sym, subst}
+use Rattle.cc_driver.specs.Build.{IsToldWith, IsAccepted, IsNotYet}
+use Rattle.cc_driver.proofs.WordsLemmas.{same_source}
+use Rattle.cc_driver.specs.Run.{AtFetch}
+use Rattle.cc_driver.specs.RunAnswer.{Refuse}
+use Rattle.cc_driver.specs.declared.fault.RunFault.TheVariants as fault
+use Rattle.cc_driver.proofs.StatusLemmas.{run_status}
 use Rattle.cc_driver.proofs.command.c25cc.Goals as goal
 
-pub returns-in_default-clause-statuses : goal.returns-in_default-clause-statuses
-returns-in_default-clause-statuses g c = (2, lit< tt, refl)
+pub returns-in-Err-clause-statuses : goal.returns-in-Err-clause-statuses
+returns-in-Err-clause-statuses g c = (5, lit< tt, refl)
+
+pub returns-in-Err-clause-ran : goal.returns-in-Err-clause-ran
+returns-in-Err-clause-ran g c = λ image ports steps asks. Refuse (record {
+  why = fault.NoMemory;
+  refused = AtFetch tt;
+  status_is = refl;
+  line = c.say.ensures;
+})
+
+pub returns-in-Ok-None-clause-statuses : goal.returns-in-Ok-None-clause-statuses
+returns-in-Ok-None-clause-statuses g c = (2, lit< tt, refl)
+
+pub returns-in-Ok-Some-Run-clause-statuses : goal.returns-in-Ok-Some-Run-clause-statuses
+returns-in-Ok-Some-Run-clause-statuses g c = run_status _ _ _ _ _ _ _ _ _ c.answer_run.ensures.answers
+
+pub returns-in-Ok-Some-Build-clause-of_thin : goal.returns-in-Ok-Some-Build-clause-of_thin
+returns-in-Ok-Some-Build-clause-of_thin g c = λ source image asks told thin.
+    let this = rw (c.in-Ok-Some-Build.field-0-is, c.in-Ok-Some-Build.field-0-0-is) at c.in-Ok-Some-Build.ensures in
+    let same = same_source _ _ _ _ _ this asks in
+    c.answer_build.ensures.of_thin told (subst (λ s. IsToldWith (g.F.Shelf.file c.args.shelf.now) s IsAccepted) (sym same) thin)
+
+pub returns-in-Ok-Some-Build-clause-of_other : goal.returns-in-Ok-Some-Build-clause-of_other
+returns-in-Ok-Some-Build-clause-of_other g c = λ source image asks told other.
+    let this = rw (c.in-Ok-Some-Build.field-0-is, c.in-Ok-Some-Build.field-0-0-is) at c.in-Ok-Some-Build.ensures in
+    let same = same_source _ _ _ _ _ this asks in
+    c.answer_build.ensures.of_other told (subst (λ s. IsToldWith (g.F.Shelf.file c.args.shelf.now) s IsNotYet) (sym same) other)

@@ -1,0 +1,64 @@
+-- The statuses that there are.
+use Rattle.std.proofs.Common.{◌≡◌, ◌≢◌, ◌∙◌, ℕ, Bool, List, [], ◌∷◌, Ok, Err, refl, sym, subst, lit<}
+use Rattle.std.specs.Prelude.{Contains, Result}
+use Rattle.word_base.specs.Counts.{Counts}
+use Rattle.word_base.specs.Files.{Files}
+use Rattle.c25_isa.specs.declared.event.Stop.{Stop}
+use Rattle.c25_isa.specs.declared.event.Stop.TheVariants as stop
+use Rattle.cc_driver.specs.Build.{status_of}
+use Rattle.cc_driver.specs.RunAnswer.{RunAnswers, Put, Unput, Refuse, Sinks}
+use Rattle.cc_driver.specs.RunText.{stop_status, file_status, fault_status}
+use Rattle.cc_driver.specs.declared.build.BuildFault.{BuildFault}
+use Rattle.cc_driver.specs.declared.build.BuildFault.TheVariants as build_fault
+use Rattle.cc_driver.specs.declared.fault.FileFault.{FileFault}
+use Rattle.cc_driver.specs.declared.fault.FileFault.TheVariants as file_fault
+use Rattle.cc_driver.specs.declared.fault.RunFault.{RunFault}
+use Rattle.cc_driver.specs.declared.fault.RunFault.TheVariants as fault
+
+abbrev IsStatus : ℕ → Type 0
+IsStatus n = Contains (0 ∷ 1 ∷ 2 ∷ 3 ∷ 4 ∷ 5 ∷ 6 ∷ 7 ∷ 9 ∷ []) n
+
+of_build : (r : Result (Unit {0}) BuildFault) → IsStatus (status_of r)
+of_build (Ok u) = (0, lit< tt, refl)
+of_build (Err build_fault.NotYet) = (1, lit< tt, refl)
+of_build (Err build_fault.Read) = (3, lit< tt, refl)
+of_build (Err build_fault.Write) = (4, lit< tt, refl)
+of_build (Err build_fault.NoMemory) = (5, lit< tt, refl)
+of_build (Err build_fault.TooLong) = (8, lit< tt, refl)
+
+pub build_status : (n : ℕ) (r : Result (Unit {0}) BuildFault) → n ≡ status_of r → IsStatus n
+build_status n r e = subst IsStatus (sym e) (of_build r)
+
+not_two : (r : Result (Unit {0}) BuildFault) → status_of r ≢ 2
+not_two (Ok u) = λ e. cc
+not_two (Err build_fault.NotYet) = λ e. cc
+not_two (Err build_fault.Read) = λ e. cc
+not_two (Err build_fault.Write) = λ e. cc
+not_two (Err build_fault.NoMemory) = λ e. cc
+not_two (Err build_fault.TooLong) = λ e. cc
+
+-- a build has words that were taken
+pub build_takes_words : (n : ℕ) (r : Result (Unit {0}) BuildFault) → n ≡ status_of r → n ≢ 2
+build_takes_words n r e two = not_two r (sym e ∙ two)
+
+of_stop : (s : Stop) → IsStatus (stop_status s)
+of_stop (stop.Ended ending) = (0, lit< tt, refl)
+of_stop (stop.Trap kind at) = (7, lit< tt, refl)
+of_stop stop.Running = (6, lit< tt, refl)
+
+of_file : (f : FileFault) → IsStatus (file_status f)
+of_file file_fault.Read = (3, lit< tt, refl)
+of_file file_fault.TooLong = (8, lit< tt, refl)
+of_file (file_fault.BadLine line) = (8, lit< tt, refl)
+of_file (file_fault.BadRange line) = (8, lit< tt, refl)
+of_file (file_fault.TooManyWords count) = (8, lit< tt, refl)
+
+of_fault : (f : RunFault) → IsStatus (fault_status f)
+of_fault (fault.Image why) = of_file why
+of_fault (fault.Ports why) = of_file why
+of_fault fault.NoMemory = (5, lit< tt, refl)
+
+pub run_status : (tells : Bool) (files : Files) (image ports : List ℕ) (steps : ℕ) (before now : Counts) (sinks : Sinks) (status : ℕ) → RunAnswers tells files image ports steps before now sinks status → IsStatus status
+run_status tells files image ports steps before now sinks status (Put a) = subst IsStatus (sym a.status_is) (of_stop a.stands)
+run_status tells files image ports steps before now sinks status (Unput a) = subst IsStatus (sym a.status_is) (4, lit< tt, refl)
+run_status tells files image ports steps before now sinks status (Refuse a) = subst IsStatus (sym a.status_is) (of_fault a.why)

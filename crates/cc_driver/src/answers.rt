@@ -1,0 +1,157 @@
+//! What the commands do and answer.
+ghost use Rattle.std.specs.Prelude.{◌≡◌, ◌≢◌, ◌⊎◌, ◌++◌, [], ◌∷◌, ℕ, List, Some, None, OnOk, IfErr, IsTrue, Contains};
+ghost use Rattle.word_base.specs.Counts.{FetchFailed, StoreFailed};
+ghost use Rattle.word_base.specs.Files.{Unchanged};
+ghost use Rattle.word_base.specs.SinkAnswers.{PutRefused};
+ghost use Rattle.cc_driver.specs.Build.{Builds, IsToldWith, IsAccepted, IsNotYet, IsTooLong, ReadCause, TooLongCause, status_of};
+ghost use Rattle.cc_driver.specs.Line.{Puts, status_line};
+ghost use Rattle.cc_driver.specs.RunAnswer.{RunAnswers};
+ghost use Rattle.cc_driver.specs.RunText.{answer_text, stop_status, file_status, fault_status};
+
+use crate::build::{BuildFault, build};
+use crate::fault::{FileFault, RunFault};
+use crate::line::{report, report_run, say};
+use crate::run::run;
+use crate::run_text::answer_text;
+use c25_isa::{RunOutcome, Stop};
+use std::alloc::Global;
+use word_base::{Shelf, Sink, SinkFault};
+
+// The status of a build.
+fn status(outcome: Result<(), BuildFault>) -> u8
+    ensures { result ≡ status_of outcome }
+{
+    match outcome {
+        Ok(()) => 0,
+        Err(BuildFault::NotYet) => 1,
+        Err(BuildFault::Read) => 3,
+        Err(BuildFault::Write) => 4,
+        Err(BuildFault::NoMemory) => 5,
+        Err(BuildFault::TooLong) => 9,
+    }
+}
+
+/// Builds an image, and puts the line of a refusal. The clauses are those of the top call.
+pub fn answer_build<F: Shelf, K: Sink>(
+    alloc: Global,
+    source: &str,
+    image: &str,
+    shelf: &mut F,
+    out: &mut K,
+) -> u8
+    ensures statuses { Contains (0 ∷ 1 ∷ 2 ∷ 3 ∷ 4 ∷ 5 ∷ 6 ∷ 7 ∷ 9 ∷ []) result }
+    ensures words_taken { result ≢ 2 }
+    ensures done { result ≡ 0 → IsTrue F.tells → Builds (F.file shelf.old) (F.file shelf.new) source.now image.now }
+    ensures refused { result ≡ 1 → IsTrue F.tells → IsToldWith (F.file shelf.old) source.now IsNotYet }
+    ensures read { result ≡ 3 → ReadCause F.tells (F.file shelf.old source.now) (F.counts shelf.old) (F.counts shelf.new) }
+    ensures write { result ≡ 4 → (IsTrue F.tells → IsToldWith (F.file shelf.old) source.now IsAccepted)
+        × StoreFailed (F.counts shelf.old) (F.counts shelf.new) }
+    ensures too_long { result ≡ 9 → TooLongCause F.tells (F.file shelf.old source.now) (F.counts shelf.old) (F.counts shelf.new) }
+    ensures of_thin { IsTrue F.tells → IsToldWith (F.file shelf.old) source.now IsAccepted
+        → ¬ FetchFailed (F.counts shelf.old) (F.counts shelf.new)
+        → ¬ StoreFailed (F.counts shelf.old) (F.counts shelf.new)
+        → (result ≡ 0) ⊎ (result ≡ 5) }
+    ensures of_other { IsTrue F.tells → IsToldWith (F.file shelf.old) source.now IsNotYet
+        → ¬ FetchFailed (F.counts shelf.old) (F.counts shelf.new)
+        → (result ≡ 1) ⊎ (result ≡ 5) }
+    ensures of_long { IsTrue F.tells → IsToldWith (F.file shelf.old) source.now IsTooLong
+        → ¬ FetchFailed (F.counts shelf.old) (F.counts shelf.new)
+        → (result ≡ 9) ⊎ (result ≡ 5) }
+    ensures of_absent { IsTrue F.tells → F.file shelf.old source.now ≡ None → (result ≡ 3) ⊎ (result ≡ 5) }
+    ensures others { (n : List ℕ) → n ≢ image.now → F.file shelf.new n ≡ F.file shelf.old n }
+    ensures kept { result ≢ 0 → result ≢ 4 → Unchanged (F.file shelf.old) (F.file shelf.new) }
+    ensures no_store { result ≢ 0 → result ≢ 4 → result ≢ 5
+        → (F.counts shelf.new).store_faults ≡ (F.counts shelf.old).store_faults }
+    ensures line { Puts K.tells (status_line result source.now)
+        (K.bytes out.old) (K.bytes out.new) (K.faults out.old) (K.faults out.new) }
+{
+    let outcome = build(alloc, source, image, shelf);
+    if let Err(fault) = outcome {
+        report(alloc, out, fault, source);
+    }
+    status(outcome)
+}
+
+// The status where a file is refused.
+fn file_status(fault: FileFault) -> u8
+    ensures { result ≡ file_status fault }
+{
+    match fault {
+        FileFault::Read => 3,
+        FileFault::TooLong
+        | FileFault::BadLine { .. }
+        | FileFault::BadRange { .. }
+        | FileFault::TooManyWords { .. } => 9,
+    }
+}
+
+// The status of a refused run.
+fn fault_status(fault: RunFault) -> u8
+    ensures { result ≡ fault_status fault }
+{
+    match fault {
+        RunFault::Image(why) | RunFault::Ports(why) => file_status(why),
+        RunFault::NoMemory => 5,
+    }
+}
+
+// The status of a run whose answer was put.
+fn stop_status(stop: Stop) -> u8
+    ensures { result ≡ stop_status stop }
+{
+    match stop {
+        Stop::Ended(_) => 0,
+        Stop::Trap { .. } => 7,
+        Stop::Running => 6,
+    }
+}
+
+// Puts what a run of so many steps came to.
+fn put_answer<K: Sink>(
+    alloc: Global,
+    out: &mut K,
+    outcome: &RunOutcome,
+    steps: u64,
+) -> Result<(), SinkFault>
+    ensures told { OnOk result
+        (IsTrue K.tells → K.bytes out.new ≡ K.bytes out.old ++ answer_text steps outcome.now.outs outcome.now.stop) }
+    ensures refused { IfErr result (PutRefused K.tells (answer_text steps outcome.now.outs outcome.now.stop)
+        (K.bytes out.old) (K.bytes out.new) (K.faults out.old) (K.faults out.new)) }
+{
+    match answer_text(alloc, outcome, steps) {
+        Ok(text) => out.put(alloc, &text),
+        Err(_) => Err(SinkFault::NoMemory),
+    }
+}
+
+/// Runs an image, and puts what that came to or the line of a refusal.
+pub fn answer_run<F: Shelf, K: Sink>(
+    alloc: Global,
+    image: &str,
+    ports: &str,
+    steps: u64,
+    shelf: &mut F,
+    out: &mut K,
+) -> u8
+    ensures answers { RunAnswers F.tells (F.file shelf.old) image.now ports.now steps (F.counts shelf.old) (F.counts shelf.new)
+        (record { tells = K.tells; before = K.bytes out.old; now = K.bytes out.new;
+            faults_before = K.faults out.old; faults_now = K.faults out.new }) result }
+    ensures unchanged { Unchanged (F.file shelf.old) (F.file shelf.new) }
+    ensures no_store { (F.counts shelf.new).store_faults ≡ (F.counts shelf.old).store_faults }
+{
+    let outcome = match run(alloc, image, ports, steps, shelf) {
+        Ok(outcome) => outcome,
+        Err(fault) => {
+            report_run(alloc, out, fault, image, ports);
+            return fault_status(fault);
+        }
+    };
+    match put_answer(alloc, out, &outcome, steps) {
+        Ok(()) => stop_status(outcome.stop),
+        Err(SinkFault::Failed) => 4,
+        Err(SinkFault::NoMemory) => {
+            say(alloc, out, b"want of memory\n");
+            5
+        }
+    }
+}
