@@ -25,7 +25,9 @@ use Rattle.clap.specs.declared.parser.matches.ArgMatches.{ArgMatches}
 use Rattle.clap.specs.declared.parser.matches.Found.{Found}
 use Rattle.clap.specs.declared.parser.matches.MatchedArg.{MatchedArg}
 use Rattle.clap.proofs.CallerLemmas.{entry_by_id, same_rules_by_id}
+use Rattle.clap.proofs.ValueTestLemmas.{Accepts-accepts}
 use Rattle.clap.proofs.WalkLemmas.{both}
+use Rattle.cc_words.specs.Asked.{in_range}
 use Rattle.cc_words.specs.Commands.{name_rule, run_app, steps_rule}
 
 -- ---- what an entry gives, where no group has one and each value passes Q
@@ -101,13 +103,13 @@ tail_is r s rs ss e = ap (λ l. tail_or l) e
 
 three : (x y z : Arg) → rule_of x ≡ name_rule (codes "image") → rule_of y ≡ name_rule (codes "ports") → rule_of z ≡ steps_rule → IsRunList (x ∷ y ∷ z ∷ [])
 three x y z ex ey ez = record {
-    has = omega arith;
-    parser_is = λ d. ap (λ r. r.parser) ez;
-    id_is = λ d. ap (λ r. r.id) ez;
-    one = only;
-    groups = All-cons P x (y ∷ z ∷ []) (no_groups_of x (ap (λ r. r.is_simple) ex)) (All-cons P y (z ∷ []) (no_groups_of y (ap (λ r. r.is_simple) ey))
-        (All-cons P z [] (no_groups_of z (ap (λ r. r.is_simple) ez)) (All-nil P)));
-  }
+  has = omega arith;
+  parser_is = λ d. ap (λ r. r.parser) ez;
+  id_is = λ d. ap (λ r. r.id) ez;
+  one = only;
+  groups = All-cons P x (y ∷ z ∷ []) (no_groups_of x (ap (λ r. r.is_simple) ex)) (All-cons P y (z ∷ []) (no_groups_of y (ap (λ r. r.is_simple) ey))
+      (All-cons P z [] (no_groups_of z (ap (λ r. r.is_simple) ez)) (All-nil P)));
+}
   where
     P : Arg → Type 0
     P a = a.groups.items ≡ []
@@ -170,7 +172,7 @@ no_steps : codes "steps" ≡ [] → ⊥
 no_steps e = apart 0 5 (sym (ap length e)) (omega arith)
 
 pub steps_in_range : (old : Command) (m : ArgMatches) → IsParsedFrom old m → app_of old ≡ run_app → (t : Text) → one_text (found_of m) (codes "steps") ≡ Some t
-    → IsUnsignedIn 1 100000000 t
+    → in_range t ≡ true
 steps_in_range old m p is t found =
     let rules : map rule_of (args_of old) ≡ run_app.top.rules = ap (λ (a : App). a.top.rules) is in
     let run = run_list (args_of old) rules in
@@ -179,5 +181,5 @@ steps_in_range old m p is t found =
     let no_groups : groups_of old ≡ [] = nil_of_empty (groups_of old) outer.0 in
     let globals : (out-Command old).has_globals ≡ false = not_true (out-Command old).has_globals (both _ _ (both _ _ outer.1).1).0 in
     let parsed = p.parsed (p.from.globals ∙ globals) in
-    text_passed p.built (found_of m) (codes "steps") (IsUnsignedIn 1 100000000) t parsed.values ((p.from.same_groups run.groups).1 ∙ no_groups)
-    no_steps (reads old m p run) (passes old m p run) found
+    Accepts-accepts false steps_parser t (text_passed p.built (found_of m) (codes "steps") (IsUnsignedIn 1 100000000) t parsed.values ((p.from.same_groups run.groups).1 ∙ no_groups)
+    no_steps (reads old m p run) (passes old m p run) found)
