@@ -52,24 +52,28 @@ unfolding asked_to_build
 two_names a b pa pb = rw (taken (codes "build") a b (no_flag a pa) (no_flag b pb)) (names (codes "build") a b (no_flag a pa) (no_flag b pb))
 
 -- `build` of fewer, and of more
-pub no_names : asked (codes "build" ∷ []) ≡ None
-unfolding asked_to_build clap_on_literals
+not_taken : (words : List Text) → is_taken build_app words ≡ false → asked_to_build words ≡ None
+unfolding asked_to_build
+not_taken words e = ap (λ b. cond b (build_of (matches_of build_app words)) None) e
+
+no_names : is_taken build_app (codes "build" ∷ []) ≡ false
+unfolding clap_on_literals
 no_names = refl
 
-pub one_name : (a : Text) → is_plain_word a ≡ true → asked (codes "build" ∷ a ∷ []) ≡ None
-unfolding asked_to_build clap_on_literals
-one_name a pa =
-    let fa = no_flag a pa in
-    rw (fa.0, fa.1, fa.2) refl
+one_name : (a : Text) → IsNoFlag a → is_taken build_app (codes "build" ∷ a ∷ []) ≡ false
+unfolding clap_on_literals
+one_name a fa = rw (fa.0, fa.1, fa.2) refl
 
-pub more_names : (a b c : Text) (rest : List Text) → is_plain_word a ≡ true → is_plain_word b ≡ true → is_plain_word c ≡ true
-    → asked (codes "build" ∷ a ∷ b ∷ c ∷ rest) ≡ None
-unfolding asked_to_build clap_on_literals
-more_names a b c rest pa pb pc =
-    let fa = no_flag a pa in
-    let fb = no_flag b pb in
-    let fc = no_flag c pc in
-    rw (fa.0, fa.1, fa.2, fb.0, fb.1, fb.2, fc.0, fc.1, fc.2) refl
+more_names : (a b c : Text) (rest : List Text) → IsNoFlag a → IsNoFlag b → IsNoFlag c → is_taken build_app (codes "build" ∷ a ∷ b ∷ c ∷ rest) ≡ false
+unfolding clap_on_literals
+more_names a b c rest fa fb fc = rw (fa.0, fa.1, fa.2, fb.0, fb.1, fb.2, fc.0, fc.1, fc.2) refl
+
+pub other_names : BuildsNoOtherNames
+other_names = (
+  not_taken (codes "build" ∷ []) no_names,
+  λ a pa. not_taken (codes "build" ∷ a ∷ []) (one_name a (no_flag a pa)),
+  λ a b pa pb c rest pc. not_taken (codes "build" ∷ a ∷ b ∷ c ∷ rest) (more_names a b c rest (no_flag a pa) (no_flag b pb) (no_flag c pc)),
+)
 
 number_in : (m : Text) → in_range m ≡ true → steps_of m ≡ Some (digits_value 10 (without_leading_plus m))
 number_in m e = ap (λ b. cond b (Some (digits_value 10 (without_leading_plus m))) None) e
@@ -109,7 +113,7 @@ steps_fault_by : (p : ValueParser) (m : Text) (t : Bool) → accepts false p m �
 steps_fault_by p m true e = rw e refl
 steps_fault_by p m false e = rw e refl
 
-pub or_nothing : (kinds : Kinds) → or_else kinds [] ≡ kinds
+or_nothing : (kinds : Kinds) → or_else kinds [] ≡ kinds
 or_nothing [] = refl
 or_nothing (k ∷ ks) = refl
 
@@ -195,10 +199,6 @@ steps_attached a b pa pb m =
           ∙ or_nothing (or_else (steps_fault p m) []) ∙ or_nothing (steps_fault p m);
       rows = λ p how. attached_rows a b m (no_flag a pa) (no_flag b pb) p how;
     })
-
--- `build` of other numbers of names
-pub other_names : BuildsNoOtherNames
-other_names = (no_names, one_name, λ a b pa pb c rest pc. more_names a b c rest pa pb pc)
 
 -- ---- the range of the steps
 

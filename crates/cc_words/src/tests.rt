@@ -87,16 +87,22 @@ const ROWS: [(&str, &str); 65] = [
     ("run a p -r 1", "refused"),
 ];
 
+// The words of a line.
+fn split(alloc: Global, line: &str) -> Result<Vec<String>, Fail> {
+    let mut words = Vec::new(alloc);
+    if line != "" {
+        for word in line.split(' ') {
+            words.push(String::from_str(alloc, word)?)?;
+        }
+    }
+    Ok(words)
+}
+
 #[test]
 fn rows(rt: HostRuntime) -> Result<(), Fail> {
     let alloc = rt.alloc();
     for (line, wanted) in ROWS {
-        let mut words = Vec::new(alloc);
-        for word in line.split(' ') {
-            if line != "" {
-                words.push(String::from_str(alloc, word)?)?;
-            }
-        }
+        let words = split(alloc, line)?;
         let got = shown(alloc, requested(alloc, words.as_slice())?)?;
         assert_eq!(rt; got.as_str(), wanted, "{line}");
     }
