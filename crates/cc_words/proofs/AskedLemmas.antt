@@ -1,20 +1,16 @@
 -- From what `clap` says of its matches to what the words ask for.
-use Rattle.std.proofs.Common.{◌≡◌, ◌∙◌, ◌<◌, ◌^◌, ◌&&◌, ℕ, Bool, true, false, refl, sym, ap, subst, arith, List, [], ◌∷◌, length, Option, Some, None, Result, Ok, Err, codes, nat_lt, lt-ltb, ltb-true, true≢false, not, cond, option_map}
+use Rattle.std.proofs.Common.{◌≡◌, ◌∙◌, ℕ, Bool, true, false, refl, sym, ap, subst, List, [], ◌∷◌, Option, Some, None, Result, Ok, Err, codes, cond, option_map}
 use Rattle.std.specs.Prelude.{option_and_then, slice_get, unwrap_or, ℤ, pos, String, string_bytes}
 use Rattle.std.specs.declared.alloc.Global.{Global}
 use Rattle.clap.specs.Words.{NarrowsTo}
 use Rattle.clap.specs.declared.builder.value_parser.ValueParser.{ValueParser}
 use Rattle.clap.specs.declared.builder.value_parser.ValueParser.TheVariants as parser
-use Rattle.std.specs.List.{list_all}
-use Rattle.std.specs.Borrow.{Bor}
-use Rattle.std.specs.Char.{digit_value}
 use Rattle.std.specs.Str.{bytes_eq}
 use Rattle.std.proofs.lemmas.Slice.Eq.{bytes_eq-Decides}
-use Rattle.std.specs.Str.Parse.{AllDigits, ParsesUnsigned, digits_value, without_leading_plus}
+use Rattle.std.specs.Str.Parse.{ParsesUnsigned, digits_value, without_leading_plus}
 use Rattle.clap.specs.Matches.{ReadsOne, first_value, one_text}
 use Rattle.clap.specs.Values.{IsUnsignedIn}
 use Rattle.clap.proofs.ValueTestLemmas.{accepts-Accepts}
-use Rattle.clap.specs.Walk.{is_empty}
 use Rattle.clap.specs.Words.{App, Row, Text, first_of, is_simple, is_simple_and_free, matches_of, one_of, rows_of}
 use Rattle.clap.specs.declared.parser.matches.Found.{Found}
 use Rattle.clap.proofs.WalkLemmas.{both, first_value-rows, one_text-rows}

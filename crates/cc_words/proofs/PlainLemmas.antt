@@ -1,25 +1,22 @@
 -- What `clap` makes of words that are no options.
-use Rattle.std.proofs.Common.{◌≡◌, ◌∙◌, ◌&&◌, ◌||◌, ℕ, Bool, true, false, not, refl, sym, ap, subst, List, [], ◌∷◌, Option, Some, None, codes, true≢false, cond}
-use Rattle.std.specs.Prelude.{◌==◌, ◌^◌, nat_lt, option_and_then, option_map, unwrap_or, IfSome, ◌++◌, ◌≤◌}
+use Rattle.std.proofs.Common.{◌≡◌, ◌∙◌, ℕ, Bool, true, false, refl, sym, ap, subst, List, [], ◌∷◌, Option, Some, None, codes, true≢false, cond}
+use Rattle.std.specs.Prelude.{◌==◌, option_and_then, option_map, unwrap_or, IfSome, ◌++◌, ◌≤◌}
 use Rattle.std.specs.Str.{bytes_eq}
 use Rattle.std.specs.Str.Parse.{digits_value, without_leading_plus}
-use Rattle.std.proofs.lemmas.Bool.{eqb-true}
 use Rattle.clap.specs.Values.{IsUnsignedIn}
 use Rattle.clap.proofs.ValueTestLemmas.{accepts-Accepts}
 use Rattle.clap.specs.Lexer.{long_of, short_of}
 use Rattle.clap.specs.Words.{App, Kinds, Row, Text, fault_of, first_of, matches_of, new_app, one_of, reading_of, with_rule}
-use Rattle.clap.specs.ValueTests.{accepts, is_numeral}
+use Rattle.clap.specs.ValueTests.{accepts}
 use Rattle.clap.specs.declared.builder.value_parser.ValueParser.{ValueParser}
 use Rattle.clap.specs.declared.builder.value_parser.ValueParser.TheVariants as parser
 use Rattle.clap.specs.declared.builder.value_parser.Reading.TheVariants as reading
-use Rattle.std.specs.Char.{digit_value}
-use Rattle.std.specs.List.{list_all}
 use Rattle.clap.specs.Kinds.{or_else, value_kinds}
 use Rattle.clap.specs.Walk.{is_empty}
 use Rattle.clap.proofs.OnLiterals.{clap_on_literals}
 use Rattle.cc_words.specs.Asked.{Asked, ToBuild, ToRun, asked, asked_to_build, asked_to_run, build_of, in_range, is_plain_word, is_taken, steps_of, run_of}
 use Rattle.cc_words.specs.Commands.{build_app, name_rule, run_app, steps_rule}
-use Rattle.cc_words.specs.Plain.{AsksForSteps, BuildsNoOtherNames, BuildsTwoNames, HasSteps, RunsFor, RunsTwoNames, RunsWithSteps, RunsWithStepsAttached, RunsWithStepsFirst}
+use Rattle.cc_words.specs.Plain.{AsksForSteps, BuildsNoOtherNames, HasSteps, RunsFor, RunsWithSteps, RunsWithStepsAttached, RunsWithStepsFirst}
 
 -- the word is no `--`, no `--name` and no `-n`
 abbrev IsNoFlag : Text → Type 0

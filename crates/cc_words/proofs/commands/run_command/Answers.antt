@@ -1,9 +1,9 @@
 use Rattle.std.proofs.Common.{rules, ◌≡◌, ◌∙◌, [], ◌∷◌, ap, ap₂, codes}
-use Rattle.std.specs.Prelude.{Some, true}
+use Rattle.std.specs.Prelude.{Some}
 use Rattle.std.proofs.lemmas.Result.{IfOk-weaker}
-use Rattle.clap.specs.Words.{App, Rule, app_of, new_app, new_rule, rule_of, with_rule}
+use Rattle.clap.specs.Words.{Rule, app_of, new_app, new_rule, rule_of, with_rule}
 use Rattle.clap.specs.declared.builder.value_parser.ValueParser.TheVariants as parser
-use Rattle.cc_words.specs.Commands.{name_rule, run_app, steps_rule}
+use Rattle.cc_words.specs.Commands.{name_rule, steps_rule}
 use Rattle.cc_words.proofs.AskedLemmas.{narrowed}
 use Rattle.cc_words.proofs.commands.run_command.Goals as goal
 
