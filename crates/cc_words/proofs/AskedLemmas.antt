@@ -1,54 +1,31 @@
 -- From what `clap` says of its matches to what the words ask for.
-use Rattle.std.proofs.Common.{◌≡◌, ◌∙◌, ◌<◌, ◌^◌, ◌&&◌, ℕ, Bool, true, false, refl, sym, ap, subst, arith, List, [], ◌∷◌, length, Option, Some, None, Result, Ok, Err, codes, nat_lt, lt-ltb, ltb-true, true≢false, not, cond, option_map}
+use Rattle.std.proofs.Common.{◌≡◌, ◌∙◌, ℕ, Bool, true, false, refl, sym, ap, subst, List, [], ◌∷◌, Option, Some, None, Result, Ok, Err, codes, cond, option_map}
 use Rattle.std.specs.Prelude.{option_and_then, slice_get, unwrap_or, ℤ, pos, String, string_bytes}
 use Rattle.std.specs.declared.alloc.Global.{Global}
 use Rattle.clap.specs.Words.{NarrowsTo}
 use Rattle.clap.specs.declared.builder.value_parser.ValueParser.{ValueParser}
 use Rattle.clap.specs.declared.builder.value_parser.ValueParser.TheVariants as parser
-use Rattle.std.specs.List.{list_all}
-use Rattle.std.specs.Borrow.{Bor}
-use Rattle.std.specs.Char.{digit_value}
 use Rattle.std.specs.Str.{bytes_eq}
 use Rattle.std.proofs.lemmas.Slice.Eq.{bytes_eq-Decides}
-use Rattle.std.specs.Str.Parse.{AllDigits, ParsesUnsigned, digits_value, without_leading_plus}
+use Rattle.std.specs.Str.Parse.{ParsesUnsigned, digits_value, without_leading_plus}
 use Rattle.clap.specs.Matches.{ReadsOne, first_value, one_text}
-use Rattle.clap.specs.ValueTests.{is_numeral}
-use Rattle.clap.specs.Walk.{is_empty}
+use Rattle.clap.specs.Values.{IsUnsignedIn}
+use Rattle.clap.proofs.ValueTestLemmas.{accepts-Accepts}
 use Rattle.clap.specs.Words.{App, Row, Text, first_of, is_simple, is_simple_and_free, matches_of, one_of, rows_of}
 use Rattle.clap.specs.declared.parser.matches.Found.{Found}
 use Rattle.clap.proofs.WalkLemmas.{both, first_value-rows, one_text-rows}
-use Rattle.cc_words.specs.Asked.{Asked, ToBuild, ToRun, asked, asked_to_build, asked_to_run, build_of, is_taken, number_of, run_of, texts_of}
+use Rattle.cc_words.specs.Asked.{Asked, ToBuild, ToRun, asked, asked_to_build, asked_to_run, build_of, in_range, is_taken, steps_of, run_of, texts_of}
 use Rattle.cc_words.specs.Commands.{build_app, run_app}
 
 -- what a getter gave is what the rows hold
 pub text_is : (f : Found) (id : Text) (o : Option Text) → o ≡ first_value f id → first_of id (rows_of f) ≡ o
 text_is f id o e = sym (first_value-rows f id) ∙ sym e
 
-digits_back : (ds : List ℕ) → AllDigits 10 ds → list_all (λ d. nat_lt (digit_value d) 10) ds ≡ true
-digits_back [] h = refl
-digits_back (d ∷ ds) h = rw (lt-ltb (digit_value d) 10 h.0) (digits_back ds h.1)
-
-digits_from : (ds : List ℕ) → list_all (λ d. nat_lt (digit_value d) 10) ds ≡ true → AllDigits 10 ds
-digits_from [] e = tt
-digits_from (d ∷ ds) e =
-    let parts = both _ _ e in
-    (ltb-true _ _ parts.0, digits_from ds parts.1)
-
-abbrev fits : Text → Bool
-fits text = is_numeral (without_leading_plus text) && nat_lt (digits_value 10 (without_leading_plus text)) (2 ^ 64)
-
-number_is : (E : Type 0) (text : Text) (r : Option ℕ) → ReadsOne (λ bs (x : Result ℕ E). ParsesUnsigned 64 10 bs x) text r → number_of text ≡ r
-number_is E text (Some n) h =
-    let ds = without_leading_plus text in
-    rw (lt-ltb 0 (length ds) h.0.0.0, digits_back ds h.0.0.1, lt-ltb (digits_value 10 ds) (2 ^ 64) h.0.1) (ap Some (sym h.1))
-number_is E text None h = go (fits text) refl
-  where
-    go : (b : Bool) → fits text ≡ b → number_of text ≡ None
-    go false t = rw t refl
-    go true t =
-        let outer = both _ _ t in
-        let inner = both _ _ outer.0 in
-        absurd (h.1 ((ltb-true _ _ inner.0, digits_from (without_leading_plus text) inner.1), ltb-true _ _ outer.1))
+number_is : (E : Type 0) (text : Text) (r : Option ℕ) → in_range text ≡ true → ReadsOne (λ bs (x : Result ℕ E). ParsesUnsigned 64 10 bs x) text r → steps_of text ≡ r
+number_is E text (Some n) fits h = ap (λ b. cond b (Some (digits_value 10 (without_leading_plus text))) None) fits ∙ ap Some (sym h.1)
+number_is E text None fits h =
+    let is : IsUnsignedIn 1 100000000 text = accepts-Accepts false (parser.Unsigned 1 100000000) text fits in
+    absurd (h.1 (is.0, is.1))
 
 weaker : {E : Type 0} (G : List ℕ → Result ℕ E → Type 0) → ((u : List ℕ) (x : Result ℕ E) → G u x → ParsesUnsigned 64 10 u x)
     → (text : Text) (r : Option ℕ) → ReadsOne G text r → ReadsOne (λ bs (x : Result ℕ E). ParsesUnsigned 64 10 bs x) text r
@@ -57,13 +34,13 @@ weaker G only text None h = (h.0, only text (Err h.0) h.1)
 
 -- the number that a typed getter gave
 pub number_given : {E : Type 0} (G : List ℕ → Result ℕ E → Type 0) → ((u : List ℕ) (x : Result ℕ E) → G u x → ParsesUnsigned 64 10 u x)
-    → (f : Found) (id : Text) (r : Option ℕ) → (one_text f id ≡ None → r ≡ None) → ((t : Text) → one_text f id ≡ Some t → ReadsOne G t r)
-    → option_and_then number_of (one_of id (rows_of f)) ≡ r
-number_given {E} G only f id r none value = ap (option_and_then number_of) (sym (one_text-rows f id)) ∙ go (one_text f id) refl
+    → (f : Found) (id : Text) (r : Option ℕ) → ((t : Text) → one_text f id ≡ Some t → in_range t ≡ true) → (one_text f id ≡ None → r ≡ None) → ((t : Text) → one_text f id ≡ Some t → ReadsOne G t r)
+    → option_and_then steps_of (one_of id (rows_of f)) ≡ r
+number_given {E} G only f id r fits none value = ap (option_and_then steps_of) (sym (one_text-rows f id)) ∙ go (one_text f id) refl
   where
-    go : (o : Option Text) → one_text f id ≡ o → option_and_then number_of o ≡ r
+    go : (o : Option Text) → one_text f id ≡ o → option_and_then steps_of o ≡ r
     go None e = sym (none e)
-    go (Some t) e = number_is E t r (weaker G only t r (value t e))
+    go (Some t) e = number_is E t r (fits t e) (weaker G only t r (value t e))
 
 pub simple_of : (a : App) → is_simple_and_free a ≡ true → is_simple a ≡ true
 simple_of a e = (both _ _ e).0
@@ -86,7 +63,7 @@ pub no_ports : (f : Found) (i : Text) → Some i ≡ first_value f (codes "image
 no_ports f i ei e = rw (text_is f (codes "image") (Some i) ei, text_is f (codes "ports") None e) refl
 
 pub steps_found : (f : Found) (i p : Text) (n : Option ℕ) → Some i ≡ first_value f (codes "image") → Some p ≡ first_value f (codes "ports")
-    → option_and_then number_of (one_of (codes "steps") (rows_of f)) ≡ n → option_map (ToRun i p) n ≡ run_of (rows_of f)
+    → option_and_then steps_of (one_of (codes "steps") (rows_of f)) ≡ n → option_map (ToRun i p) n ≡ run_of (rows_of f)
 steps_found f i p n ei ep en = rw (text_is f (codes "image") (Some i) ei, text_is f (codes "ports") (Some p) ep, en) refl
 
 -- the words are taken, and the matches say what they ask for

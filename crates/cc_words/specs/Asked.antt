@@ -1,11 +1,11 @@
 -- What the words of a command line ask for, by what `clap` makes of them.
-use Rattle.std.specs.Prelude.{◌≡◌, ◌&&◌, ◌||◌, ◌==◌, ◌^◌, ℕ, Bool, true, not, List, [], ◌∷◌, map}
-use Rattle.std.specs.Prelude.{Option, Some, None, String, string_bytes, codes, if◌then◌else◌, nat_lt}
+use Rattle.std.specs.Prelude.{◌≡◌, ◌==◌, ℕ, Bool, true, not, List, [], ◌∷◌, map}
+use Rattle.std.specs.Prelude.{Option, Some, None, String, string_bytes, codes, if◌then◌else◌}
 use Rattle.std.specs.Prelude.{option_map, option_and_then}
 use Rattle.std.specs.Str.{bytes_eq}
 use Rattle.std.specs.Str.Parse.{digits_value, without_leading_plus}
 use Rattle.std.specs.declared.alloc.Global.{Global}
-use Rattle.clap.specs.ValueTests.{is_numeral, is_unsigned_in}
+use Rattle.clap.specs.ValueTests.{is_unsigned_in}
 use Rattle.clap.specs.Walk.{is_empty}
 use Rattle.clap.specs.Words.{App, Row, Text, fault_of, first_of, matches_of, one_of}
 use Rattle.cc_words.specs.Commands.{build_app, run_app}
@@ -27,12 +27,14 @@ abbrev pub told : Request → Asked
 told (request.Build source image) = ToBuild source.now image.now
 told (request.Run image ports steps) = ToRun image.now ports.now steps
 
--- the number that the text writes in decimal, below 2 ^ 64; a plus may stand first
-abbrev pub number_of : Text → Option ℕ
-number_of text =
-    let digits = without_leading_plus text in
-    if is_numeral digits && nat_lt (digits_value 10 digits) (2 ^ 64)
-    then Some (digits_value 10 digits) else None
+-- the text writes a number of steps: in decimal, from 1 to 100,000,000; a plus may stand first
+abbrev pub in_range : Text → Bool
+in_range = is_unsigned_in 1 100000000
+
+-- the number of steps that the text writes
+abbrev pub steps_of : Text → Option ℕ
+steps_of text =
+    if in_range text then Some (digits_value 10 (without_leading_plus text)) else None
 
 -- what the matches of `build` ask for
 abbrev pub build_of : List Row → Option Asked
@@ -44,7 +46,7 @@ build_of rows = option_and_then (λ source.
 abbrev pub run_of : List Row → Option Asked
 run_of rows = option_and_then (λ image. option_and_then (λ ports.
     option_map (ToRun image ports)
-    (option_and_then number_of (one_of (codes "steps") rows)))
+    (option_and_then steps_of (one_of (codes "steps") rows)))
     (first_of (codes "ports") rows))
     (first_of (codes "image") rows)
 
@@ -70,16 +72,15 @@ abbrev pub asked : List Text → Option Asked
 asked [] = None
 asked (name ∷ rest) = asked_by name (name ∷ rest)
 
--- the words ask for this
+-- the words ask for this, and for nothing
 abbrev pub Asks : List Text → Asked → Type 0
 Asks words what = asked words ≡ Some what
+
+abbrev pub AsksNothing : List Text → Type 0
+AsksNothing words = asked words ≡ None
 
 -- a word that `clap` takes for no option: it doesn't begin with `-`, or is `-` alone
 abbrev pub is_plain_word : Text → Bool
 is_plain_word [] = true
 is_plain_word (x ∷ []) = true
 is_plain_word (x ∷ y ∷ rest) = not (x == 45)
-
--- the text writes a number of steps: in decimal, from 1 to 100,000,000; a plus may stand first
-abbrev pub in_range : Text → Bool
-in_range = is_unsigned_in 1 100000000

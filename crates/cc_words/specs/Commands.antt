@@ -1,5 +1,5 @@
 -- The commands, as `clap` reads them.
-use Rattle.std.specs.Prelude.{true, List, [], ◌∷◌, Some, codes}
+use Rattle.std.specs.Prelude.{true, [], ◌∷◌, Some, codes}
 use Rattle.clap.specs.Words.{App, Rule, Text, new_app, new_rule, with_rule}
 use Rattle.clap.specs.declared.builder.value_parser.ValueParser.TheVariants as parser
 

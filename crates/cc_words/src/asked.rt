@@ -1,7 +1,7 @@
 //! What the words ask for.
-ghost use Rattle.std.specs.Prelude.{◌≡◌, IfOk, option_map};
-ghost use Rattle.clap.specs.Words.{found_of, rows_of};
-ghost use Rattle.cc_words.specs.Asked.{asked, asked_to_build, asked_to_run, build_of, run_of, texts_of, told};
+ghost use Rattle.std.specs.Prelude.{◌≡◌, ℕ, List, Some, true, IfOk, codes, option_map};
+ghost use Rattle.clap.specs.Words.{found_of, one_text, rows_of};
+ghost use Rattle.cc_words.specs.Asked.{asked, asked_to_build, asked_to_run, build_of, in_range, run_of, texts_of, told};
 
 use crate::commands::{build_command, parsed, run_command};
 use clap::ArgMatches;
@@ -77,6 +77,8 @@ fn build_found<'a>(matches: &ArgMatches<'a>) -> Option<Request<'a>>
 
 // What the matches of `run` ask for.
 fn run_found<'a>(matches: &ArgMatches<'a>) -> Option<Request<'a>>
+    requires { (text : List ℕ) → one_text (found_of matches.now) (codes "steps") ≡ Some text
+        → in_range text ≡ true }
     ensures { option_map told result ≡ run_of (rows_of (found_of matches.now)) }
 {
     let image = matches.get_str("image")?;

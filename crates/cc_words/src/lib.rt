@@ -3,5 +3,10 @@
 
 mod asked;
 mod commands;
+mod plain;
 
 pub use asked::{Request, requested};
+pub use plain::plain_words;
+
+#[cfg(test)]
+mod tests;

@@ -1,4 +1,4 @@
-use Rattle.std.proofs.Common.{◌∙◌, ap, sym}
+use Rattle.std.proofs.Common.{◌∙◌}
 use Rattle.cc_words.proofs.AskedLemmas.{no_command_first}
 use Rattle.cc_words.proofs.asked.requested.Goals as goal
 

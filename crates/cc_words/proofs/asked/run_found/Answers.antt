@@ -1,5 +1,4 @@
-use Rattle.std.proofs.Common.{◌∙◌, ap, option_map, ℕ, List, Option, Some, None, codes, ◌≡◌}
-use Rattle.std.specs.Prelude.{option_and_then}
+use Rattle.std.proofs.Common.{◌∙◌, ap, option_map, Some, None, codes}
 use Rattle.std.specs.Str.Parse.{ParsesUnsigned, ExplainsUnsignedError, HasUnsignedDigitsIfOk}
 use Rattle.clap.specs.Words.{found_of}
 use Rattle.cc_words.specs.Asked.{told}
@@ -20,10 +19,10 @@ returns-in_err-steps c =
     ap (option_map told) c.from_residual-in_err-steps.ensures
     ∙ steps_found (found_of c.args.matches.now) c.in_ok-image.image.now c.in_ok-ports.ports.now None c.in_ok-image.ensures c.in_ok-ports.ensures
     (number_given (λ bs r. ParsesUnsigned 64 10 bs r × ExplainsUnsignedError 10 bs r × HasUnsignedDigitsIfOk bs r) (λ u x g. g.0)
-    (found_of c.args.matches.now) (codes "steps") None c.in_err-steps.ensures.none c.in_err-steps.ensures.value)
+    (found_of c.args.matches.now) (codes "steps") None c.requires c.in_err-steps.ensures.none c.in_err-steps.ensures.value)
 
 pub returns : goal.returns
 returns c =
     steps_found (found_of c.args.matches.now) c.in_ok-image.image.now c.in_ok-ports.ports.now (Some c.in_ok-steps.steps) c.in_ok-image.ensures c.in_ok-ports.ensures
     (number_given (λ bs r. ParsesUnsigned 64 10 bs r × ExplainsUnsignedError 10 bs r × HasUnsignedDigitsIfOk bs r) (λ u x g. g.0)
-    (found_of c.args.matches.now) (codes "steps") (Some c.in_ok-steps.steps) c.in_ok-steps.ensures.none c.in_ok-steps.ensures.value)
+    (found_of c.args.matches.now) (codes "steps") (Some c.in_ok-steps.steps) c.requires c.in_ok-steps.ensures.none c.in_ok-steps.ensures.value)

@@ -1,6 +1,7 @@
 use Rattle.clap.specs.Words.{app_of, found_of, rows_of}
 use Rattle.cc_words.specs.Asked.{texts_of}
 use Rattle.cc_words.proofs.AskedLemmas.{run_refused, run_taken}
+use Rattle.cc_words.proofs.BoundLemmas.{steps_in_range}
 use Rattle.cc_words.proofs.asked.run_request.Goals as goal
 
 pub returns-in-Some : goal.returns-in-Some
@@ -11,3 +12,8 @@ returns-in-Some c =
 pub returns-in-None : goal.returns-in-None
 returns-in-None c =
     run_refused (app_of c.in_ok-command.command) (texts_of c.args.words.now) c.in_ok-command.ensures (rw c.in-None.is at c.in_ok-matches.ensures)
+
+pub run_found-requires : goal.run_found-requires
+run_found-requires c =
+    let found = rw c.in-Some.is at c.in_ok-matches.ensures in
+    steps_in_range c.in_ok-command.command c.in-Some.matches found.2 c.in_ok-command.ensures

@@ -1,16 +1,16 @@
 use Rattle.std.proofs.Common.{rules, ◌≡◌, ◌∙◌, [], ◌∷◌, ap, ap₂, codes}
-use Rattle.std.specs.Prelude.{Some, true}
+use Rattle.std.specs.Prelude.{Some}
 use Rattle.std.proofs.lemmas.Result.{IfOk-weaker}
-use Rattle.clap.specs.Words.{App, Rule, app_of, new_app, new_rule, rule_of, with_rule}
+use Rattle.clap.specs.Words.{Rule, app_of, new_app, new_rule, rule_of, with_rule}
 use Rattle.clap.specs.declared.builder.value_parser.ValueParser.TheVariants as parser
-use Rattle.cc_words.specs.Commands.{name_rule, run_app, steps_rule}
+use Rattle.cc_words.specs.Commands.{name_rule, steps_rule}
 use Rattle.cc_words.proofs.AskedLemmas.{narrowed}
 use Rattle.cc_words.proofs.commands.run_command.Goals as goal
 
 pub returns : goal.returns
 returns c =
     let given = c.value_parser-steps.ensures.given in
-    let made : c.range.result ≡ parser.Unsigned 1 100000000 = 
+    let made : c.range.result ≡ parser.Unsigned 1 100000000 =
     narrowed c.value_parser.result c.range.result _ _ c.value_parser.ensures (ap Some c.new-4.ensures.start) (ap Some c.new-4.ensures.end) c.range.ensures in
     let has : c.value_parser-steps.result.value_parser ≡ Some (parser.Unsigned 1 100000000) = given.1 ∙ ap Some (given.2 ∙ made) in
     let image_is : rule_of c.required-image.result ≡ name_rule (codes "image") = search rules in

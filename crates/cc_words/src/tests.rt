@@ -1,0 +1,110 @@
+//! Words that are taken, and words that are refused.
+use crate::{Request, requested};
+use std::alloc::Global;
+use std::test::Fail;
+
+// What is asked for, as a line.
+fn shown(alloc: Global, request: Option<Request>) -> Result<String, Fail> {
+    Ok(match request {
+        None => String::from_str(alloc, "refused")?,
+        Some(Request::Build { source, image }) => format!(in alloc; "build {source} {image}")?,
+        Some(
+            Request::Run {
+                image,
+                ports,
+                steps,
+            },
+        ) => format!(in alloc; "run {image} {ports} {steps}")?,
+    })
+}
+
+// Words, and what they ask for.
+const ROWS: [(&str, &str); 65] = [
+    ("", "refused"),
+    ("build", "refused"),
+    ("run", "refused"),
+    ("bild a b", "refused"),
+    ("Build a b", "refused"),
+    ("help", "refused"),
+    ("help build", "refused"),
+    ("--help", "refused"),
+    ("--version", "refused"),
+    ("-- build a b", "refused"),
+    ("-x build a b", "refused"),
+    ("build a b", "build a b"),
+    ("build -- a b", "build a b"),
+    ("build a -- b", "build a b"),
+    ("build a b --", "build a b"),
+    ("build -- -a --steps", "build -a --steps"),
+    ("build -- a --", "build a --"),
+    ("build - -", "build - -"),
+    ("build help b", "build help b"),
+    ("build build run", "build build run"),
+    ("build a a", "build a a"),
+    ("build  b", "build  b"),
+    ("build a=b c", "build a=b c"),
+    ("build a", "refused"),
+    ("build a b c", "refused"),
+    ("build a b -- c", "refused"),
+    ("build -a b", "refused"),
+    ("build a -b", "refused"),
+    ("build a b -r 1", "refused"),
+    ("build a b --budget 5", "refused"),
+    ("build a b --steps 5", "refused"),
+    ("build --help", "refused"),
+    ("build a b --help", "refused"),
+    ("build a b -h", "refused"),
+    ("build a b -V", "refused"),
+    ("build a b --version", "refused"),
+    ("build a b --help=x", "refused"),
+    ("run a p", "run a p 1000000"),
+    ("run -- a p", "run a p 1000000"),
+    ("run -- a -p", "run a -p 1000000"),
+    ("run a --steps 4 -- -p", "run a -p 4"),
+    ("run a p --steps 4", "run a p 4"),
+    ("run a p --steps=4", "run a p 4"),
+    ("run --steps 4 a p", "run a p 4"),
+    ("run --steps=4 a p", "run a p 4"),
+    ("run a --steps 4 p", "run a p 4"),
+    ("run a p --steps +4", "run a p 4"),
+    ("run a p --steps 004", "run a p 4"),
+    ("run a p --steps 100000000", "run a p 100000000"),
+    ("run a p --steps 100000001", "refused"),
+    ("run a p --steps 18446744073709551617", "refused"),
+    ("run a p --steps 0", "refused"),
+    ("run a p --steps -1", "refused"),
+    ("run a p --steps x", "refused"),
+    ("run a p --steps 4x", "refused"),
+    ("run a p --steps=", "refused"),
+    ("run a p --steps", "refused"),
+    ("run a p --steps 1 --steps 2", "refused"),
+    ("run a p --step 4", "refused"),
+    ("run a p --step=4", "refused"),
+    ("run a", "refused"),
+    ("run a p q", "refused"),
+    ("run -h", "refused"),
+    ("run --version", "refused"),
+    ("run a p -r 1", "refused"),
+];
+
+// The words of a line.
+fn split(alloc: Global, line: &str) -> Result<Vec<String>, Fail> {
+    let mut words = Vec::new(alloc);
+    if line != "" {
+        for word in line.split(' ') {
+            words.push(String::from_str(alloc, word)?)?;
+        }
+    }
+    Ok(words)
+}
+
+#[test]
+fn rows(rt: HostRuntime) -> Result<(), Fail> {
+    let alloc = rt.alloc();
+    for (line, wanted) in ROWS {
+        let words = split(alloc, line)?;
+        let got = shown(alloc, requested(alloc, words.as_slice())?)?;
+        assert_eq!(rt; got.as_str(), wanted, "{line}");
+    }
+    Ok(())
+}
