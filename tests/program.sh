@@ -50,11 +50,76 @@ wants 9 'file refused: long.c too long' build long.c b.img
 wants 0 '' build a.c a.c
 cmp -s a.c "$top/examples/first.img" || fail 'an image over its own source'
 
-# A line that can't be put changes no status.
+# A line of refusal that can't be put changes no status; an answer that can't be put has status 4.
 if [ -w /dev/full ]; then
     "$top/c25cc" bild > /dev/full
     [ $? -eq 2 ] || fail 'a full output changed the status'
+    "$top/c25cc" run "$top/examples/first.img" b.c > /dev/full
+    [ $? -eq 9 ] || fail 'a full output changed the status of a refused run'
 fi
+
+# Runs: images of hand-assembled words.
+image() { echo "C25 IMAGE 1"; echo "words $1"; echo "$2"; echo end; }
+: > none
+image 5 'c806 ca07 6005 e105 ce1f' > seven.img
+image 7 'c806 ca07 6000 ca64 cb0f 4700 ce1f' > divide.img
+image 1 ce26 > pop.img
+image 5 'c806 8000 e100 ff80 0001' > echo.img
+image 2 'ff80 0000' > loop.img
+seven='1 0007
+returned 0007'
+wants 0 "$seven" run seven.img none
+wants 0 "$seven" run seven.img none --steps 5
+wants 6 '1 0007
+running after 4 steps' run seven.img none --steps 4
+wants 0 'returned 000e' run divide.img none
+wants 7 'trap stack-empty at 0000' run pop.img none
+wants 6 'running after 1000000 steps' run loop.img none
+wants 0 '1 0005
+returned 0007' run "$top/examples/first.img" none
+printf '0 000a\r\n0 B\n\n0   000C' > ports
+wants 0 '1 000a
+1 000b
+1 000c
+input 0 ended' run echo.img ports
+printf '16 0001\n' > p
+wants 9 'file refused: p bad line 1' run seven.img p
+head -n 3 seven.img > cut.img
+wants 9 'file refused: cut.img bad line 4' run cut.img none
+wants 3 'read fault: absent' run absent none
+wants 3 'read fault: absent' run cut.img absent
+wants 2 'words refused' run seven.img
+wants 2 'words refused' run seven.img none --steps 0
+wants 2 'words refused' run seven.img none --steps 100000001
+wants 2 'words refused' run seven.img none --help
+[ -w /dev/full ] && { "$top/c25cc" run seven.img none > /dev/full; [ $? -eq 4 ] || fail 'an answer to a full output'; }
+
+# Damaged images, images of any words and any bytes end with a status that a run has, whatever the input.
+answers() {
+    timeout 20 "$top/c25cc" run "$1" ports --steps 20000 > /dev/null
+    case $? in
+        0 | 6 | 7 | 9) ;;
+        *) fail "a run of $1, kept as $(cp "$1" /tmp/c25cc.failed && echo /tmp/c25cc.failed)" ;;
+    esac
+}
+size=$(wc -c < "$top/examples/first.img")
+for at in $(seq 0 "$size"); do
+    head -c "$at" "$top/examples/first.img" > damaged
+    answers damaged
+    { head -c "$at" "$top/examples/first.img"; printf '?'; tail -c +$((at + 2)) "$top/examples/first.img"; } > damaged
+    answers damaged
+done
+for seed in $(seq 1 60); do
+    awk -v seed="$seed" 'BEGIN {
+        srand(seed)
+        print "C25 IMAGE 1\nwords 64"
+        for (i = 0; i < 64; i++) printf "%04x%s", (i == 0 ? 51206 : int(rand() * 65536)), (i % 8 == 7 ? "\n" : " ")
+        print "end"
+    }' > random
+    answers random
+    awk -v seed="$seed" 'BEGIN { srand(seed); for (i = 0; i < 300; i++) printf "%c", int(rand() * 128) }' > random
+    answers random
+done
 
 started=$(date +%s%N)
 "$top/c25cc" > /dev/null

@@ -134,8 +134,13 @@ pub fn answer_run<F: Shelf, K: Sink>(
     out: &mut K,
 ) -> u8
     ensures answers { RunAnswers F.tells (F.file shelf.old) image.now ports.now steps (F.counts shelf.old) (F.counts shelf.new)
-        (record { tells = K.tells; before = K.bytes out.old; now = K.bytes out.new;
-            faults_before = K.faults out.old; faults_now = K.faults out.new }) result }
+        (record {
+          tells = K.tells;
+          before = K.bytes out.old;
+          now = K.bytes out.new;
+          faults_before = K.faults out.old;
+          faults_now = K.faults out.new;
+        }) result }
     ensures unchanged { Unchanged (F.file shelf.old) (F.file shelf.new) }
     ensures no_store { (F.counts shelf.new).store_faults ≡ (F.counts shelf.old).store_faults }
 {

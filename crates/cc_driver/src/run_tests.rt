@@ -68,7 +68,8 @@ fn answers(rt: HostRuntime) -> Result<(), Fail> {
     wants(&rt, three, empty, b"", 7, "trap no-ram at 0000\n")?;
 
     // The image of `int main(void){__out(1,5); return 7;}`.
-    let built = b"C25 IMAGE 1\nwords 8\nc806 d001 0005 6000 e100 d001 0007 ce1f\nfunc main 0000 0007\nend\n";
+    let built =
+        b"C25 IMAGE 1\nwords 8\nc806 d001 0005 6000 e100 d001 0007 ce1f\nfunc main 0000 0007\nend\n";
     wants(&rt, RUN, built, b"0 1\n", 0, "1 0005\nreturned 0007\n")
 }
 
