@@ -84,8 +84,14 @@ wants 0 '1 000a
 input 0 ended' run echo.img ports
 printf '16 0001\n' > p
 wants 9 'file refused: p bad line 1' run seven.img p
-head -n 3 seven.img > cut.img
-wants 9 'file refused: cut.img bad line 4' run cut.img none
+for lines in 1 2 3; do
+    head -n "$lines" seven.img > cut.img
+    wants 9 "file refused: cut.img bad line $((lines + 1))" run cut.img none
+done
+sed 's/words 5/words 65537/' seven.img > many.img
+wants 9 'file refused: many.img too long 65537' run many.img none
+sed 's/end/func f 0003 0002\nend/' seven.img > range.img
+wants 9 'file refused: range.img bad range line 4' run range.img none
 wants 3 'read fault: absent' run absent none
 wants 3 'read fault: absent' run cut.img absent
 wants 2 'words refused' run seven.img
