@@ -1,6 +1,6 @@
 -- What a run of an image comes to, and when it is refused (docs/COMMANDS.md, "run").
-use Rattle.std.specs.Prelude.{◌≡◌, ℕ, ◌+◌, ◌<◌, ◌≤◌, Bool, false, IsTrue, List, length, Option, Some}
-use Rattle.word_base.specs.Counts.{Counts, RoseBy}
+use Rattle.std.specs.Prelude.{◌≡◌, ℕ, ◌≤◌, Bool, IsTrue, List, length, Option, Some}
+use Rattle.word_base.specs.Counts.{Counts}
 use Rattle.word_base.specs.Files.{Files}
 use Rattle.word_base.specs.Ports.{Outputs, input_of}
 use Rattle.c25_isa.specs.declared.event.Stop.{Stop}
@@ -13,7 +13,7 @@ use Rattle.c25_image.specs.declared.fault.ImageFault.TheVariants as image_faults
 use Rattle.c25_image.specs.ImageText.{image_text}
 use Rattle.c25_image.specs.ImageFaults.{IsWhole, Says}
 use Rattle.c25_image.specs.PortText.{PortText, IsFirstBad}
-use Rattle.cc_driver.specs.Build.{ReadCause}
+use Rattle.cc_driver.specs.Build.{ReadCause, LongCause}
 use Rattle.cc_driver.specs.declared.fault.FileFault.{FileFault}
 use Rattle.cc_driver.specs.declared.fault.FileFault.TheVariants.{Read, TooLong, BadLine, BadRange, TooManyWords}
 use Rattle.cc_driver.specs.declared.fault.RunFault.{RunFault}
@@ -55,11 +55,6 @@ pub record AreFetched (files : Files) (image ports : List ℕ) (P : List ℕ →
 -- the told files run so
 abbrev pub Ran : Files → List ℕ → List ℕ → ℕ → Outputs → Stop → Type 0
 Ran files image ports steps outs stands = AreFetched files image ports (λ i p. RunsTo i p steps outs stands)
-
--- the file is longer than its limit, as it was told or as it was read
-pub record LongCause (tells : Bool) (held : Option (List ℕ)) (limit : ℕ) (before now : Counts) : Type 0 where
-  pub told : IsTrue tells → (bytes : List ℕ) × (held ≡ Some bytes) × (limit < length bytes)
-  pub not_told : tells ≡ false → RoseBy (limit + 1) before.bytes_read now.bytes_read
 
 -- why a fetch is refused
 abbrev pub FetchCause : Bool → Option (List ℕ) → ℕ → Counts → Counts → FileFault → Type 0
