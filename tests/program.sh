@@ -43,7 +43,9 @@ wants 3 'read fault: .' build . a.img
 wants 1 'source refused: not yet' build b.c a.img
 cmp -s a.img "$top/examples/first.img" || fail 'a refused build changed its image'
 wants 4 '' build a.c no_folder/a.img
-head -c 1048576 /dev/zero > long.c
+printf 'int main(void){return 12ab;}' > bad.c
+wants 1 'source refused: bad constant at byte 22' build bad.c b.img
+head -c 1048576 /dev/zero | tr '\0' ' ' > long.c
 wants 1 'source refused: not yet' build long.c b.img
 printf ' ' >> long.c
 wants 9 'file refused: long.c too long' build long.c b.img

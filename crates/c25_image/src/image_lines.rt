@@ -9,8 +9,7 @@ use crate::decimal::read_decimal;
 use crate::hex::{front_spaced, front_word};
 use c25_isa::FunctionRange;
 use std::alloc::Global;
-use std::str;
-use word_base::{NoMemory, Text, is_name};
+use word_base::{NoMemory, Text, name_text};
 
 /// The words on a full line.
 pub(crate) const WORDS_TO_A_LINE: usize = 8;
@@ -40,19 +39,6 @@ pub(crate) fn read_row(words: &mut Vec<u16>, line: &[u8]) -> Result<bool, NoMemo
     Ok(rest.is_empty())
 }
 
-// The name that the bytes are.
-fn read_name(bytes: &[u8]) -> Option<&str>
-    ensures { MatchOption result (IsName bytes.now → ⊥) (λ name. IsName name.now × (name.now ≡ bytes.now)) }
-{
-    if !is_name(bytes) {
-        return None;
-    }
-    match str::from_utf8(bytes) {
-        Ok(name) => Some(name),
-        Err(_) => None,
-    }
-}
-
 // The two words that the bytes spell, each behind one space.
 fn read_pair(bytes: &[u8]) -> Option<(u16, u16)>
     requires { length bytes.now ≡ 10 }
@@ -76,7 +62,7 @@ fn range_parts(line: &[u8]) -> Option<(&str, u16, u16)>
         return None;
     }
     let (name, range) = rest.split_at(rest.len() - RANGE_BYTES);
-    let name = read_name(name)?;
+    let name = name_text(name)?;
     let (first, last) = read_pair(range)?;
     Some((name, first, last))
 }

@@ -1,45 +1,30 @@
 -- The statuses that there are.
-use Rattle.std.proofs.Common.{◌≡◌, ◌≢◌, ◌∙◌, ℕ, Bool, List, [], ◌∷◌, Ok, Err, refl, sym, subst, lit<}
-use Rattle.std.specs.Prelude.{Contains, Result}
+use Rattle.std.proofs.Common.{ℕ, Bool, List, [], ◌∷◌, refl, sym, subst, lit<}
+use Rattle.std.specs.Prelude.{Contains}
 use Rattle.word_base.specs.Counts.{Counts}
 use Rattle.word_base.specs.Files.{Files}
 use Rattle.c25_isa.specs.declared.event.Stop.{Stop}
 use Rattle.c25_isa.specs.declared.event.Stop.TheVariants as stop
-use Rattle.cc_driver.specs.Build.{status_of}
-use Rattle.cc_driver.specs.RunAnswer.{RunAnswers, Put, Unput, Refuse, Sinks}
+use Rattle.cc_driver.specs.Build.{build_status}
+use Rattle.cc_driver.specs.RunAnswer.{RunAnswers, Put, Unput, Refuse}
+use Rattle.cc_driver.specs.Line.{Sinks}
 use Rattle.cc_driver.specs.RunText.{stop_status, file_status, fault_status}
-use Rattle.cc_driver.specs.declared.build.BuildFault.{BuildFault}
-use Rattle.cc_driver.specs.declared.build.BuildFault.TheVariants as build_fault
+use Rattle.cc_driver.specs.declared.fault.BuildFault.{BuildFault}
+use Rattle.cc_driver.specs.declared.fault.BuildFault.TheVariants as build_fault
 use Rattle.cc_driver.specs.declared.fault.FileFault.{FileFault}
 use Rattle.cc_driver.specs.declared.fault.FileFault.TheVariants as file_fault
 use Rattle.cc_driver.specs.declared.fault.RunFault.{RunFault}
 use Rattle.cc_driver.specs.declared.fault.RunFault.TheVariants as fault
 
-abbrev IsStatus : ℕ → Type 0
+abbrev pub IsStatus : ℕ → Type 0
 IsStatus n = Contains (0 ∷ 1 ∷ 2 ∷ 3 ∷ 4 ∷ 5 ∷ 6 ∷ 7 ∷ 9 ∷ []) n
 
-of_build : (r : Result (Unit {0}) BuildFault) → IsStatus (status_of r)
-of_build (Ok u) = (0, lit< tt, refl)
-of_build (Err build_fault.NotYet) = (1, lit< tt, refl)
-of_build (Err build_fault.Read) = (3, lit< tt, refl)
-of_build (Err build_fault.Write) = (4, lit< tt, refl)
-of_build (Err build_fault.NoMemory) = (5, lit< tt, refl)
-of_build (Err build_fault.TooLong) = (8, lit< tt, refl)
-
-pub build_status : (n : ℕ) (r : Result (Unit {0}) BuildFault) → n ≡ status_of r → IsStatus n
-build_status n r e = subst IsStatus (sym e) (of_build r)
-
-not_two : (r : Result (Unit {0}) BuildFault) → status_of r ≢ 2
-not_two (Ok u) = λ e. cc
-not_two (Err build_fault.NotYet) = λ e. cc
-not_two (Err build_fault.Read) = λ e. cc
-not_two (Err build_fault.Write) = λ e. cc
-not_two (Err build_fault.NoMemory) = λ e. cc
-not_two (Err build_fault.TooLong) = λ e. cc
-
--- a build has words that were taken
-pub build_takes_words : (n : ℕ) (r : Result (Unit {0}) BuildFault) → n ≡ status_of r → n ≢ 2
-build_takes_words n r e two = not_two r (sym e ∙ two)
+pub build_has_status : (f : BuildFault) → IsStatus (build_status f)
+build_has_status (build_fault.Source why) = (1, lit< tt, refl)
+build_has_status build_fault.Read = (3, lit< tt, refl)
+build_has_status build_fault.Write = (4, lit< tt, refl)
+build_has_status build_fault.NoMemory = (5, lit< tt, refl)
+build_has_status build_fault.TooLong = (8, lit< tt, refl)
 
 of_stop : (s : Stop) → IsStatus (stop_status s)
 of_stop (stop.Ended ending) = (0, lit< tt, refl)

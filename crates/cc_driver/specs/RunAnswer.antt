@@ -5,17 +5,9 @@ use Rattle.word_base.specs.Files.{Files}
 use Rattle.word_base.specs.Ports.{Outputs}
 use Rattle.c25_isa.specs.declared.event.Stop.{Stop}
 use Rattle.cc_driver.specs.declared.fault.RunFault.{RunFault}
-use Rattle.cc_driver.specs.Line.{Puts}
+use Rattle.cc_driver.specs.Line.{Puts, Sinks}
 use Rattle.cc_driver.specs.Run.{Ran, RunRefused}
 use Rattle.cc_driver.specs.RunText.{answer_text, stop_status, fault_line, fault_status}
-
--- what a sink was and is: whether it tells its bytes, its bytes before and now, and its counts of faults before and now
-pub record Sinks : Type 0 where
-  pub tells : Bool
-  pub before : List ℕ
-  pub now : List ℕ
-  pub faults_before : ℕ
-  pub faults_now : ℕ
 
 -- where the run stands, and the whole answer was put
 pub record Answered (tells : Bool) (files : Files) (image ports : List ℕ) (steps : ℕ) (sinks : Sinks) (status : ℕ) : Type 0 where

@@ -3,13 +3,15 @@ ghost use Rattle.std.specs.Prelude.{◌≡◌, ◌≢◌, ◌⊎◌, ◌++◌, [
 ghost use Rattle.word_base.specs.Counts.{FetchFailed, StoreFailed};
 ghost use Rattle.word_base.specs.Files.{Unchanged};
 ghost use Rattle.word_base.specs.SinkAnswers.{PutRefused};
-ghost use Rattle.cc_driver.specs.Build.{Builds, IsToldWith, IsAccepted, IsNotYet, IsTooLong, ReadCause, TooLongCause, status_of};
+ghost use Rattle.cc_driver.specs.Build.{Builds, IsToldWith, IsAccepted, IsRefusedFor, IsTooLong, ReadCause, TooLongCause, build_status};
+ghost use Rattle.cc_driver.specs.BuildAnswer.{SourceRefused, RefusesFor};
 ghost use Rattle.cc_driver.specs.Line.{Puts, status_line};
 ghost use Rattle.cc_driver.specs.RunAnswer.{RunAnswers};
+ghost use Rattle.cc_driver.specs.declared.fault.SourceFault.{SourceFault};
 ghost use Rattle.cc_driver.specs.RunText.{answer_text, stop_status, file_status, fault_status};
 
-use crate::build::{BuildFault, build};
-use crate::fault::{FileFault, RunFault};
+use crate::build::build;
+use crate::fault::{BuildFault, FileFault, RunFault};
 use crate::line::{report, report_run, say};
 use crate::run::run;
 use crate::run_text::answer_text;
@@ -17,17 +19,16 @@ use c25_isa::{RunOutcome, Stop};
 use std::alloc::Global;
 use word_base::{Shelf, Sink, SinkFault};
 
-// The status of a build.
-fn status(outcome: Result<(), BuildFault>) -> u8
-    ensures { result ≡ status_of outcome }
+// The status of a refused build.
+fn build_status(fault: BuildFault) -> u8
+    ensures { result ≡ build_status fault }
 {
-    match outcome {
-        Ok(()) => 0,
-        Err(BuildFault::NotYet) => 1,
-        Err(BuildFault::Read) => 3,
-        Err(BuildFault::Write) => 4,
-        Err(BuildFault::NoMemory) => 5,
-        Err(BuildFault::TooLong) => 9,
+    match fault {
+        BuildFault::Source(_) => 1,
+        BuildFault::Read => 3,
+        BuildFault::Write => 4,
+        BuildFault::NoMemory => 5,
+        BuildFault::TooLong => 9,
     }
 }
 
@@ -42,7 +43,14 @@ pub fn answer_build<F: Shelf, K: Sink>(
     ensures statuses { Contains (0 ∷ 1 ∷ 2 ∷ 3 ∷ 4 ∷ 5 ∷ 6 ∷ 7 ∷ 9 ∷ []) result }
     ensures words_taken { result ≢ 2 }
     ensures done { result ≡ 0 → IsTrue F.tells → Builds (F.file shelf.old) (F.file shelf.new) source.now image.now }
-    ensures refused { result ≡ 1 → IsTrue F.tells → IsToldWith (F.file shelf.old) source.now IsNotYet }
+    ensures refused { result ≡ 1 → SourceRefused F.tells (F.file shelf.old) source.now
+        (record {
+          tells = K.tells;
+          before = K.bytes out.old;
+          now = K.bytes out.new;
+          faults_before = K.faults out.old;
+          faults_now = K.faults out.new;
+        }) }
     ensures read { result ≡ 3 → ReadCause F.tells (F.file shelf.old source.now) (F.counts shelf.old) (F.counts shelf.new) }
     ensures write { result ≡ 4 → (IsTrue F.tells → IsToldWith (F.file shelf.old) source.now IsAccepted)
         × StoreFailed (F.counts shelf.old) (F.counts shelf.new) }
@@ -51,9 +59,15 @@ pub fn answer_build<F: Shelf, K: Sink>(
         → ¬ FetchFailed (F.counts shelf.old) (F.counts shelf.new)
         → ¬ StoreFailed (F.counts shelf.old) (F.counts shelf.new)
         → (result ≡ 0) ⊎ (result ≡ 5) }
-    ensures of_other { IsTrue F.tells → IsToldWith (F.file shelf.old) source.now IsNotYet
+    ensures of_other { (fault : SourceFault) → IsTrue F.tells → IsToldWith (F.file shelf.old) source.now (IsRefusedFor fault)
         → ¬ FetchFailed (F.counts shelf.old) (F.counts shelf.new)
-        → (result ≡ 1) ⊎ (result ≡ 5) }
+        → RefusesFor fault (record {
+          tells = K.tells;
+          before = K.bytes out.old;
+          now = K.bytes out.new;
+          faults_before = K.faults out.old;
+          faults_now = K.faults out.new;
+        }) result }
     ensures of_long { IsTrue F.tells → IsToldWith (F.file shelf.old) source.now IsTooLong
         → ¬ FetchFailed (F.counts shelf.old) (F.counts shelf.new)
         → (result ≡ 9) ⊎ (result ≡ 5) }
@@ -62,14 +76,16 @@ pub fn answer_build<F: Shelf, K: Sink>(
     ensures kept { result ≢ 0 → result ≢ 4 → Unchanged (F.file shelf.old) (F.file shelf.new) }
     ensures no_store { result ≢ 0 → result ≢ 4 → result ≢ 5
         → (F.counts shelf.new).store_faults ≡ (F.counts shelf.old).store_faults }
-    ensures line { Puts K.tells (status_line result source.now)
+    ensures line { result ≢ 1 → Puts K.tells (status_line result source.now)
         (K.bytes out.old) (K.bytes out.new) (K.faults out.old) (K.faults out.new) }
 {
-    let outcome = build(alloc, source, image, shelf);
-    if let Err(fault) = outcome {
-        report(alloc, out, fault, source);
+    match build(alloc, source, image, shelf) {
+        Ok(()) => 0,
+        Err(fault) => {
+            report(alloc, out, fault, source);
+            build_status(fault)
+        }
     }
-    status(outcome)
 }
 
 // The status where a file is refused.

@@ -1,8 +1,68 @@
-//! Why runs are refused.
+//! Why builds and runs are refused.
 ghost use Rattle.std.specs.Prelude.{◌≡◌};
 
+use c_lexer::LexFault;
 use c25_image::{ImageFault, PortFault};
 use word_base::NoMemory;
+
+/// Why a source is refused. A place is a byte offset in the source.
+#[derive(Clone, Copy, Debug, PartialEq, Eq)]
+pub enum SourceFault {
+    /// A byte with which no blank and no token begins.
+    BadByte { at: u32 },
+    /// A comment that isn't closed, at its start.
+    OpenComment { at: u32 },
+    /// What begins as a constant and is none, at its start.
+    BadConstant { at: u32 },
+    /// A name of more than 127 characters, at its start.
+    LongName { at: u32 },
+    /// There are more than 200,000 tokens. The count is 200,001: no more are read.
+    TooManyTokens { count: u64 },
+    /// It isn't one that is compiled so far.
+    NotYet,
+}
+
+/// Why a build is refused.
+#[derive(Clone, Copy, Debug, PartialEq, Eq)]
+pub enum BuildFault {
+    /// The source couldn't be read, or there is none.
+    Read,
+    /// The source is longer than its limit.
+    TooLong,
+    Source(SourceFault),
+    /// The image couldn't be stored.
+    Write,
+    NoMemory,
+}
+
+impl From<NoMemory> for BuildFault {
+    ghost use Rattle.cc_driver.specs.declared.fault.BuildFault.TheVariants as fault;
+
+    ghost from_gives = { λ _ e. e ≡ fault.NoMemory };
+
+    fn from(_: NoMemory) -> Self {
+        BuildFault::NoMemory
+    }
+}
+
+impl From<LexFault> for BuildFault {
+    ghost use Rattle.cc_driver.specs.SourceFaults.{of_lex_fault};
+
+    ghost from_gives = { λ given e. e ≡ of_lex_fault given };
+
+    fn from(fault: LexFault) -> Self {
+        match fault {
+            LexFault::BadByte { at } => BuildFault::Source(SourceFault::BadByte { at }),
+            LexFault::OpenComment { at } => BuildFault::Source(SourceFault::OpenComment { at }),
+            LexFault::BadConstant { at } => BuildFault::Source(SourceFault::BadConstant { at }),
+            LexFault::LongName { at } => BuildFault::Source(SourceFault::LongName { at }),
+            LexFault::TooManyTokens { count } => {
+                BuildFault::Source(SourceFault::TooManyTokens { count })
+            }
+            LexFault::NoMemory => BuildFault::NoMemory,
+        }
+    }
+}
 
 /// Why a file is refused.
 #[derive(Clone, Copy, Debug, PartialEq, Eq)]

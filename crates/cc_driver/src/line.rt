@@ -1,11 +1,10 @@
 //! The lines that the commands put.
-ghost use Rattle.std.specs.Prelude.{◌≡◌, ◌++◌, Some, Err, IfOk, string_bytes};
-ghost use Rattle.cc_driver.specs.Build.{status_of};
-ghost use Rattle.cc_driver.specs.Line.{Puts, status_line};
+ghost use Rattle.std.specs.Prelude.{◌≡◌, ◌++◌, Some, IfOk, string_bytes};
+ghost use Rattle.cc_driver.specs.SourceFaults.{source_line};
+ghost use Rattle.cc_driver.specs.Line.{Puts, build_line};
 ghost use Rattle.cc_driver.specs.RunText.{file_line, fault_line};
 
-use crate::build::BuildFault;
-use crate::fault::{FileFault, RunFault};
+use crate::fault::{BuildFault, FileFault, RunFault, SourceFault};
 use std::alloc::Global;
 use word_base::{NoMemory, Sink};
 
@@ -17,13 +16,48 @@ pub fn say<K: Sink>(alloc: Global, out: &mut K, line: &[u8])
     let _ = out.put(alloc, line);
 }
 
+// The line that refuses a source.
+fn source_line(alloc: Global, fault: SourceFault) -> Result<String, NoMemory>
+    ensures { IfOk result (λ line. string_bytes line ≡ source_line fault) }
+{
+    let line = match fault {
+        SourceFault::BadByte { at } => {
+            format!(in alloc; "source refused: bad byte at byte {at}\n")?
+        }
+        SourceFault::OpenComment { at } => {
+            format!(in alloc; "source refused: open comment at byte {at}\n")?
+        }
+        SourceFault::BadConstant { at } => {
+            format!(in alloc; "source refused: bad constant at byte {at}\n")?
+        }
+        SourceFault::LongName { at } => {
+            format!(in alloc; "source refused: long name at byte {at}\n")?
+        }
+        SourceFault::TooManyTokens { count } => {
+            format!(in alloc; "source refused: too many tokens {count}\n")?
+        }
+        SourceFault::NotYet => format!(in alloc; "source refused: not yet\n")?,
+    };
+    Ok(line)
+}
+
+// Puts the line that refuses a source.
+fn report_source<K: Sink>(alloc: Global, out: &mut K, fault: SourceFault)
+    ensures { Puts K.tells (Some (source_line fault))
+        (K.bytes out.old) (K.bytes out.new) (K.faults out.old) (K.faults out.new) }
+{
+    if let Ok(line) = source_line(alloc, fault) {
+        say(alloc, out, line.as_bytes());
+    }
+}
+
 /// Puts the line of a refused build, where it has one.
 pub fn report<K: Sink>(alloc: Global, out: &mut K, fault: BuildFault, source: &str)
-    ensures { Puts K.tells (status_line (status_of (Err fault)) source.now)
+    ensures { Puts K.tells (build_line source.now fault)
         (K.bytes out.old) (K.bytes out.new) (K.faults out.old) (K.faults out.new) }
 {
     match fault {
-        BuildFault::NotYet => say(alloc, out, b"source refused: not yet\n"),
+        BuildFault::Source(why) => report_source(alloc, out, why),
         BuildFault::Read => say_name(alloc, out, "read fault: ", source, "\n"),
         BuildFault::Write => {}
         BuildFault::NoMemory => say(alloc, out, b"want of memory\n"),

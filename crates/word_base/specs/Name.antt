@@ -1,4 +1,4 @@
--- The names that functions may have: those of ISO 9899:1990 6.1.2, in at most 127 characters.
+-- Names: those of ISO 9899:1990 6.1.2, in at most 127 characters.
 use Rattle.std.specs.Prelude.{◌≡◌, ◌≤◌, ◌⊎◌, ℕ, List, length, slice_index, All}
 
 -- from one code to another

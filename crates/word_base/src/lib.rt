@@ -22,7 +22,7 @@ pub use gate::{Gate, OpenGate};
 pub use items::Items;
 pub use mem_shelf::{MemFile, MemShelf};
 pub use mem_sink::MemSink;
-pub use name::is_name;
+pub use name::{is_name, is_name_part, is_name_start, name_text};
 pub use out_sink::OutSink;
 pub use outcome::{Ending, Outcome, UndefinedKind};
 pub use port::{Outs, PortWord, Ports};

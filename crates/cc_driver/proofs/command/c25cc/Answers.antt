@@ -1,5 +1,6 @@
 use Rattle.std.proofs.Common.{lit<, refl, sym, subst}
-use Rattle.cc_driver.specs.Build.{IsToldWith, IsAccepted, IsNotYet}
+use Rattle.cc_driver.specs.Build.{IsToldWith, IsAccepted, IsRefusedFor}
+use Rattle.cc_driver.specs.Line.{Puts, status_line}
 use Rattle.cc_driver.proofs.WordsLemmas.{same_source}
 use Rattle.cc_driver.specs.Run.{AtFetch}
 use Rattle.cc_driver.specs.RunAnswer.{Refuse}
@@ -31,7 +32,13 @@ returns-in-Ok-Some-Build-clause-of_thin g c = λ source image asks told thin.
     c.answer_build.ensures.of_thin told (subst (λ s. IsToldWith (g.F.Shelf.file c.args.shelf.now) s IsAccepted) (sym same) thin)
 
 pub returns-in-Ok-Some-Build-clause-of_other : goal.returns-in-Ok-Some-Build-clause-of_other
-returns-in-Ok-Some-Build-clause-of_other g c = λ source image asks told other.
+returns-in-Ok-Some-Build-clause-of_other g c = λ source image asks fault told has.
     let this = rw (c.in-Ok-Some-Build.field-0-is, c.in-Ok-Some-Build.field-0-0-is) at c.in-Ok-Some-Build.ensures in
     let same = same_source _ _ _ _ _ this asks in
-    c.answer_build.ensures.of_other told (subst (λ s. IsToldWith (g.F.Shelf.file c.args.shelf.now) s IsNotYet) (sym same) other)
+    c.answer_build.ensures.of_other fault told (subst (λ s. IsToldWith (g.F.Shelf.file c.args.shelf.now) s (IsRefusedFor fault)) (sym same) has)
+
+pub returns-in-Ok-Some-Build-clause-line : goal.returns-in-Ok-Some-Build-clause-line
+returns-in-Ok-Some-Build-clause-line g c = λ source image asks other.
+    let this = rw (c.in-Ok-Some-Build.field-0-is, c.in-Ok-Some-Build.field-0-0-is) at c.in-Ok-Some-Build.ensures in
+    let same = same_source _ _ _ _ _ this asks in
+    subst (λ s. Puts g.K.Sink.tells (status_line c.answer_build.result s) (g.K.Sink.bytes c.args.out.now) (g.K.Sink.bytes c.answer_build.new.out) (g.K.Sink.faults c.args.out.now) (g.K.Sink.faults c.answer_build.new.out)) same (c.answer_build.ensures.line other)

@@ -1,0 +1,21 @@
+-- What a build whose source is refused answers and puts (docs/COMMANDS.md, "build").
+use Rattle.std.specs.Prelude.{◌≡◌, ◌⊎◌, ℕ, Bool, IsTrue, List, Some}
+use Rattle.word_base.specs.Files.{Files}
+use Rattle.cc_driver.specs.declared.fault.SourceFault.{SourceFault}
+use Rattle.cc_driver.specs.SourceFaults.{source_line}
+use Rattle.cc_driver.specs.Line.{Puts, Sinks}
+use Rattle.cc_driver.specs.Build.{IsToldWith, IsRefusedFor}
+
+-- the line of a source's fault was put
+abbrev pub PutsFault : Sinks → SourceFault → Type 0
+PutsFault sinks fault = Puts sinks.tells (Some (source_line fault)) sinks.before sinks.now sinks.faults_before sinks.faults_now
+
+-- the source has a fault, where it is told, and the line of this one was put
+pub record SourceRefused (tells : Bool) (files : Files) (source : List ℕ) (sinks : Sinks) : Type 0 where
+  pub fault : SourceFault
+  pub has : IsTrue tells → IsToldWith files source (IsRefusedFor fault)
+  pub line : PutsFault sinks fault
+
+-- the status of a source with this fault, and its line, unless memory was wanting
+abbrev pub RefusesFor : SourceFault → Sinks → ℕ → Type 0
+RefusesFor fault sinks status = ((status ≡ 1) × PutsFault sinks fault) ⊎ (status ≡ 5)
