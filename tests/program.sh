@@ -45,8 +45,32 @@ cmp -s a.img "$top/examples/first.img" || fail 'a refused build changed its imag
 wants 4 '' build a.c no_folder/a.img
 printf 'int main(void){return 12ab;}' > bad.c
 wants 1 'source refused: bad constant at byte 22' build bad.c b.img
+# Sources as high as they may be, one higher, and parentheses, which have no limit of their own.
+nested() {
+    awk -v n="$1" -v front="$2" -v back="$3" 'BEGIN {
+        printf "int main(void){return "
+        for (i = 0; i < n; i++) printf "%s", front
+        printf "1"
+        for (i = 0; i < n; i++) printf "%s", back
+        printf ";}"
+    }' > nested.c
+}
+nested 195 '1-(' ')'
+wants 1 'source refused: not yet' build nested.c b.img
+nested 196 '1-(' ')'
+wants 1 'source refused: syntax at byte 608' build nested.c b.img
+nested 195 '1?(' '):1'
+wants 1 'source refused: not yet' build nested.c b.img
+nested 195 'f(' ')'
+wants 1 'source refused: not yet' build nested.c b.img
+nested 195 '((int)' ')'
+wants 1 'source refused: not yet' build nested.c b.img
+nested 99000 '(' ')'
+wants 1 'source refused: not yet' build nested.c b.img
+awk 'BEGIN { printf "int main(void){"; for (i = 0; i < 197; i++) printf "{"; for (i = 0; i < 198; i++) printf "}" }' > nested.c
+wants 1 'source refused: not yet' build nested.c b.img
 head -c 1048576 /dev/zero | tr '\0' ' ' > long.c
-wants 1 'source refused: not yet' build long.c b.img
+wants 1 'source refused: syntax at byte 0' build long.c b.img
 printf ' ' >> long.c
 wants 9 'file refused: long.c too long' build long.c b.img
 wants 0 '' build a.c a.c

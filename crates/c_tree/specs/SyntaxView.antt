@@ -63,6 +63,11 @@ abbrev mutual
 abbrev pub expression_of : Expr → Expression
 expression_of e = Node (form_of e.kind) e.at
 
+-- the arguments of a call, of a list of them
+abbrev pub trees_of : List Expr → Expressions
+trees_of [] = no_argument
+trees_of (e ∷ rest) = argument (expression_of e) (trees_of rest)
+
 -- an expression that may be absent
 abbrev pub optional_of : Option Expr → Option Expression
 optional_of None = None

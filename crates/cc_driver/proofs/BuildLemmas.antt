@@ -30,7 +30,7 @@ not_faulty old source fault t u =
 pub built_not_faulty : (old new : Files) (source image : List ℕ) (fault : SourceFault) → Builds old new source image → IsToldWith old source (IsRefusedFor fault) → ⊥
 built_not_faulty old new source image fault b t =
     let c = b.compiles in
-    not_faulty old source fault (b.bytes, b.told, (b.fits, (c.tokens, c.lexes, (c.port, c.word, c.answer, c.thin)))) t
+    not_faulty old source fault (b.bytes, b.told, (b.fits, (c.tokens, c.source, c.lexes, c.is_source, (c.at, c.port, c.word, c.answer, c.thin)))) t
 
 module _ (tells : Bool) (old new : Files) (source : List ℕ) (before now : Counts) where
   -- a cause that isn't there for told bytes of a source
@@ -56,7 +56,7 @@ module _ (tells : Bool) (old new : Files) (source : List ℕ) (before now : Coun
   of_other sinks fault TooLong r line tell t fetch = absurd (not_long _ tell t r.0)
   of_other sinks fault (Source why) r line tell t fetch =
       let b = told_both old source (IsRefusedFor why) (IsRefusedFor fault) (r.0 tell) t in
-      inl (refl, subst (PutsFault sinks) (one_fault b.0 why fault b.1.1 b.2.1) line)
+      inl (refl, (why, one_fault b.0 fault why b.2.1 b.1.1, line))
   of_other sinks fault Write r line tell t fetch = absurd (not_faulty old source fault (r.0 tell) t)
   of_other sinks fault NoMemory r line tell t fetch = inr refl
 

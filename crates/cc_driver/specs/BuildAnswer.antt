@@ -2,7 +2,7 @@
 use Rattle.std.specs.Prelude.{◌≡◌, ◌⊎◌, ℕ, Bool, IsTrue, List, Some}
 use Rattle.word_base.specs.Files.{Files}
 use Rattle.cc_driver.specs.declared.fault.SourceFault.{SourceFault}
-use Rattle.cc_driver.specs.SourceFaults.{source_line}
+use Rattle.cc_driver.specs.SourceFaults.{source_line, IsSameFault}
 use Rattle.cc_driver.specs.Line.{Puts, Sinks}
 use Rattle.cc_driver.specs.Build.{IsToldWith, IsRefusedFor}
 
@@ -18,4 +18,4 @@ pub record SourceRefused (tells : Bool) (files : Files) (source : List ℕ) (sin
 
 -- the status of a source with this fault, and its line, unless memory was wanting
 abbrev pub RefusesFor : SourceFault → Sinks → ℕ → Type 0
-RefusesFor fault sinks status = ((status ≡ 1) × PutsFault sinks fault) ⊎ (status ≡ 5)
+RefusesFor fault sinks status = ((status ≡ 1) × ((put : SourceFault) × IsSameFault fault put × PutsFault sinks put)) ⊎ (status ≡ 5)

@@ -2,6 +2,7 @@
 ghost use Rattle.std.specs.Prelude.{◌≡◌};
 
 use c_lexer::LexFault;
+use c_parser::ParseFault;
 use c25_image::{ImageFault, PortFault};
 use word_base::NoMemory;
 
@@ -18,6 +19,9 @@ pub enum SourceFault {
     LongName { at: u32 },
     /// There are more than 200,000 tokens. The count is 200,001: no more are read.
     TooManyTokens { count: u64 },
+    /// Its tokens have no tree of height at most 200. The place is that of the first token with which none can go on, or the
+    /// end of the last token, 0 where there is none.
+    Syntax { at: u32 },
     /// It isn't one that is compiled so far.
     NotYet,
 }
@@ -60,6 +64,19 @@ impl From<LexFault> for BuildFault {
                 BuildFault::Source(SourceFault::TooManyTokens { count })
             }
             LexFault::NoMemory => BuildFault::NoMemory,
+        }
+    }
+}
+
+impl From<ParseFault> for BuildFault {
+    ghost use Rattle.cc_driver.specs.SourceFaults.{of_parse_fault};
+
+    ghost from_gives = { λ given e. e ≡ of_parse_fault given };
+
+    fn from(fault: ParseFault) -> Self {
+        match fault {
+            ParseFault::Syntax { at } => BuildFault::Source(SourceFault::Syntax { at }),
+            ParseFault::NoMemory => BuildFault::NoMemory,
         }
     }
 }

@@ -36,6 +36,9 @@ fn source_line(alloc: Global, fault: SourceFault) -> Result<String, NoMemory>
         SourceFault::TooManyTokens { count } => {
             format!(in alloc; "source refused: too many tokens {count}\n")?
         }
+        SourceFault::Syntax { at } => {
+            format!(in alloc; "source refused: syntax at byte {at}\n")?
+        }
         SourceFault::NotYet => format!(in alloc; "source refused: not yet\n")?,
     };
     Ok(line)

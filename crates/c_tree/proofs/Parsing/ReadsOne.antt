@@ -37,7 +37,7 @@ mutual
       one_more row (place_of input) (going_of row (next_of x.rest)) x.tree x.unary x.rest o p m
       (subst (λ z. More row (place_of input) (going_of row (next_of z.rest)) z.tree z.unary z.rest p) (sym (one_start row (first_of row (start_of input)) input x y s s')) m')
 
-  one_start : (row : Row) (first : First) (input : List Token) (o p : Reading) → Starts row first input o → Starts row first input p → o ≡ p
+  pub one_start : (row : Row) (first : First) (input : List Token) (o p : Reading) → Starts row first input o → Starts row first input p → o ≡ p
   one_start row first input o p (PassFirst {next = next} {input = l} _ r) (PassFirst _ r') = one_reading next l o p r r'
   one_start row first input o p (NameFirst _) (NameFirst _) = refl
   one_start row first input o p (NumberFirst _) (NumberFirst _) = refl
@@ -59,7 +59,7 @@ mutual
       ap (λ z. reading (Node (Cast z.type x.tree) t.at) false x.rest) same
       ∙ ap (λ z. reading (Node (Cast type' z.tree) t.at) false z.rest) (one_reading CastRow rest x y r (subst (λ z. Reads CastRow z.rest y) (sym same) r'))
 
-  one_more : (row : Row) (at : ℕ) (going : Going) (left : Expression) (unary : Bool) (input : List Token) (o p : Reading) → More row at going left unary input o → More row at going left unary input p → o ≡ p
+  pub one_more : (row : Row) (at : ℕ) (going : Going) (left : Expression) (unary : Bool) (input : List Token) (o p : Reading) → More row at going left unary input o → More row at going left unary input p → o ≡ p
   one_more row at going left unary input o p Stop Stop = refl
   one_more row at going left unary input o p (CommaMore {input = l} {o = x} _ r m) (CommaMore {o = y} _ r' m') =
       one_more ExpressionRow at (going_of ExpressionRow (next_of x.rest)) (Node (Comma left x.tree) at) false x.rest o p m

@@ -13,12 +13,12 @@ use Rattle.c_tree.proofs.Rows.Statements.{fits, IsOne, AreOne, OneChoices, empty
 
 module _ (known : OneExpression) where
   -- what stands before a closing brace doesn't begin with `else`
-  statements_no_else : (a r : List Token) (xs : Statements) → DerivesStatements a xs → first r ≡ BraceCloses → first (a ++ r) ≢ ElseWord
+  pub statements_no_else : (a r : List Token) (xs : Statements) → DerivesStatements a xs → first r ≡ BraceCloses → first (a ++ r) ≢ ElseWord
   statements_no_else _ r _ NoStatement p = λ e. let both : BraceCloses ≡ ElseWord = sym p ∙ e in cc
   statements_no_else _ r _ (MoreStatements {tokens = tokens} c a b {tree = x} cut g more) p =
       λ e. statement_other known a (b ++ r) c x ElseWord g (λ k. k) (sym (ap first (ap (λ l. l ++ r) cut ∙ append_assoc a b r)) ∙ e)
 
-  choices_no_else : (a r : List Token) (xs : Choices) → DerivesChoices a xs → first r ≡ BraceCloses → first (a ++ r) ≢ ElseWord
+  pub choices_no_else : (a r : List Token) (xs : Choices) → DerivesChoices a xs → first r ≡ BraceCloses → first (a ++ r) ≢ ElseWord
   choices_no_else _ r _ NoChoice p = λ e. let both : BraceCloses ≡ ElseWord = sym p ∙ e in cc
   choices_no_else _ r _ (CaseRule {tokens = tokens} a b t u cut g h i more) p = λ e. let both : CaseWord ≡ ElseWord = sym (ap (λ l. first (l ++ r)) cut ∙ ap kind_sort g) ∙ e in cc
   choices_no_else _ r _ (DefaultRule {tokens = tokens} a t u cut g h more) p = λ e. let both : DefaultWord ≡ ElseWord = sym (ap (λ l. first (l ++ r)) cut ∙ ap kind_sort g) ∙ e in cc

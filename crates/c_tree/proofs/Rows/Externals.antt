@@ -28,7 +28,7 @@ external_first a r (Defined x) g = function_first a r x g
 external_first a r (Declared x) g = declaration_first a r x g
 
 -- behind the words of a type stand stars or a name
-name_other : (b more : List Token) (n : Token) (stars : ℕ) (name : List ℕ) → AreStars b stars → IsName name n → first (b ++ (n ∷ more)) ≢ TypeWord
+pub name_other : (b more : List Token) (n : Token) (stars : ℕ) (name : List ℕ) → AreStars b stars → IsName name n → first (b ++ (n ∷ more)) ≢ TypeWord
 name_other b more n stars name g h = stars_other b (n ∷ more) stars TypeWord g (λ e. cc) (λ e. let both : AnyName ≡ TypeWord = sym (name_first n more name h) ∙ e in cc)
 
 name_no_star : (more : List Token) (n : Token) (name : List ℕ) → IsName name n → first (n ∷ more) ≢ StarMark

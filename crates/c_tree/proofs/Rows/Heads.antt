@@ -42,12 +42,14 @@ pub record BreakHead (tokens : List Token) (x : Statement) : Type 0 where
   pub t : Token
   pub u : Token
   pub cut : tokens ≡ t ∷ u ∷ []
+  pub ends : IsMark mark.Semicolon u
   pub tree : x ≡ Break t.at
 
 pub record ContinueHead (tokens : List Token) (x : Statement) : Type 0 where
   pub t : Token
   pub u : Token
   pub cut : tokens ≡ t ∷ u ∷ []
+  pub ends : IsMark mark.Semicolon u
   pub tree : x ≡ Continue t.at
 
 pub record ReturnHead (tokens : List Token) (x : Statement) : Type 0 where
@@ -73,6 +75,7 @@ pub record DoHead (tokens : List Token) (x : Statement) : Type 0 where
   pub derives : DerivesStatement closing a body
   pub word : IsKeyword keyword.While u
   pub tested : IsTested (u ∷ []) b test
+  pub ends : IsMark mark.Semicolon v
   pub tree : x ≡ DoWhile body test t.at
 
 pub record IfHead (c : Closing) (tokens : List Token) (x : Statement) : Type 0 where
@@ -137,6 +140,7 @@ pub record SwitchHead (tokens : List Token) (x : Statement) : Type 0 where
   pub choices : Choices
   pub cut : tokens ≡ a ++ u ∷ b ++ v ∷ []
   pub tested : IsTested (t ∷ []) a value
+  pub opens : IsMark mark.OpenBrace u
   pub derives : DerivesChoices b choices
   pub ends : IsMark mark.CloseBrace v
   pub tree : x ≡ Switch value choices u.at t.at
@@ -199,14 +203,14 @@ module _ (known : OneExpression) where
   head_of_statement r (BlockRule {tokens = tokens} a b t u {declarations = xs} {statements = ys} cut opens g h closes) =
       of_sort _ BraceOpens _ _ _ (ap (λ l. first (l ++ r)) cut ∙ ap kind_sort opens)
       (record { a = a; b = b; t = t; u = u; declarations = xs; statements = ys; cut = cut; declared = g; stated = h; ends = closes; tree = refl })
-  head_of_statement r (BreakRule {t = t} {u = u} g h) = of_sort _ BreakWord _ _ _ (word_first keyword.Break t (u ∷ r) g) (record { t = t; u = u; cut = refl; tree = refl })
-  head_of_statement r (ContinueRule {t = t} {u = u} g h) = of_sort _ ContinueWord _ _ _ (word_first keyword.Continue t (u ∷ r) g) (record { t = t; u = u; cut = refl; tree = refl })
+  head_of_statement r (BreakRule {t = t} {u = u} g h) = of_sort _ BreakWord _ _ _ (word_first keyword.Break t (u ∷ r) g) (record { t = t; u = u; cut = refl; ends = h; tree = refl })
+  head_of_statement r (ContinueRule {t = t} {u = u} g h) = of_sort _ ContinueWord _ _ _ (word_first keyword.Continue t (u ∷ r) g) (record { t = t; u = u; cut = refl; ends = h; tree = refl })
   head_of_statement r (ReturnRule {tokens = tokens} a t u {value = x} cut word g h) =
       of_sort _ ReturnWord _ _ _ (ap (λ l. first (l ++ r)) cut ∙ ap kind_sort word)
       (record { a = a; t = t; u = u; value = x; cut = cut; derives = g; ends = h; tree = refl })
   head_of_statement r (DoRule {tokens = tokens} closing a b t u v {body = x} {test = y} cut word g while h ends) =
       of_sort _ DoWord _ _ _ (ap (λ l. first (l ++ r)) cut ∙ ap kind_sort word)
-      (record { closing = closing; a = a; b = b; t = t; u = u; v = v; body = x; test = y; cut = cut; derives = g; word = while; tested = h; tree = refl })
+      (record { closing = closing; a = a; b = b; t = t; u = u; v = v; body = x; test = y; cut = cut; derives = g; word = while; tested = h; ends = ends; tree = refl })
   head_of_statement r (IfRule {tokens = tokens} closing a b t {test = x} {yes = y} cut word g h) =
       of_sort _ IfWord _ _ _ (front_first tokens a b r cut ∙ tested_first keyword.If t a (b ++ r) x word g)
       (inl (record { closing = closing; a = a; b = b; t = t; test = x; yes = y; open_end = refl; cut = cut; tested = g; derives = h; tree = refl }))
@@ -221,7 +225,7 @@ module _ (known : OneExpression) where
       (record { a = a; b = b; start = x; test = y; step = z; body = w; cut = cut; head = g; derives = h; tree = refl })
   head_of_statement r (SwitchRule {tokens = tokens} a b t u v {value = x} {choices = y} cut word g opens h closes) =
       of_sort _ SwitchWord _ _ _ (front_first tokens a (u ∷ b ++ v ∷ []) r (cut ∙ append_assoc a (u ∷ b) (v ∷ [])) ∙ tested_first keyword.Switch t a ((u ∷ b ++ v ∷ []) ++ r) x word g)
-      (record { a = a; b = b; t = t; u = u; v = v; value = x; choices = y; cut = cut; tested = g; derives = h; ends = closes; tree = refl })
+      (record { a = a; b = b; t = t; u = u; v = v; value = x; choices = y; cut = cut; tested = g; opens = opens; derives = h; ends = closes; tree = refl })
 
   -- no statement begins with a token of a sort that has no rule
   pub statement_other : (a r : List Token) (c : Closing) (x : Statement) (k : Sort) → DerivesStatement c a x → (Head k c a x → ⊥) → first (a ++ r) ≢ k

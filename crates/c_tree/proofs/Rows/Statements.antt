@@ -49,7 +49,7 @@ module _ (known : OneExpression) where
       agree a b r s x y (cc (g.cut, h.cut, word, opened, found.front, closed)) found.tree e
 
   -- the three parts of a head are its tree
-  for_head_one : (a b r s : List Token) (x y z u v w : Option Expression) → IsForHead a x y z → IsForHead b u v w → a ++ r ≡ b ++ s → Agree {X = Option Expression × Option Expression × Option Expression} a b r s (x, y, z) (u, v, w)
+  pub for_head_one : (a b r s : List Token) (x y z u v w : Option Expression) → IsForHead a x y z → IsForHead b u v w → a ++ r ≡ b ++ s → Agree {X = Option Expression × Option Expression × Option Expression} a b r s (x, y, z) (u, v, w)
   for_head_one a b r s x y z u v w g h e =
       let is : g.k ∷ g.t ∷ (g.a ++ (g.u ∷ (g.b ++ (g.v ∷ (g.c ++ (g.w ∷ r)))))) ≡ h.k ∷ h.t ∷ (h.a ++ (h.u ∷ (h.b ++ (h.v ∷ (h.c ++ (h.w ∷ s)))))) =
       simp append_assoc at (cut_both a b (g.k ∷ g.t ∷ g.a ++ g.u ∷ g.b ++ g.v ∷ g.c ++ g.w ∷ []) (h.k ∷ h.t ∷ h.a ++ h.u ∷ h.b ++ h.v ∷ h.c ++ h.w ∷ []) r s g.cut h.cut e) in

@@ -4,7 +4,10 @@ use Rattle.c_tree.specs.Lexes.{Lexes}
 use Rattle.c25_isa.specs.Agrees.{Agrees}
 use Rattle.c25_image.specs.ImageText.{image_text}
 use Rattle.c25_image.specs.ImageFaults.{IsWhole}
-use Rattle.cc_driver.specs.Thin.{IsThin, thin_places, thin_program}
+use Rattle.c_tree.specs.SyntaxView.{unit_of}
+use Rattle.c_tree.specs.Source.{IsSource}
+use Rattle.c_parser.specs.Refusals.{NoSource}
+use Rattle.cc_driver.specs.Thin.{thin_program}
 use Rattle.cc_driver.proofs.build.build.Goals as goal
 
 pub returns-in_default-clause-refused : goal.returns-in_default-clause-refused
@@ -18,8 +21,10 @@ returns-in_default-clause-refused g c =
           (λ long. absurd (omega (arith, c.in-Ok.ensures.length, c.in-Ok.bytes.ok.0))),
           (
             c.in_ok-tokens.tokens.items,
+            unit_of c.in_ok-unit.unit,
             subst (λ l. Lexes l c.in_ok-tokens.tokens.items) c.deref.ensures.value lexes,
-            λ t. other t.0 t.1 t.2 (subst (λ l. IsThin l t.0 t.1 t.2) (sym c.deref-2.ensures.value) t.3),
+            subst (λ l. IsSource l (unit_of c.in_ok-unit.unit)) c.deref-2.ensures.value c.in_ok-unit.ensures.tree,
+            other,
           ),
         ),
       ),
@@ -38,12 +43,15 @@ returns-in-Ok-store-clause-done g c =
       fits = λ long. absurd (omega (arith, c.in-Ok.ensures.length, c.in-Ok.bytes.ok.0));
       compiles = record {
         tokens = c.in_ok-tokens.tokens.items;
+        source = unit_of c.in_ok-unit.unit;
+        at = found.0;
         port = t.port;
         word = t.word;
         answer = t.answer;
         lexes = subst (λ l. Lexes l c.in_ok-tokens.tokens.items) c.deref.ensures.value lexes;
-        thin = subst (λ l. IsThin l t.port t.word t.answer) c.deref-2.ensures.value found;
-        agrees = subst (λ (l : List ℕ). Agrees (source_run (thin_program (thin_places c.in_ok-tokens.tokens.items) t.port t.word t.answer)) l) (sym c.in_ok-words.ensures) (c.code.ensures.agrees (thin_places c.in_ok-tokens.tokens.items));
+        is_source = subst (λ l. IsSource l (unit_of c.in_ok-unit.unit)) c.deref-2.ensures.value c.in_ok-unit.ensures.tree;
+        thin = found.1;
+        agrees = subst (λ (l : List ℕ). Agrees (source_run (thin_program found.0 t.port t.word t.answer)) l) (sym c.in_ok-words.ensures) (c.code.ensures.agrees found.0);
       };
       whole = subst IsWhole c.in_ok-built.ensures c.write_image.ensures.whole;
       held = c.in-Ok-store.ensures.told told ∙ ap Some (c.deref-3.ensures.value ∙ c.in_ok-text.ensures.text ∙ ap image_text c.in_ok-built.ensures);

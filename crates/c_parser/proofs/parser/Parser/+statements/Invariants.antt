@@ -1,0 +1,63 @@
+use Rattle.std.proofs.Common.{◌≡◌, ◌+◌, ◌*◌, ◌≤◌, max, length, map}
+use Rattle.c_tree.specs.Derives.{DerivesDeclarations, DerivesStatements, DerivesChoices}
+use Rattle.c_tree.specs.Measures.{greatest, declaration_height, statements_height, choices_height}
+use Rattle.c_tree.specs.SyntaxView.{declaration_of, body_of}
+use Rattle.c_parser.specs.Takes.{Takes, Both}
+use Rattle.c_parser.specs.StatementRows.{parts_of}
+use Rattle.c_parser.specs.StatementFronts.{PartsFront, StatementsFront, BodyFront}
+use Rattle.c_parser.proofs.FrontLemmas.{LeadsOn}
+use Rattle.c_parser.proofs.parser.Parser.+statements.Given as goal
+
+abbrev pub decreases-statement : goal.decreases-statement
+decreases-statement l = 4 * length l.self.now.cursor + 1
+
+abbrev pub decreases-inner_block : goal.decreases-inner_block
+decreases-inner_block l = 4 * length l.self.now.cursor + 0
+
+abbrev pub decreases-do_loop : goal.decreases-do_loop
+decreases-do_loop l = 4 * length l.self.now.cursor + 0
+
+abbrev pub decreases-choice : goal.decreases-choice
+decreases-choice l = 4 * length l.self.now.cursor + 0
+
+abbrev pub decreases-while_loop : goal.decreases-while_loop
+decreases-while_loop l = 4 * length l.self.now.cursor + 0
+
+abbrev pub decreases-for_loop : goal.decreases-for_loop
+decreases-for_loop l = 4 * length l.self.now.cursor + 0
+
+abbrev pub decreases-switch : goal.decreases-switch
+decreases-switch l = 4 * length l.self.now.cursor + 0
+
+abbrev pub decreases-switch_part : goal.decreases-switch_part
+decreases-switch_part l = 4 * length l.self.now.cursor + 2
+
+abbrev pub decreases-switch_parts : goal.decreases-switch_parts
+decreases-switch_parts l = 4 * length l.self.now.cursor + 3
+
+abbrev pub decreases-body : goal.decreases-body
+decreases-body l = 4 * length l.self.now.cursor + 2
+
+abbrev pub invariant-body-loop-self : goal.invariant-body-loop-self
+invariant-body-loop-self l = record {
+  tree : Takes (Both (λ a. DerivesDeclarations a (map declaration_of l.declarations.tree.items)) (λ a. DerivesStatements a (body_of l.statements.items))) l.fn.self.cursor l.self.cursor;
+  height : l.highest ≡ max (greatest (map declaration_height (map declaration_of l.declarations.tree.items))) (statements_height (body_of l.statements.items));
+  room : l.depth + 1 + l.highest ≤ 200;
+  no_more : length l.self.cursor ≤ length l.fn.self.cursor;
+  leads : LeadsOn (BodyFront l.depth) (StatementsFront (l.depth + 1)) l.fn.self.cursor l.self.cursor;
+}
+
+abbrev pub decreases-body-loop-self : goal.decreases-body-loop-self
+decreases-body-loop-self l = length l.self.cursor
+
+abbrev pub invariant-switch_parts-loop-self : goal.invariant-switch_parts-loop-self
+invariant-switch_parts-loop-self l = record {
+  tree : Takes (λ a. DerivesChoices a (parts_of l.parts.items)) l.fn.self.cursor l.self.cursor;
+  height : l.highest ≡ choices_height (parts_of l.parts.items);
+  room : l.depth + 1 + l.highest ≤ 200;
+  no_more : length l.self.cursor ≤ length l.fn.self.cursor;
+  leads : LeadsOn (PartsFront l.depth) (PartsFront l.depth) l.fn.self.cursor l.self.cursor;
+}
+
+abbrev pub decreases-switch_parts-loop-self : goal.decreases-switch_parts-loop-self
+decreases-switch_parts-loop-self l = length l.self.cursor

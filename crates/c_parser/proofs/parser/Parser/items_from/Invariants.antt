@@ -1,0 +1,21 @@
+use Rattle.std.proofs.Common.{◌≡◌, ◌+◌, ◌≤◌, length, map}
+use Rattle.c_tree.specs.Derives.{DerivesItem, DerivesItems}
+use Rattle.c_tree.specs.Measures.{greatest, item_height}
+use Rattle.c_tree.specs.SyntaxView.{item_of}
+use Rattle.c_parser.specs.Takes.{Takes, Behind}
+use Rattle.c_parser.specs.DeclarationFronts.{MoreItems}
+use Rattle.c_parser.proofs.FrontLemmas.{LeadsOn}
+use Rattle.c_parser.proofs.parser.Parser.items_from.Given as goal
+
+abbrev pub invariant-loop-self : goal.invariant-loop-self
+invariant-loop-self l = record {
+  tree : Takes (Behind (λ a. DerivesItem a (item_of l.fn.first.tree)) (λ all. DerivesItems all (map item_of l.items.items))) l.fn.self.cursor l.self.cursor;
+  height : l.highest ≡ greatest (map item_height (map item_of l.items.items));
+  high : 1 ≤ l.highest;
+  room : l.depth + l.highest ≤ 200;
+  no_more : length l.self.cursor ≤ length l.fn.self.cursor;
+  leads : LeadsOn (MoreItems l.depth) (MoreItems l.depth) l.fn.self.cursor l.self.cursor;
+}
+
+abbrev pub decreases-loop-self : goal.decreases-loop-self
+decreases-loop-self l = length l.self.cursor

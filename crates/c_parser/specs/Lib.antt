@@ -1,0 +1,10 @@
+pub mod Refusals
+pub mod Front
+pub mod Operators
+pub mod Parses
+pub mod Takes
+pub mod StatementRows
+pub mod Fronts
+pub mod DeclarationFronts
+pub mod StatementFronts
+pub mod UnitFronts

@@ -1,0 +1,29 @@
+-- What the parts of statements take, and the tree of what stands between the braces of a switch.
+use Rattle.std.specs.Prelude.{List, [], ◌∷◌}
+use Rattle.c_tree.specs.declared.token.Token.{Token}
+use Rattle.c_tree.specs.declared.token.Keyword.TheVariants as keyword
+use Rattle.c_tree.specs.declared.token.Punct.TheVariants as mark
+use Rattle.c_tree.specs.declared.stmt.Stmt.{Stmt}
+use Rattle.c_tree.specs.declared.stmt.SwitchPart.{SwitchPart}
+use Rattle.c_tree.specs.SyntaxTree.{Expression, DeclarationTree, Statement, Statements, Choices, no_choice}
+use Rattle.c_tree.specs.Grammar.{IsMark, IsKeyword}
+use Rattle.c_tree.specs.Derives.{IsTested, DerivesDeclarations, DerivesStatements}
+use Rattle.c_tree.specs.SyntaxView.{statement_of, part_before}
+use Rattle.c_parser.specs.Takes.{Both, IsOne}
+
+-- a statement
+abbrev pub tree_of : Stmt → Statement
+tree_of s = statement_of s.kind s.at
+
+-- what stands between the braces of a switch
+abbrev pub parts_of : List SwitchPart → Choices
+parts_of [] = no_choice
+parts_of (p ∷ rest) = part_before p (parts_of rest)
+
+-- what stands behind the `{` of a block, and `}`
+abbrev pub IsBody : List DeclarationTree → Statements → List Token → Type 0
+IsBody declarations statements = Both (λ a. DerivesDeclarations a declarations) (Both (λ a. DerivesStatements a statements) (IsOne (IsMark mark.CloseBrace)))
+
+-- `while`, a test and `;`
+abbrev pub IsDoEnd : Expression → List Token → Type 0
+IsDoEnd test = Both (IsOne (IsKeyword keyword.While)) (Both (λ a. IsTested [] a test) (IsOne (IsMark mark.Semicolon)))

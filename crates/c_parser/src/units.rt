@@ -1,0 +1,155 @@
+//! Whole sources.
+ghost use Rattle.std.specs.Prelude.{◌≡◌, ◌+◌, ◌<◌, ◌≤◌, length, IfOk, IfErr};
+ghost use Rattle.c_tree.specs.Lexes.{most_tokens};
+ghost use Rattle.c_tree.specs.Grammar.{place_of};
+ghost use Rattle.c_tree.specs.Derives.{DerivesSpecs, DerivesExternal};
+ghost use Rattle.c_tree.specs.Measures.{parameters_height, item_form_height, external_height};
+ghost use Rattle.c_tree.specs.SyntaxView.{specs_of, parameters_of, item_form_of, external_of, unit_of};
+ghost use Rattle.c_tree.specs.declared.decl.ItemKind.TheVariants as functions;
+ghost use Rattle.c_tree.specs.Source.{IsSource};
+ghost use Rattle.c_parser.specs.Refusals.{Refuses, NoSource};
+ghost use Rattle.c_parser.specs.Fronts.{NoFront};
+ghost use Rattle.c_parser.specs.Takes.{Takes, Both, Behind, IsItemFront};
+ghost use Rattle.c_parser.specs.UnitFronts.{ExternalFront, IsListed, ListedFront, DeclarationEnd, FunctionEnd, IsFunctionHead};
+
+use crate::declarations::Tall;
+use crate::fault::ParseFault;
+use crate::parser::Parser;
+use c_tree::{External, FunctionDef, ItemKind, Params, Punct, Specs, Token, Unit};
+use std::alloc::Global;
+use word_base::{Items, Text};
+
+/// The nodes over an external: the unit.
+const OVER_EXTERNAL: u32 = 1;
+
+impl<'a> Parser<'a> {
+    // The row `external`: a function where a body follows its parameters.
+    fn external(&mut self) -> Result<Tall<External>, ParseFault>
+        ensures tree { IfOk result (λ p. Takes (λ all. DerivesExternal all (external_of p.tree)) self.old.cursor self.new.cursor) }
+        ensures height { IfOk result (λ p. p.height ≡ external_height (external_of p.tree)) }
+        ensures room { IfOk result (λ p. 1 + p.height ≤ 200) }
+        ensures fewer { IfOk result (λ _. length self.new.cursor < length self.old.cursor) }
+        ensures refused { IfErr result (Refuses (NoFront ExternalFront self.old.cursor)) }
+    {
+        let specs = self.whole_specs()?;
+        let item_at = self.cursor.place();
+        let stars = self.whole_stars();
+        let name = self.name()?;
+        if !self.cursor.stands(Punct::OpenParen) {
+            let kind = self.item_kind(OVER_EXTERNAL + 2)?;
+            return self.declared(specs, item_at, stars, name, kind);
+        }
+        let params = self.listed(OVER_EXTERNAL + 1)?;
+        if self.cursor.stands(Punct::OpenBrace) {
+            return self.function(specs, stars, name, params);
+        }
+        self.allow(params.height, OVER_EXTERNAL + 1)?;
+        self.declared(specs, item_at, stars, name, function_kind(params))
+    }
+
+    // Parameters in their parentheses.
+    fn listed(&mut self, depth: u32) -> Result<Tall<Params>, ParseFault>
+        requires { depth ≤ 200 }
+        ensures tree { IfOk result (λ p. Takes (λ all. IsListed all (parameters_of p.tree)) self.old.cursor self.new.cursor) }
+        ensures height { IfOk result (λ p. p.height ≡ parameters_height (parameters_of p.tree)) }
+        ensures room { IfOk result (λ p. depth + p.height ≤ 200) }
+        ensures fewer { IfOk result (λ _. length self.new.cursor < length self.old.cursor) }
+        ensures refused { IfErr result (Refuses (NoFront (ListedFront depth) self.old.cursor)) }
+    {
+        self.cursor.expect(Punct::OpenParen)?;
+        let params = self.params(depth)?;
+        self.cursor.expect(Punct::CloseParen)?;
+        Ok(params)
+    }
+
+    // A declaration, behind the form of its first item.
+    fn declared(
+        &mut self,
+        specs: Specs,
+        item_at: u32,
+        stars: u32,
+        name: Text,
+        kind: Tall<ItemKind>,
+    ) -> Result<Tall<External>, ParseFault>
+        requires kind_height { kind.height ≡ item_form_height (item_form_of kind.tree) }
+        requires kind_room { 3 + kind.height ≤ 200 }
+        ensures tree { IfOk result (λ p. Takes (Behind (Both (λ a. DerivesSpecs a (specs_of specs)) (IsItemFront stars name (item_form_of kind.tree) item_at)) (λ all. DerivesExternal all (external_of p.tree))) self.old.cursor self.new.cursor) }
+        ensures height { IfOk result (λ p. p.height ≡ external_height (external_of p.tree)) }
+        ensures room { IfOk result (λ p. 1 + p.height ≤ 200) }
+        ensures fewer { IfOk result (λ _. length self.new.cursor < length self.old.cursor) }
+        ensures refused { IfErr result (Refuses (NoFront DeclarationEnd self.old.cursor)) }
+    {
+        let first = self.item_from(item_at, stars, name, kind, OVER_EXTERNAL + 1)?;
+        let declaration = self.declaration_from(specs, first, OVER_EXTERNAL)?;
+        Ok(Tall {
+            tree: External::Declaration(declaration.tree),
+            height: declaration.height,
+        })
+    }
+
+    // A function, behind its parameters. It stands where its specs do.
+    fn function(
+        &mut self,
+        specs: Specs,
+        stars: u32,
+        name: Text,
+        params: Tall<Params>,
+    ) -> Result<Tall<External>, ParseFault>
+        requires params_height { params.height ≡ parameters_height (parameters_of params.tree) }
+        requires params_room { 2 + params.height ≤ 200 }
+        ensures tree { IfOk result (λ p. Takes (Behind (IsFunctionHead (specs_of specs) stars name (parameters_of params.tree)) (λ all. DerivesExternal all (external_of p.tree))) self.old.cursor self.new.cursor) }
+        ensures height { IfOk result (λ p. p.height ≡ external_height (external_of p.tree)) }
+        ensures room { IfOk result (λ p. 1 + p.height ≤ 200) }
+        ensures fewer { IfOk result (λ _. length self.new.cursor < length self.old.cursor) }
+        ensures refused { IfErr result (Refuses (NoFront FunctionEnd self.old.cursor)) }
+    {
+        let at = specs.at;
+        let body_at = self.cursor.place();
+        self.cursor.expect(Punct::OpenBrace)?;
+        let body = self.body(OVER_EXTERNAL + 1)?;
+        let parts = params.height.max(body.highest + 1);
+        Ok(Tall {
+            tree: External::Function(FunctionDef {
+                specs,
+                stars,
+                name,
+                params: params.tree,
+                declarations: Items::new(body.declarations),
+                statements: Items::new(body.statements),
+                body_at,
+                at,
+            }),
+            height: parts + 1,
+        })
+    }
+}
+
+// What stands behind the name of a declared function.
+fn function_kind(params: Tall<Params>) -> Tall<ItemKind>
+    ensures { result ≡ record { tree = functions.Function params.tree; height = params.height } }
+{
+    Tall {
+        tree: ItemKind::Function(params.tree),
+        height: params.height,
+    }
+}
+
+/// The tree of a list of tokens, which the row `unit` derives and which is at most 200 high (docs/LANGUAGE.md, "Grammar").
+/// Tokens that have no such tree are refused: at the first token with which none can go on, or at the end of the last one.
+pub fn parse(alloc: Global, tokens: &[Token]) -> Result<Unit, ParseFault>
+    requires few { length tokens.now ≤ most_tokens }
+    ensures tree { IfOk result (λ u. IsSource tokens.now (unit_of u)) }
+    ensures refused { IfErr result (Refuses (NoSource tokens.now)) }
+{
+    let mut parser = Parser::new(alloc, tokens);
+    let first = parser.external()?;
+    let mut highest = first.height;
+    let mut externals = Vec::new(alloc);
+    externals.push(first.tree)?;
+    while !parser.cursor.is_at_end() {
+        let next = parser.external()?;
+        highest = highest.max(next.height);
+        externals.push(next.tree)?;
+    }
+    Ok(Unit::new(externals))
+}

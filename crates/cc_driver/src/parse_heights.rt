@@ -1,0 +1,232 @@
+//! Sources at the limits of height, which is 200, and of nesting, decided by hand from the grammar.
+
+/// A text, a piece and how often it stands behind it, a text, another piece, a text; and the place where that is refused, if it
+/// is: the first token with which no source of a height in the limit goes on.
+pub(crate) type Tall = (
+    &'static str,
+    (&'static str, u32),
+    &'static str,
+    (&'static str, u32),
+    &'static str,
+    Option<u32>,
+);
+
+// The first 22 bytes. What is returned stands under four nodes: unit, function, block and statement.
+const RETURN: &str = "int main(void){return ";
+
+// The first 15 bytes. What follows stands under three.
+const BLOCK: &str = "int main(void){";
+
+/// Operators before operands, and left-associated ones.
+pub(crate) const CHAINS: [Tall; 27] = [
+    (RETURN, ("~", 100), "1;}", ("", 0), "", None),
+    (RETURN, ("~", 195), "1;}", ("", 0), "", None),
+    (RETURN, ("~", 196), "1;}", ("", 0), "", Some(217)),
+    (RETURN, ("~", 1_000), "1;}", ("", 0), "", Some(217)),
+    (RETURN, ("++", 195), "a;}", ("", 0), "", None),
+    (RETURN, ("++", 196), "a;}", ("", 0), "", Some(412)),
+    (RETURN, ("sizeof ", 195), "1;}", ("", 0), "", None),
+    (RETURN, ("sizeof ", 196), "1;}", ("", 0), "", Some(1_387)),
+    (RETURN, ("~", 194), "sizeof(int);}", ("", 0), "", None),
+    (RETURN, ("~", 195), "sizeof(int);}", ("", 0), "", Some(217)),
+    (RETURN, ("(int)", 195), "1;}", ("", 0), "", None),
+    // a cast is certain behind its parenthesis
+    (RETURN, ("(int)", 196), "1;}", ("", 0), "", Some(998)),
+    (RETURN, ("((int)", 195), "1", (")", 195), ";}", None),
+    (RETURN, ("((int)", 196), "1", (")", 196), ";}", Some(1_194)),
+    (RETURN, ("~", 195), "(1);}", ("", 0), "", None),
+    // left-associated
+    (RETURN, ("a+", 195), "a;}", ("", 0), "", None),
+    (RETURN, ("a+", 196), "a;}", ("", 0), "", Some(413)),
+    (RETURN, ("a*", 195), "a;}", ("", 0), "", None),
+    (RETURN, ("a*", 195), "a+a;}", ("", 0), "", Some(413)),
+    (RETURN, ("a||", 195), "a;}", ("", 0), "", None),
+    (RETURN, ("a||", 5_000), "a;}", ("", 0), "", Some(608)),
+    (RETURN, ("a&&", 196), "a;}", ("", 0), "", Some(608)),
+    (RETURN, ("a,", 195), "a;}", ("", 0), "", None),
+    (RETURN, ("a,", 196), "a;}", ("", 0), "", Some(413)),
+    (RETURN, ("(", 196), "a", ("+a)", 195), ";}", Some(804)),
+    (RETURN, ("(", 195), "a", ("+a)", 195), ";}", None),
+    (RETURN, ("(", 196), "a", ("+a)", 196), ";}", Some(804)),
+];
+
+/// Right-associated operators, what stands behind an operand, and parentheses.
+pub(crate) const NESTS: [Tall; 26] = [
+    (RETURN, ("1-(", 195), "1", (")", 195), ";}", None),
+    (RETURN, ("1-(", 196), "1", (")", 196), ";}", Some(608)),
+    (RETURN, ("-(", 195), "1", (")", 195), ";}", None),
+    (RETURN, ("-(", 196), "1", (")", 196), ";}", Some(412)),
+    (RETURN, ("a=", 195), "1;}", ("", 0), "", None),
+    (RETURN, ("a=", 196), "1;}", ("", 0), "", Some(413)),
+    (RETURN, ("*", 194), "a=1;}", ("", 0), "", None),
+    (RETURN, ("*", 195), "a=1;}", ("", 0), "", Some(218)),
+    (RETURN, ("a?b:", 195), "c;}", ("", 0), "", None),
+    (RETURN, ("a?b:", 196), "c;}", ("", 0), "", Some(803)),
+    (RETURN, ("a?", 195), "b", (":c", 195), ";}", None),
+    (RETURN, ("a?", 196), "b", (":c", 196), ";}", Some(413)),
+    (RETURN, ("~", 195), "1?1:1;}", ("", 0), "", Some(218)),
+    // behind an operand
+    (RETURN, ("a[", 195), "1", ("]", 195), ";}", None),
+    (RETURN, ("a[", 196), "1", ("]", 196), ";}", Some(413)),
+    (RETURN, ("", 0), "a", ("[1]", 195), ";}", None),
+    (RETURN, ("", 0), "a", ("[1]", 196), ";}", Some(608)),
+    (RETURN, ("", 0), "a", ("++", 196), ";}", Some(413)),
+    (RETURN, ("~", 195), "a[1];}", ("", 0), "", Some(218)),
+    (RETURN, ("f(", 196), "", (")", 196), ";}", None),
+    (RETURN, ("f(", 195), "1", (")", 195), ";}", None),
+    (RETURN, ("f(", 196), "1", (")", 196), ";}", Some(414)),
+    (RETURN, ("f(", 197), "", (")", 197), ";}", Some(414)),
+    // parentheses make no node
+    (RETURN, ("(", 50_000), "1", (")", 50_000), ";}", None),
+    (RETURN, ("(", 99_000), "1", (")", 99_000), ";}", None),
+    (
+        RETURN,
+        ("(", 50_000),
+        "1",
+        (")", 49_999),
+        ";}",
+        Some(100_022),
+    ),
+];
+
+/// Statements.
+pub(crate) const STATEMENTS: [Tall; 37] = [
+    (BLOCK, ("{", 197), "", ("}", 197), "}", None),
+    (BLOCK, ("{", 198), "", ("}", 198), "}", Some(212)),
+    (BLOCK, ("{", 50_000), "", ("", 0), "", Some(212)),
+    (BLOCK, ("{", 197), "", ("}", 197), "", Some(409)),
+    (BLOCK, ("{", 196), ";", ("}", 196), "}", None),
+    (BLOCK, ("{", 197), ";", ("}", 197), "}", Some(212)),
+    (BLOCK, ("{", 196), "break;", ("}", 196), "}", None),
+    (BLOCK, ("{", 196), "return;", ("}", 196), "}", None),
+    (BLOCK, ("{", 196), "return 1;", ("}", 196), "}", Some(218)),
+    (BLOCK, ("{", 197), "return;", ("}", 197), "}", Some(212)),
+    (BLOCK, ("{", 195), "a;", ("}", 195), "}", None),
+    (BLOCK, ("{", 196), "a;", ("}", 196), "}", Some(211)),
+    (BLOCK, ("{", 196), "(a);", ("}", 196), "}", Some(211)),
+    (BLOCK, ("if(1)", 196), ";}", ("", 0), "", None),
+    (BLOCK, ("if(1)", 197), ";}", ("", 0), "", Some(995)),
+    (BLOCK, ("if(1);else ", 196), ";}", ("", 0), "", None),
+    (BLOCK, ("if(1);else ", 197), ";}", ("", 0), "", Some(2_171)),
+    (BLOCK, ("if(1)", 196), ";", ("else;", 196), "}", None),
+    (BLOCK, ("if(1)", 196), ";", ("else;", 197), "}", Some(1_976)),
+    (BLOCK, ("while(1)", 196), ";}", ("", 0), "", None),
+    (BLOCK, ("while(1)", 197), ";}", ("", 0), "", Some(1_583)),
+    (BLOCK, ("for(;;)", 196), ";}", ("", 0), "", None),
+    (BLOCK, ("for(;;)", 197), ";}", ("", 0), "", Some(1_387)),
+    (BLOCK, ("do ", 196), ";", ("while(1);", 196), "}", None),
+    (BLOCK, ("do ", 197), ";", ("while(1);", 197), "}", Some(603)),
+    (BLOCK, ("{", 195), "if(a+1);", ("}", 195), "}", Some(214)),
+    (BLOCK, ("{", 195), "for(;;a=1);", ("}", 195), "}", Some(217)),
+    (BLOCK, ("{", 195), "switch(1){}", ("}", 195), "}", None),
+    (BLOCK, ("{", 196), "switch(1){}", ("}", 196), "}", Some(211)),
+    (
+        BLOCK,
+        ("{", 195),
+        "switch(1){default:}",
+        ("}", 195),
+        "}",
+        None,
+    ),
+    (
+        BLOCK,
+        ("{", 195),
+        "switch(1){;}",
+        ("}", 195),
+        "}",
+        Some(220),
+    ),
+    (BLOCK, ("{", 194), "switch(1){;}", ("}", 194), "}", None),
+    (
+        BLOCK,
+        ("{", 195),
+        "switch(1){case 1:}",
+        ("}", 195),
+        "}",
+        Some(220),
+    ),
+    (
+        BLOCK,
+        ("{", 194),
+        "switch(1){case 1:}",
+        ("}", 194),
+        "}",
+        None,
+    ),
+    (
+        BLOCK,
+        ("{", 194),
+        "switch(1){case -1:}",
+        ("}", 194),
+        "}",
+        Some(224),
+    ),
+    (BLOCK, ("switch(1){", 98), "", ("}", 98), "}", None),
+    (BLOCK, ("switch(1){", 99), "", ("}", 99), "}", Some(995)),
+];
+
+/// Declarations.
+pub(crate) const DECLARATIONS: [Tall; 31] = [
+    (BLOCK, ("{", 194), "int a;", ("}", 194), "}", None),
+    (BLOCK, ("{", 195), "int a;", ("}", 195), "}", Some(210)),
+    (BLOCK, ("{", 194), "int *a, b[1];", ("}", 194), "}", None),
+    (BLOCK, ("{", 194), "int a[1+1];", ("}", 194), "}", Some(216)),
+    (BLOCK, ("{", 194), "int a=1;", ("}", 194), "}", None),
+    (BLOCK, ("{", 194), "int a=-1;", ("}", 194), "}", Some(215)),
+    // a list has a value
+    (BLOCK, ("{", 194), "int a={1};", ("}", 194), "}", Some(215)),
+    (BLOCK, ("{", 193), "int a={1};", ("}", 193), "}", None),
+    (BLOCK, ("{", 193), "int a={-1};", ("}", 193), "}", Some(215)),
+    (BLOCK, ("{", 194), "int f(void);", ("}", 194), "}", None),
+    // `void` may be all
+    (
+        BLOCK,
+        ("{", 194),
+        "int f(void*);",
+        ("}", 194),
+        "}",
+        Some(219),
+    ),
+    (
+        BLOCK,
+        ("{", 194),
+        "int f(void a);",
+        ("}", 194),
+        "}",
+        Some(220),
+    ),
+    (BLOCK, ("{", 194), "int f(int);", ("}", 194), "}", Some(215)),
+    (BLOCK, ("{", 193), "int f(int);", ("}", 193), "}", Some(214)),
+    (
+        BLOCK,
+        ("{", 193),
+        "int f(void*);",
+        ("}", 193),
+        "}",
+        Some(218),
+    ),
+    (BLOCK, ("{", 192), "int f(int);", ("}", 192), "}", None),
+    (BLOCK, ("{", 192), "int f(int[1]);", ("}", 192), "}", None),
+    (
+        BLOCK,
+        ("{", 192),
+        "int f(int[-1]);",
+        ("}", 192),
+        "}",
+        Some(217),
+    ),
+    ("int a=", ("~", 196), "1;", ("", 0), "", None),
+    ("int a=", ("~", 197), "1;", ("", 0), "", Some(202)),
+    ("int a[", ("~", 196), "1];", ("", 0), "", None),
+    ("int a[", ("~", 197), "1];", ("", 0), "", Some(202)),
+    ("int a={", ("~", 195), "1};", ("", 0), "", None),
+    ("int a={", ("~", 196), "1};", ("", 0), "", Some(202)),
+    ("int f(int a[", ("~", 194), "1]);", ("", 0), "", None),
+    // it may be a function as far as `;`
+    ("int f(int a[", ("~", 195), "1]);", ("", 0), "", Some(210)),
+    ("int f(int a[", ("~", 195), "1]){}", ("", 0), "", None),
+    ("int f(int a[", ("~", 196), "1]){}", ("", 0), "", Some(207)),
+    ("int a", (",a", 90_000), ";", ("", 0), "", None),
+    ("", ("int a;", 60_000), "", ("", 0), "", None),
+    ("int ", ("*", 190_000), "a;", ("", 0), "", None),
+];
