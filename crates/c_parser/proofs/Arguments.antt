@@ -15,8 +15,9 @@ use Rattle.c_tree.proofs.Parsing.ReadsOne.{one_reading}
 use Rattle.c_parser.specs.declared.parser.Parsed.{Parsed}
 use Rattle.c_parser.specs.declared.parser.Arguments.{Arguments}
 use Rattle.c_parser.specs.Front.{behind, kind_mark, mark_at}
-use Rattle.c_parser.specs.Parses.{read, IsParsed, AreRead, trees_of}
-use Rattle.c_parser.proofs.Words.{is_first}
+use Rattle.c_parser.specs.Parses.{read, IsParsed, AreRead}
+use Rattle.c_tree.specs.SyntaxView.{trees_of}
+use Rattle.c_parser.proofs.Words.{is_first, behind_shorter}
 
 -- ---- nothing is read where nothing begins
 
@@ -96,10 +97,6 @@ pub record ArgumentsSoFar (before : List Token) (depth : ℕ) (list : List Expr)
 pub arguments_begin : (before : List Token) (depth : ℕ) → depth + 1 ≤ greatest_height → ArgumentsSoFar before depth [] 0 before
 arguments_begin before depth le = record { goes = λ trees rest r. r; only = λ all r. record { trees = all.trees; reads = r; high = omega arith }; height_is = refl; fits = omega arith; shorter = omega arith }
 
-behind_le : (tokens : List Token) → length (behind tokens) ≤ length tokens
-behind_le [] = omega arith
-behind_le (t ∷ more) = omega arith
-
 -- one more, before a comma
 rest_goes : (mid : List Token) (all : ArgumentsReading) → mark_at mid ≡ Some mark.Comma → ReadsSome (behind mid) all → ReadsRest (separator_of mid) mid all
 rest_goes [] all e r = absurd cc
@@ -146,7 +143,7 @@ module _ (before : List Token) (depth : ℕ) (list : List Expr) (height : ℕ) (
     only = λ all r. let from = s.only all r in arguments_behind cursor (read p mid) from.trees all q.reads from.reads from.high e;
     height_is = more_height;
     fits = more_fits;
-    shorter = let k = s.shorter in let j = q.shorter in omega (arith, behind_le mid);
+    shorter = let k = s.shorter in let j = q.shorter in omega (arith, behind_shorter mid);
   }
 
   arguments_some : mark_at mid ≡ Some mark.CloseParen → ReadsSome before (listed (trees_of (list ++ p.tree ∷ [])) (behind mid))
@@ -160,7 +157,7 @@ module _ (before : List Token) (depth : ℕ) (list : List Expr) (height : ℕ) (
         (SomeRead (subst (λ l. ReadsSome before (listed (trees_of l) (behind mid))) (sym items) (arguments_some e)));
     height = high ∙ more_height ∙ ap (λ l. arguments_height (trees_of l)) (sym items);
     fits = let k = more_fits in omega (arith, high);
-    shorter = let k = s.shorter in let j = q.shorter in omega (arith, behind_le mid);
+    shorter = let k = s.shorter in let j = q.shorter in omega (arith, behind_shorter mid);
   }
 
 some_other : (before : List Token) (o : ArgumentsReading) → ReadsSome before o → mark_at before ≢ Some mark.CloseParen → separator_of before ≡ OtherHere

@@ -21,11 +21,13 @@ use Rattle.c_parser.specs.declared.parser.Parsed.{Parsed}
 use Rattle.c_parser.specs.declared.parser.Arguments.{Arguments}
 use Rattle.c_parser.specs.Front.{behind, kind_at, kind_mark, kind_word, kind_name, mark_at, word_at, name_at, is_open, is_there, opens, opens_type}
 use Rattle.c_parser.specs.Operators.{step_at, prefix_at}
-use Rattle.c_parser.specs.Parses.{AtPrimary, Up, read, IsMeasured, IsParsed, IsOperand, IsBehind, IsNode, IsConstant, constant_form, constant_at, ReadsType, ReadsClosed, AreRead, trees_of}
-use Rattle.c_parser.proofs.Words.{is_first}
+use Rattle.c_parser.specs.Parses.{AtPrimary, Up, read, IsMeasured, IsParsed, IsOperand, IsBehind, IsNode, IsConstant, constant_form, constant_at, ReadsType, ReadsClosed, AreRead}
+use Rattle.c_tree.specs.SyntaxView.{trees_of}
+use Rattle.c_parser.proofs.Words.{is_first, behind_shorter}
 use Rattle.c_parser.proofs.Nexts.{next_at, next_is, no_cast, no_unary, no_primary, step_stands}
 use Rattle.c_parser.proofs.Rows.{node_measured}
 use Rattle.c_parser.proofs.Parens.{operand_by}
+use Rattle.c_parser.proofs.TakesLemmas.{kind_worded, kind_named}
 
 -- ---- a type in parentheses
 
@@ -161,15 +163,11 @@ prefix_parsed (t ∷ more) depth op operand rest p at e place r n =
     first_parsed UnaryRow (t ∷ more) depth p rest _ at true _ n (one_measured depth operand _ at true p r.measured refl n) place (let k = r.shorter in omega arith)
     (own UnaryRow (t ∷ more) (PrefixStart op) _ (starts_by t more (token.Mark (prefix_mark op)) is ∙ prefix_start op (spec_of more)) refl (PrefixFirst is r.reads) (no_unary (next_of rest) ∙ sym (no_primary (next_of rest))))
 
-pub kind_word_back : (kind : TokenKind) (k : Keyword) → kind_word kind ≡ Some k → kind ≡ token.Word k
-kind_word_back (token.Word n) k e = let same : n ≡ k = cc in ap token.Word same
-kind_word_back kind k e = absurd cc
-
 pub size_parsed : (before : List Token) (depth : ℕ) (operand : Parsed) (rest : List Token) (p : Parsed) (at : ℕ) → word_at before ≡ Some keyword.Sizeof → opens_type (behind before) ≡ false → (0 < length before → at ≡ place_of before)
     → IsParsed UnaryRow None (behind before) (depth + 1) operand rest → IsNode (SizeofValue (expression_of operand.tree)) at true operand.height p → IsParsed UnaryRow None before depth p rest
 size_parsed [] depth operand rest p at e o place r n = absurd cc
 size_parsed (t ∷ more) depth operand rest p at e o place r n =
-    let is : IsKeyword keyword.Sizeof t = kind_word_back t.kind keyword.Sizeof e in
+    let is : IsKeyword keyword.Sizeof t = kind_worded t.kind keyword.Sizeof e in
     first_parsed UnaryRow (t ∷ more) depth p rest _ at true _ n (one_measured depth operand _ at true p r.measured refl n) place (let k = r.shorter in omega arith)
     (own UnaryRow (t ∷ more) SizeofValueStart _ (starts_by t more (token.Word keyword.Sizeof) is ∙ sizeof_value_by (start_of more) (opens_cast more ∙ o)) refl (SizeofValueFirst is r.reads) (no_unary (next_of rest) ∙ sym (no_primary (next_of rest))))
 
@@ -186,7 +184,7 @@ pub size_type_parsed : (before : List Token) (depth : ℕ) (tree : TypeTree) (re
 size_type_parsed [] depth tree rest p at e o place r le n = absurd cc
 size_type_parsed (t ∷ more) depth tree rest p at e o place r le n =
     first_parsed UnaryRow (t ∷ more) depth p rest _ at true _ n (node_measured _ at true 1 depth p n refl le) place (omega (arith, closed_shorter more rest tree r))
-    (size_type_reads t r.opening r.close r.taken rest more tree (kind_word_back t.kind keyword.Sizeof e) r.cut r.opens r.is r.closes o)
+    (size_type_reads t r.opening r.close r.taken rest more tree (kind_worded t.kind keyword.Sizeof e) r.cut r.opens r.is r.closes o)
 
 cast_reads : (before mid : List Token) (tree : TypeTree) (o : Reading) → opens_type before ≡ true → ReadsClosed before tree mid → Reads CastRow mid o → Reads CastRow before (reading (Node (Cast tree o.tree) (place_of before)) false o.rest)
 cast_reads before mid tree o opened r q =
@@ -320,14 +318,6 @@ constant_read before after kind k at left e is place = record {
 
 -- ---- names and calls
 
-behind_le : (tokens : List Token) → length (behind tokens) ≤ length tokens
-behind_le [] = omega arith
-behind_le (t ∷ more) = omega arith
-
-pub kind_name_back : (kind : TokenKind) (name : List ℕ) → kind_name kind ≡ Some name → kind ≡ token.Name name
-kind_name_back (token.Name n) name e = let same : n ≡ name = cc in ap token.Name same
-kind_name_back kind name e = absurd cc
-
 name_by : (o : Option Punct) (name : List ℕ) → o ≢ Some mark.OpenParen → name_start (next_at o) name ≡ NameStart name
 name_by None name h = refl
 name_by (Some mark.OpenParen) name h = absurd (h refl)
@@ -337,7 +327,7 @@ pub name_operand : (before : List Token) (depth : ℕ) (p : Parsed) (name : List
     → IsNode (Name name) at true 0 p → IsOperand before depth p (behind before)
 name_operand [] depth p name at e h place le n = absurd cc
 name_operand (t ∷ more) depth p name at e h place le n =
-    let is = kind_name_back t.kind name e in
+    let is = kind_named t.kind name e in
     leaf_operand (t ∷ more) depth p more (Name name) at n refl le (place (omega arith)) (omega arith)
     (operand_by (t ∷ more) (NameStart name) _ (starts_by t more (token.Name name) is ∙ ap (λ x. name_start x name) (next_is more) ∙ name_by (mark_at more) name h) refl refl (NameFirst is))
 
@@ -355,8 +345,8 @@ call_operand (t ∷ more) depth p name at a rest e h place r n =
     let here = place (omega arith) in
     record {
       starts = subst (λ o. Starts PostfixRow (first_of PostfixRow (start_of (t ∷ more))) (t ∷ more) o) (sym (ap (λ k. reading k p.is_unary rest) (n.tree ∙ ap (Node (Call name (trees_of a.list.items))) here) ∙ ap (λ u. reading (Node (Call name (trees_of a.list.items)) t.at) u rest) n.unary_is))
-          (call_starts t more rest name depth a (kind_name_back t.kind name e) h r);
+          (call_starts t more rest name depth a (kind_named t.kind name e) h r);
       place = n.place ∙ here;
       measured = node_measured _ at true a.height depth p n r.height r.fits;
-      shorter = let k = r.shorter in omega (arith, behind_le more);
+      shorter = let k = r.shorter in omega (arith, behind_shorter more);
     }

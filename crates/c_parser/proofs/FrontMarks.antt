@@ -12,6 +12,7 @@ use Rattle.c_parser.specs.Front.{kind_mark, mark_at}
 use Rattle.c_parser.specs.Fronts.{NoFront, ExpressionFront}
 use Rattle.c_parser.proofs.TakesLemmas.{greatest_first}
 use Rattle.c_parser.proofs.FrontTokens.{mark_sorted, mark_is}
+use Rattle.c_parser.proofs.Insides.{expression_some}
 
 -- heights of lists
 pub first_low : {T : Type 0} (h : T → ℕ) (x : T) (xs : List T) (depth limit : ℕ) → depth + greatest (map h (x ∷ xs)) ≤ limit → depth + h x ≤ limit
@@ -20,11 +21,8 @@ first_low h x xs depth limit low = let e = greatest_first (h x) (map h xs) in om
 pub others_low : {T : Type 0} (h : T → ℕ) (x : T) (xs : List T) (depth limit : ℕ) → depth + greatest (map h (x ∷ xs)) ≤ limit → depth + greatest (map h xs) ≤ limit
 others_low h x xs depth limit low = let e = greatest_first (h x) (map h xs) in omega (arith, low, e)
 
-pub height_some : (x : Expression) → 1 ≤ expression_height x
-height_some (Node form at) = omega arith
-
-pub expression_low : {row : Row} {depth : ℕ} {b : List Token} → 200 ≤ depth + 0 → NoFront (ExpressionFront row depth) b
-expression_low h = record { never = λ after f. let some = height_some f.tree in omega (arith, h, f.low, some) }
+pub expression_too_high : {row : Row} {depth : ℕ} {b : List Token} → 200 ≤ depth + 0 → NoFront (ExpressionFront row depth) b
+expression_too_high h = record { never = λ after f. let some = expression_some f.tree in omega (arith, h, f.low, some) }
 
 -- marks at the front
 pub mark_here : {m : Punct} (t : Token) (more : List Token) → IsMark m t → mark_at (t ∷ more) ≡ Some m

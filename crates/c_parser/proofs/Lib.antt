@@ -1,6 +1,5 @@
 pub mod Refusals
 pub mod Arguments
-pub mod Calls
 pub mod Firsts
 pub mod Nexts
 pub mod Parens
@@ -28,3 +27,4 @@ pub mod StatementWays
 pub mod StatementLists
 pub mod UnitWays
 pub mod UnitTaken
+pub mod Places

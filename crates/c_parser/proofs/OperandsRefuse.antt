@@ -26,11 +26,12 @@ use Rattle.c_parser.specs.Operators.{step_at, prefix_at}
 use Rattle.c_parser.specs.Parses.{Climbs, AtPrimary, Up, read, IsMeasured, IsParsed, IsOperand, constant_form, constant_at, ReadsType, ReadsClosed, Opened, NoneOpened, OneOpened, NoReading, NoOperand, NoneBehind, NoArguments, NotClosed}
 use Rattle.c_parser.proofs.Words.{is_first}
 use Rattle.c_parser.proofs.Nexts.{no_unary, no_primary, step_stands, stands_by}
-use Rattle.c_parser.proofs.Firsts.{opens_cast, cast_is, sizeof_value_by, starts_by, prefix_stands, unary_passes_by, kind_name_back, kind_word_back}
+use Rattle.c_parser.proofs.Firsts.{opens_cast, cast_is, sizeof_value_by, starts_by, prefix_stands, unary_passes_by}
 use Rattle.c_parser.proofs.Rows.{BehindSoFar}
 use Rattle.c_parser.proofs.Insides.{expression_some, more_higher, alone_same, stands_alone, passes_to, Indexed, index_inside, step_inside}
 use Rattle.c_parser.proofs.Parens.{last_opened, some_not_none, ParenState, Inside, Closed, closed_by}
 use Rattle.c_parser.proofs.Arguments.{ArgumentsSoFar, ArgumentsFrom, first_argument}
+use Rattle.c_parser.proofs.TakesLemmas.{kind_named, kind_worded}
 
 -- ---- one part behind the first token
 
@@ -83,7 +84,7 @@ type_first before all (SizeofTypeFirst {u = u} a rest v {type = type} k m cut h 
 }
 
 sizeof_starts : (t : Token) (more : List Token) → word_at (t ∷ more) ≡ Some keyword.Sizeof → start_of (t ∷ more) ≡ sizeof_start (start_of more)
-sizeof_starts t more e = starts_by t more (token.Word keyword.Sizeof) (kind_word_back t.kind keyword.Sizeof e)
+sizeof_starts t more e = starts_by t more (token.Word keyword.Sizeof) (kind_worded t.kind keyword.Sizeof e)
 
 pub size_part : (before : List Token) → word_at before ≡ Some keyword.Sizeof → opens_type (behind before) ≡ false → (all : Reading) → Reads UnaryRow before all → HasPart UnaryRow before all
 size_part [] e o all r = absurd cc
@@ -290,7 +291,7 @@ called : (before : List Token) (name : List ℕ) (all : Reading) → name_at bef
 called [] name all e h s = absurd cc
 called (t ∷ []) name all e h s = absurd cc
 called (t ∷ u ∷ more) name all e h s =
-    let start = call_starts t (u ∷ more) name (kind_name_back t.kind name e) (ap next_kind (is_first u more mark.OpenParen h)) in
+    let start = call_starts t (u ∷ more) name (kind_named t.kind name e) (ap next_kind (is_first u more mark.OpenParen h)) in
     call_first (t ∷ u ∷ more) name all (subst (λ f. Starts PostfixRow f (t ∷ u ∷ more) all) (ap postfix_first start) s)
 
 pub call_refused : (depth : ℕ) (before : List Token) (name : List ℕ) → name_at before ≡ Some name → mark_at (behind before) ≡ Some mark.OpenParen → NoArguments depth (behind (behind before)) → NoOperand depth before

@@ -12,7 +12,7 @@ use Rattle.c_tree.specs.SyntaxView.{expression_of}
 use Rattle.c_parser.specs.declared.parser.Parsed.{Parsed}
 use Rattle.c_parser.specs.Front.{behind, kind_mark, mark_at, is_open, is_there, opens, opens_type}
 use Rattle.c_parser.specs.Parses.{Climbs, AtPrimary, Up, read, IsMeasured, IsParsed, IsOperand, Opened, NoneOpened, OneOpened}
-use Rattle.c_parser.proofs.Words.{is_first}
+use Rattle.c_parser.proofs.Words.{is_first, behind_shorter}
 use Rattle.c_parser.proofs.Nexts.{no_primary}
 
 -- ---- what stands first alone
@@ -125,10 +125,6 @@ paren_takes : (t : Token) (input cursor : List Token) (tree : Expression) (unary
 paren_takes t input [] tree unary m r e = absurd cc
 paren_takes t input (u ∷ rest) tree unary m r e = ParenFirst m r (is_first u rest mark.CloseParen e)
 
-pub behind_le : (tokens : List Token) → length (behind tokens) ≤ length tokens
-behind_le [] = omega arith
-behind_le (t ∷ more) = omega arith
-
 -- with more of them open
 goes_on : (before : List Token) (depth : ℕ) (places : List ℕ) (at : ℕ) (inner : Parsed) (input cursor : List Token) (p : Parsed) (after : List Token) → LastOpened before places at input → Reads ExpressionRow input (read inner cursor)
     → mark_at cursor ≡ Some mark.CloseParen → 0 < length places → length cursor ≤ length input → IsParsed ExpressionRow (Some (closed_by inner at)) (behind cursor) depth p after → ParenState before depth places p after
@@ -137,7 +133,7 @@ goes_on before depth places at inner input cursor p after l r e some le q =
     let takes = paren_takes l.token input cursor (expression_of inner.tree) inner.is_unary l.is r e in
     let primary = alone PrimaryRow (l.token ∷ input) (reading (expression_of inner.tree) true (behind cursor)) (subst (λ f. Starts PrimaryRow f (l.token ∷ input) (reading (expression_of inner.tree) true (behind cursor))) (sym (ap primary_first start)) takes) refl in
     Inside (l.token ∷ input) l.opened some (climbs_reads ExpressionRow (l.token ∷ input) at (reading (expression_of inner.tree) true (behind cursor)) (read p after) start l.place primary q.reads) q.measured
-    (let k = q.shorter in omega (arith, le, behind_le cursor))
+    (let k = q.shorter in omega (arith, le, behind_shorter cursor))
 
 pub parens_more : (before : List Token) (depth : ℕ) (all places : List ℕ) (at : ℕ) (inner : Parsed) (cursor : List Token) (p : Parsed) (after : List Token) → ParenState before depth all inner cursor → all ≡ places ++ at ∷ []
     → mark_at cursor ≡ Some mark.CloseParen → 0 < length places → IsParsed ExpressionRow (Some (closed_by inner at)) (behind cursor) depth p after → ParenState before depth places p after
@@ -153,7 +149,7 @@ closes before depth places at inner input cursor t NoneOpened is spec place r e 
       starts = operand_by (t ∷ input) ParenStart (reading (expression_of inner.tree) true (behind cursor)) start refl refl (paren_takes t input cursor (expression_of inner.tree) inner.is_unary is r e);
       place = place;
       measured = record { height = m.height; fits = m.fits };
-      shorter = omega (arith, le, behind_le cursor);
+      shorter = omega (arith, le, behind_shorter cursor);
     }
 closes before depth places at inner input cursor t (OneOpened {places = qs} {t = u} o k s) is spec place r e none le m = absurd (omega (arith, none, length-append qs (u.at ∷ [])))
 

@@ -20,6 +20,7 @@ use Rattle.c_tree.proofs.Parsing.ReadsOne.{one_reading}
 use Rattle.c_parser.proofs.Insides.{Indexed, index_inside, step_inside}
 use Rattle.c_parser.specs.Parses.{Up, read, ReadBy, place_from, IsMeasured, IsParsed, IsMore, IsBehind, IsOneBehind, IsNode}
 use Rattle.c_parser.proofs.Nexts.{no_question, no_assignment, no_postfix, question_goes, index_goes, step_goes, assign_goes}
+use Rattle.c_parser.proofs.Words.{behind_shorter}
 
 -- ---- passing on
 
@@ -101,10 +102,6 @@ two_measured depth left right form at unary p l r le e n =
     node_measured form at unary (max left.height right.height) depth p n
     (ap (λ h. max h right.height) l.height ∙ ap (λ h. max (expression_height (expression_of left.tree)) h) r.height ∙ sym e)
     (let k = r.fits in omega arith)
-
-pub behind_shorter : (tokens : List Token) → length (behind tokens) ≤ length tokens
-behind_shorter [] = omega arith
-behind_shorter (t ∷ more) = omega arith
 
 -- ---- the rows
 

@@ -25,7 +25,8 @@ use Rattle.c_parser.specs.Operators.{level_row, row_at, binary_level, infix_form
 use Rattle.c_parser.specs.Parses.{Climbs, AtPrimary, Up, read, ReadBy, place_from, IsMeasured, IsParsed, IsMore, IsNode, ReadsClosed, NoReading, NoMore, NotClosed}
 use Rattle.c_parser.proofs.Nexts.{next_at, next_is, binary_row, pair_of, level_passes, same_level, assignment_back, level_goes, no_cast, no_comma, comma_goes}
 use Rattle.c_parser.proofs.Firsts.{opens_cast, cast_is, cast_passes_by}
-use Rattle.c_parser.proofs.Rows.{PassesOn, passing, read_on, stops, node_more, two_measured, behind_shorter, infix_height, assignment_height}
+use Rattle.c_parser.proofs.Rows.{PassesOn, passing, read_on, stops, node_more, two_measured, infix_height, assignment_height}
+use Rattle.c_parser.proofs.Words.{behind_shorter}
 
 -- ---- one reading, with a start too
 

@@ -22,6 +22,7 @@ use Rattle.c_parser.specs.StatementFronts.{StatementFront, OptionalFront, DoTest
 use Rattle.c_parser.proofs.FrontLemmas.{behind_one, fails_as, second_fails, one_leads}
 use Rattle.c_parser.proofs.FrontTokens.{mark_sorted, word_sorted, mark_is, word_is, ends_fitting, no_semicolon, no_brace, leads, word_leads}
 use Rattle.c_parser.proofs.TakesLemmas.{gone, one_before, one_behind}
+use Rattle.c_parser.proofs.Insides.{expression_some}
 
 pub tested_ways : (depth : ℕ) (b after : List Token) → TestedFront depth b after → Then (One (IsMark mark.OpenParen)) (Then (ExpressionFront ExpressionRow depth) (One (IsMark mark.CloseParen))) b after
 tested_ways depth b after f =
@@ -35,13 +36,6 @@ tested_ways depth b after f =
         second = record { t = g.u; cut = refl; is = g.closes };
       };
     }
-
--- each expression has a height
-expression_some : (x : Expression) → 1 ≤ expression_height x
-expression_some (Node form at) = omega arith
-
-pub expression_too_high : {row : Row} {depth : ℕ} {b : List Token} → 200 ≤ depth + 0 → NoFront (ExpressionFront row depth) b
-expression_too_high h = record { never = λ after f. let some = expression_some f.tree in omega (arith, h, f.low, some) }
 
 -- each statement has a height
 statement_some : (x : Statement) → 1 ≤ statement_height x

@@ -54,7 +54,7 @@ pub kind_worded : (k : TokenKind) (w : Keyword) → kind_word k ≡ Some w → k
 kind_worded (token.Word n) w e = cc
 kind_worded k w e = cc
 
-kind_named : (k : TokenKind) (name : List ℕ) → kind_name k ≡ Some name → k ≡ token.Name name
+pub kind_named : (k : TokenKind) (name : List ℕ) → kind_name k ≡ Some name → k ≡ token.Name name
 kind_named (token.Name n) name e = cc
 kind_named k name e = cc
 

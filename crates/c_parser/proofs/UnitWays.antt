@@ -16,7 +16,7 @@ use Rattle.c_tree.proofs.Rows.Externals.{external_one, name_other}
 use Rattle.c_tree.proofs.Rows.UnitOne.{known}
 use Rattle.c_parser.specs.Front.{mark_at}
 use Rattle.c_parser.specs.Takes.{Takes}
-use Rattle.c_parser.specs.Refusals.{NoSource}
+use Rattle.c_tree.specs.Source.{NoSource}
 use Rattle.c_parser.specs.Fronts.{NoFront, OnlyTo, Then, One, SpecsFront, StarsFront, DeclarationFront}
 use Rattle.c_parser.specs.DeclarationFronts.{EndsForm, FormFront, MoreItems, Ended, GoesOn, ParametersFront, IsAnyName}
 use Rattle.c_parser.specs.StatementFronts.{StatementFront}

@@ -18,8 +18,9 @@ use Rattle.c_parser.specs.DeclarationFronts.{ValuesFront, BracedFront, Ended, Go
 use Rattle.c_parser.proofs.FrontLemmas.{one_leads, only_stays}
 use Rattle.c_parser.proofs.TakesLemmas.{greatest_first}
 use Rattle.c_parser.proofs.FrontTokens.{mark_sorted}
-use Rattle.c_parser.proofs.FrontMarks.{height_some, first_low, others_low, mark_here, other_mark, ends_at_mark}
+use Rattle.c_parser.proofs.FrontMarks.{first_low, others_low, mark_here, other_mark, ends_at_mark}
 use Rattle.c_parser.proofs.ListWays.{no_comma_ends}
+use Rattle.c_parser.proofs.Insides.{expression_some}
 
 last_ends : (last after : List Token) → IsLastComma last → mark_at after ≡ Some mark.CloseBrace → Ends AssignmentRow (last ++ after)
 last_ends last after (inl e) ends = subst (λ l. Ends AssignmentRow (l ++ after)) (sym e) (ends_at_mark AssignmentRow mark.CloseBrace after ends (omega arith))
@@ -89,8 +90,8 @@ values_go h b d a e = d (ap mark_at (b ∙ sym (values_end_one h e.ends e.last e
 
 -- heights
 value_some : (xs : List Token) (trees : List Expression) → DerivesList xs trees → 1 ≤ greatest (map expression_height trees)
-value_some _ _ (LastOfList {tree = x} d) = let e = greatest_first (expression_height x) [] in let k = height_some x in omega (arith, e, k)
-value_some _ _ (MoreOfList a b t {tree = x} {trees = xs} cut d m more) = let e = greatest_first (expression_height x) (map expression_height xs) in let k = height_some x in omega (arith, e, k)
+value_some _ _ (LastOfList {tree = x} d) = let e = greatest_first (expression_height x) [] in let k = expression_some x in omega (arith, e, k)
+value_some _ _ (MoreOfList a b t {tree = x} {trees = xs} cut d m more) = let e = greatest_first (expression_height x) (map expression_height xs) in let k = expression_some x in omega (arith, e, k)
 
 pub braced_too_high : (depth : ℕ) {b : List Token} → 200 ≤ depth + 1 → NoFront (BracedFront depth) b
 braced_too_high depth h = record {

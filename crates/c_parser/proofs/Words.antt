@@ -1,5 +1,5 @@
 -- The words and stars of a type, taken one by one.
-use Rattle.std.proofs.Common.{◌≡◌, ◌≢◌, ℕ, ◌+◌, ◌-◌, ◌<◌, zero, suc, List, [], ◌∷◌, ◌++◌, length, Option, Some, None, refl, sym, ap, ◌∙◌, subst, arith, append_assoc}
+use Rattle.std.proofs.Common.{◌≡◌, ◌≢◌, ℕ, ◌+◌, ◌-◌, ◌<◌, ◌≤◌, zero, suc, List, [], ◌∷◌, ◌++◌, length, Option, Some, None, refl, sym, ap, ◌∙◌, subst, arith, append_assoc}
 use Rattle.c_tree.specs.declared.token.Token.{Token}
 use Rattle.c_tree.specs.declared.token.TokenKind.{TokenKind}
 use Rattle.c_tree.specs.declared.token.TokenKind.TheVariants as token
@@ -13,6 +13,7 @@ use Rattle.c_tree.specs.Grammar.{spec_keyword, IsMark, IsKeyword, place_of, AreS
 use Rattle.c_tree.specs.Lookahead.{keyword_spec, kind_spec, spec_of}
 use Rattle.c_parser.specs.Front.{behind, kind_mark, mark_at}
 use Rattle.c_parser.specs.Parses.{ReadsSpecs, ReadsStars, ReadsType}
+use Rattle.c_parser.proofs.TakesLemmas.{kind_marked}
 
 -- ---- what stands first
 
@@ -34,13 +35,9 @@ kind_word_back : (kind : TokenKind) (w : SpecWord) → kind_spec kind ≡ Some w
 kind_word_back (token.Word k) w e = ap token.Word (keyword_back k w e)
 kind_word_back kind w e = absurd cc
 
-kind_mark_back : (kind : TokenKind) (m : Punct) → kind_mark kind ≡ Some m → kind ≡ token.Mark m
-kind_mark_back (token.Mark n) m e = let same : n ≡ m = cc in ap token.Mark same
-kind_mark_back kind m e = absurd cc
-
 -- a mark that stands first
 pub is_first : (t : Token) (more : List Token) (m : Punct) → mark_at (t ∷ more) ≡ Some m → IsMark m t
-is_first t more m e = kind_mark_back t.kind m e
+is_first t more m e = kind_marked t.kind m e
 
 pub mark_some : (tokens : List Token) (m : Punct) → mark_at tokens ≡ Some m → 0 < length tokens
 mark_some [] m e = absurd cc
@@ -111,7 +108,7 @@ stars_more before (t ∷ more) s e = record {
   count = suc s.count;
   taken = s.taken ++ t ∷ [];
   cut = s.cut ∙ sym (append_assoc s.taken (t ∷ []) more);
-  are = stars_behind s.taken s.count t s.are (kind_mark_back t.kind mark.Star e);
+  are = stars_behind s.taken s.count t s.are (kind_marked t.kind mark.Star e);
   counts = omega (arith, s.counts);
 }
 
@@ -131,3 +128,9 @@ type_read before mid after type s r = record {
   whole = sym (ap spec_of r.cut) ∙ s.ends;
   ends = r.ends;
 }
+
+-- ---- one token fewer
+
+pub behind_shorter : (tokens : List Token) → length (behind tokens) ≤ length tokens
+behind_shorter [] = omega arith
+behind_shorter (t ∷ more) = omega arith

@@ -1,4 +1,5 @@
 pub mod Refusals
+pub mod ParseFaults
 pub mod Front
 pub mod Operators
 pub mod Parses

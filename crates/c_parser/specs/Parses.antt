@@ -10,7 +10,7 @@ use Rattle.c_tree.specs.Grammar.{Row, PostfixRow, PrimaryRow, tighter, place_of,
 use Rattle.c_tree.specs.Lookahead.{next_of, going_of, spec_of, start_of}
 use Rattle.c_tree.specs.Reads.{Reading, reading, first_of, Reads, Starts, More, ArgumentsReading, ReadsArguments, listed, separator_of}
 use Rattle.c_tree.specs.Measures.{expression_height, arguments_height, greatest_height}
-use Rattle.c_tree.specs.SyntaxView.{expression_of}
+use Rattle.c_tree.specs.SyntaxView.{expression_of, trees_of}
 use Rattle.c_parser.specs.declared.parser.Parsed.{Parsed}
 use Rattle.c_parser.specs.declared.parser.Arguments.{Arguments}
 use Rattle.c_parser.specs.Front.{behind, mark_at}
@@ -105,10 +105,6 @@ pub record IsConstant (before : List Token) (p : Parsed) (after : List Token) : 
   pub left : after ≡ behind before
 
 -- the arguments of a call up to behind its `)`
-abbrev pub trees_of : List Expr → Expressions
-trees_of [] = no_argument
-trees_of (e ∷ more) = argument (expression_of e) (trees_of more)
-
 pub record AreRead (before : List Token) (depth : ℕ) (a : Arguments) (after : List Token) : Type 0 where
   pub reads : ReadsArguments (separator_of before) before (listed (trees_of a.list.items) after)
   pub height : a.height ≡ arguments_height (trees_of a.list.items)

@@ -4,7 +4,7 @@ ghost use Rattle.c_tree.specs.Grammar.{place_of};
 ghost use Rattle.c_tree.specs.Lookahead.{spec_of, kind_spec, keyword_spec};
 ghost use Rattle.c_parser.specs.Front.{behind, kind_at, kind_mark, kind_word, kind_name, mark_at, word_at, name_at, opens_type, is_open, is_there, opens, is_void_alone, is_void_word, is_void_kind, is_close_kind, is_separator_kind, is_separator_at};
 
-use crate::fault::ParseFault;
+use crate::fault::Refusal;
 use c_tree::{Keyword, Punct, SpecWord, Token, TokenKind};
 use std::marker::Model;
 
@@ -12,8 +12,6 @@ use std::marker::Model;
 #[derive(Drop)]
 pub(crate) struct Cursor<'a> {
     rest: &'a [Token],
-    /// The end of the last token of all, in bytes of the source, or 0 where there is none.
-    end: u32,
 }
 
 impl<'a> Model for Cursor<'a> {
@@ -32,11 +30,7 @@ impl<'a> Cursor<'a> {
         requires { length tokens.now < 2 ^ 32 }
         ensures { result ≡ tokens.now }
     {
-        let end = match tokens.last() {
-            Some(token) => token.at.saturating_add(token.len),
-            None => 0,
-        };
-        Cursor { rest: tokens, end }
+        Cursor { rest: tokens }
     }
 
     pub(crate) fn is_at_end(&self) -> bool
@@ -53,19 +47,19 @@ impl<'a> Cursor<'a> {
         self.rest.len() as u32
     }
 
-    /// The place of the next token, or the end of the last one.
+    /// The place of the next token, or 0 where none is left.
     pub(crate) fn place(&self) -> u32
         ensures { 0 < length self.now → result ≡ place_of self.now }
     {
         match self.rest.split_first() {
             Some((token, _)) => token.at,
-            None => self.end,
+            None => 0,
         }
     }
 
     /// The refusal of the next token.
-    pub(crate) fn refused(&self) -> ParseFault {
-        ParseFault::Syntax { at: self.place() }
+    pub(crate) fn refused(&self) -> Refusal {
+        Refusal::Syntax { left: self.left() }
     }
 
     pub(crate) fn kind(&self) -> Option<&'a TokenKind>
@@ -170,13 +164,9 @@ impl<'a> Cursor<'a> {
     }
 
     /// The refusal of the token behind the next one.
-    pub(crate) fn refused_behind(&self) -> ParseFault {
-        let Some((_, rest)) = self.rest.split_first() else {
-            return ParseFault::Syntax { at: self.end };
-        };
-        match rest.split_first() {
-            Some((behind, _)) => ParseFault::Syntax { at: behind.at },
-            None => ParseFault::Syntax { at: self.end },
+    pub(crate) fn refused_behind(&self) -> Refusal {
+        Refusal::Syntax {
+            left: self.left().saturating_sub(1),
         }
     }
 
@@ -202,7 +192,7 @@ impl<'a> Cursor<'a> {
         true
     }
 
-    pub(crate) fn expect(&mut self, mark: Punct) -> Result<(), ParseFault>
+    pub(crate) fn expect(&mut self, mark: Punct) -> Result<(), Refusal>
         ensures taken { IfOk result (λ _. mark_at self.old ≡ Some mark) }
         ensures left { IfOk result (λ _. self.new ≡ behind self.old) }
         ensures refused { IfErr result (λ _. mark_at self.old ≢ Some mark) }
@@ -235,7 +225,7 @@ impl<'a> Cursor<'a> {
         true
     }
 
-    pub(crate) fn expect_keyword(&mut self, keyword: Keyword) -> Result<(), ParseFault>
+    pub(crate) fn expect_keyword(&mut self, keyword: Keyword) -> Result<(), Refusal>
         ensures taken { IfOk result (λ _. word_at self.old ≡ Some keyword) }
         ensures left { IfOk result (λ _. self.new ≡ behind self.old) }
         ensures refused { IfErr result (λ _. word_at self.old ≢ Some keyword) }
@@ -248,7 +238,7 @@ impl<'a> Cursor<'a> {
     }
 
     /// Takes a name.
-    pub(crate) fn take_name(&mut self) -> Result<&'a str, ParseFault>
+    pub(crate) fn take_name(&mut self) -> Result<&'a str, Refusal>
         ensures taken { IfOk result (λ name. name_at self.old ≡ Some name.now) }
         ensures left { IfOk result (λ name. self.new ≡ behind self.old) }
         ensures refused { IfErr result (λ _. name_at self.old ≡ None) }

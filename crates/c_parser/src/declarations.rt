@@ -12,7 +12,7 @@ ghost use Rattle.c_parser.specs.Refusals.{Refuses};
 ghost use Rattle.c_parser.specs.DeclarationFronts.{ItemFront, FormFront, ArrayFront, LengthFront, InitialiserFront, BracedFront, ValuesFront, ParametersFront, ParameterListFront, ParameterFront, NameFront, ArrayMarkFront, IsAnyName, MoreItems};
 ghost use Rattle.c_parser.specs.Takes.{Takes, IsOne, Both, Behind, IsItemFront, ListGoesOn};
 
-use crate::fault::ParseFault;
+use crate::fault::Refusal;
 use crate::parser::Parser;
 use c_tree::{Brackets, Decl, Expr, Init, Item, ItemKind, Keyword, Param, Params, Punct, Specs};
 use word_base::{Items, Text};
@@ -29,7 +29,7 @@ const LEAF: u32 = 1;
 
 impl<'a> Parser<'a> {
     /// The row `declaration`, under so many nodes.
-    pub(crate) fn declaration(&mut self, depth: u32) -> Result<Tall<Decl>, ParseFault>
+    pub(crate) fn declaration(&mut self, depth: u32) -> Result<Tall<Decl>, Refusal>
         requires { depth < 198 }
         ensures tree { IfOk result (λ p. Takes (λ all. DerivesDeclaration all (declaration_of p.tree)) self.old.cursor self.new.cursor) }
         ensures height { IfOk result (λ p. p.height ≡ declaration_height (declaration_of p.tree)) }
@@ -48,7 +48,7 @@ impl<'a> Parser<'a> {
         specs: Specs,
         first: Tall<Item>,
         depth: u32,
-    ) -> Result<Tall<Decl>, ParseFault>
+    ) -> Result<Tall<Decl>, Refusal>
         requires low { depth < 198 }
         requires first_height { first.height ≡ item_height (item_of first.tree) }
         requires first_room { depth + 1 + first.height ≤ 200 }
@@ -72,7 +72,7 @@ impl<'a> Parser<'a> {
     }
 
     // The items of a declaration behind its first.
-    fn items_from(&mut self, first: Tall<Item>, depth: u32) -> Result<Tall<Vec<Item>>, ParseFault>
+    fn items_from(&mut self, first: Tall<Item>, depth: u32) -> Result<Tall<Vec<Item>>, Refusal>
         requires low { depth < 199 }
         requires first_height { first.height ≡ item_height (item_of first.tree) }
         requires first_room { depth + first.height ≤ 200 }
@@ -99,7 +99,7 @@ impl<'a> Parser<'a> {
     }
 
     // The row `item`.
-    fn item(&mut self, depth: u32) -> Result<Tall<Item>, ParseFault>
+    fn item(&mut self, depth: u32) -> Result<Tall<Item>, Refusal>
         requires { depth < 199 }
         ensures tree { IfOk result (λ p. Takes (λ all. DerivesItem all (item_of p.tree)) self.old.cursor self.new.cursor) }
         ensures height { IfOk result (λ p. p.height ≡ item_height (item_of p.tree)) }
@@ -116,7 +116,7 @@ impl<'a> Parser<'a> {
     }
 
     /// A name.
-    pub(crate) fn name(&mut self) -> Result<Text, ParseFault>
+    pub(crate) fn name(&mut self) -> Result<Text, Refusal>
         ensures tree { IfOk result (λ name. Takes (IsOne (IsName name)) self.old.cursor self.new.cursor) }
         ensures fewer { IfOk result (λ _. length self.new.cursor < length self.old.cursor) }
         ensures refused { IfErr result (Refuses (NoFront (One IsAnyName) self.old.cursor)) }
@@ -135,7 +135,7 @@ impl<'a> Parser<'a> {
         name: Text,
         kind: Tall<ItemKind>,
         depth: u32,
-    ) -> Result<Tall<Item>, ParseFault>
+    ) -> Result<Tall<Item>, Refusal>
         requires low { depth < 199 }
         requires kind_height { kind.height ≡ item_form_height (item_form_of kind.tree) }
         requires kind_room { depth + 1 + kind.height ≤ 200 }
@@ -161,7 +161,7 @@ impl<'a> Parser<'a> {
     }
 
     /// What stands behind the name of an item, if anything.
-    pub(crate) fn item_kind(&mut self, depth: u32) -> Result<Tall<ItemKind>, ParseFault>
+    pub(crate) fn item_kind(&mut self, depth: u32) -> Result<Tall<ItemKind>, Refusal>
         requires { depth ≤ 200 }
         ensures tree { IfOk result (λ p. Takes (λ all. DerivesForm all (item_form_of p.tree)) self.old.cursor self.new.cursor) }
         ensures height { IfOk result (λ p. p.height ≡ item_form_height (item_form_of p.tree)) }
@@ -192,7 +192,7 @@ impl<'a> Parser<'a> {
     }
 
     // `[`, a length where there is one, and `]`.
-    fn brackets(&mut self, depth: u32) -> Result<Tall<Brackets>, ParseFault>
+    fn brackets(&mut self, depth: u32) -> Result<Tall<Brackets>, Refusal>
         requires { depth ≤ 200 }
         ensures tree { IfOk result (λ p. Takes (λ all. DerivesArray all (brackets_of p.tree)) self.old.cursor self.new.cursor) }
         ensures height { IfOk result (λ p. p.height ≡ optional_height (brackets_of p.tree)) }
@@ -208,7 +208,7 @@ impl<'a> Parser<'a> {
     }
 
     // A length before `]`, where there is one.
-    fn length(&mut self, depth: u32) -> Result<Tall<Brackets>, ParseFault>
+    fn length(&mut self, depth: u32) -> Result<Tall<Brackets>, Refusal>
         requires { depth ≤ 200 }
         ensures tree { IfOk result (λ p. Takes (λ all. DerivesOptional ConditionalRow all (brackets_of p.tree)) self.old.cursor self.new.cursor) }
         ensures height { IfOk result (λ p. p.height ≡ optional_height (brackets_of p.tree)) }
@@ -232,7 +232,7 @@ impl<'a> Parser<'a> {
     }
 
     // `=` and an initialiser, where there are.
-    fn initialiser(&mut self, depth: u32) -> Result<Tall<Option<Init>>, ParseFault>
+    fn initialiser(&mut self, depth: u32) -> Result<Tall<Option<Init>>, Refusal>
         requires { depth ≤ 200 }
         ensures tree { IfOk result (λ p. Takes (λ all. DerivesInitialiser all (initial_of p.tree)) self.old.cursor self.new.cursor) }
         ensures height { IfOk result (λ p. p.height ≡ initial_height (initial_of p.tree)) }
@@ -267,7 +267,7 @@ impl<'a> Parser<'a> {
     }
 
     // `{`, values, perhaps a comma, and `}`.
-    fn braced(&mut self, depth: u32) -> Result<Tall<Items<Expr>>, ParseFault>
+    fn braced(&mut self, depth: u32) -> Result<Tall<Items<Expr>>, Refusal>
         requires { depth ≤ 200 }
         ensures tree { IfOk result (λ p. Takes (λ all. DerivesInitial all (Braced (map expression_of p.tree) (place_of self.old.cursor))) self.old.cursor self.new.cursor) }
         ensures height { IfOk result (λ p. p.height ≡ 1 + greatest (map expression_height (map expression_of p.tree))) }
@@ -287,7 +287,7 @@ impl<'a> Parser<'a> {
     }
 
     // Values with commas between them, and perhaps a comma before `}`.
-    fn values(&mut self, depth: u32) -> Result<Tall<Vec<Expr>>, ParseFault>
+    fn values(&mut self, depth: u32) -> Result<Tall<Vec<Expr>>, Refusal>
         requires { depth < 200 }
         ensures tree { IfOk result (λ p. Takes (Both (λ all. DerivesList all (map expression_of p.tree.items)) IsLastComma) self.old.cursor self.new.cursor) }
         ensures height { IfOk result (λ p. p.height ≡ greatest (map expression_height (map expression_of p.tree.items))) }
@@ -326,7 +326,7 @@ impl<'a> Parser<'a> {
     }
 
     /// The row `params`, before `)`.
-    pub(crate) fn params(&mut self, depth: u32) -> Result<Tall<Params>, ParseFault>
+    pub(crate) fn params(&mut self, depth: u32) -> Result<Tall<Params>, Refusal>
         requires { depth ≤ 200 }
         ensures tree { IfOk result (λ p. Takes (λ all. DerivesParameters all (parameters_of p.tree)) self.old.cursor self.new.cursor) }
         ensures height { IfOk result (λ p. p.height ≡ parameters_height (parameters_of p.tree)) }
@@ -358,7 +358,7 @@ impl<'a> Parser<'a> {
     }
 
     // Parameters with commas between them.
-    fn param_list(&mut self, depth: u32) -> Result<Tall<Vec<Param>>, ParseFault>
+    fn param_list(&mut self, depth: u32) -> Result<Tall<Vec<Param>>, Refusal>
         requires { depth ≤ 201 }
         ensures tree { IfOk result (λ p. Takes (λ all. DerivesParameterList all (map parameter_of p.tree.items)) self.old.cursor self.new.cursor) }
         ensures height { IfOk result (λ p. p.height ≡ greatest (map parameter_height (map parameter_of p.tree.items))) }
@@ -383,7 +383,7 @@ impl<'a> Parser<'a> {
     }
 
     // The row `param`, before `,` or `)`.
-    fn param(&mut self, depth: u32) -> Result<Tall<Param>, ParseFault>
+    fn param(&mut self, depth: u32) -> Result<Tall<Param>, Refusal>
         requires { depth ≤ 201 }
         ensures tree { IfOk result (λ p. Takes (λ all. DerivesParameter all (parameter_of p.tree)) self.old.cursor self.new.cursor) }
         ensures height { IfOk result (λ p. p.height ≡ parameter_height (parameter_of p.tree)) }
@@ -418,7 +418,7 @@ impl<'a> Parser<'a> {
 
     // Whether a parameter may stand under `depth` nodes. Where none may, the word `void` could still stand alone, so what is
     // behind it is refused. The first parameter of a list tells for all.
-    fn allow_parameter(&self, depth: u32) -> Result<(), ParseFault>
+    fn allow_parameter(&self, depth: u32) -> Result<(), Refusal>
         ensures low { IfOk result (λ _. depth + 1 < 200) }
         ensures refused { IfErr result (λ _. 200 ≤ depth + 1) }
     {
@@ -430,7 +430,7 @@ impl<'a> Parser<'a> {
     }
 
     // The name of a parameter, where there is one.
-    fn param_name(&mut self) -> Result<Option<Text>, ParseFault>
+    fn param_name(&mut self) -> Result<Option<Text>, Refusal>
         ensures tree { IfOk result (λ name. Takes (λ all. DerivesName all name) self.old.cursor self.new.cursor) }
         ensures no_more { IfOk result (λ _. length self.new.cursor ≤ length self.old.cursor) }
         ensures only { IfOk result (λ _. OnlyTo (NameFront) self.old.cursor self.new.cursor) }
@@ -443,7 +443,7 @@ impl<'a> Parser<'a> {
     }
 
     // The brackets of a parameter, where there are.
-    fn param_array(&mut self, depth: u32) -> Result<Tall<Option<Brackets>>, ParseFault>
+    fn param_array(&mut self, depth: u32) -> Result<Tall<Option<Brackets>>, Refusal>
         requires { depth ≤ 200 }
         ensures tree { IfOk result (λ p. Takes (λ all. DerivesArrayMark all (array_of p.tree)) self.old.cursor self.new.cursor) }
         ensures height { IfOk result (λ p. p.height ≡ array_height (array_of p.tree)) }

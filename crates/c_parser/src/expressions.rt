@@ -11,11 +11,11 @@ ghost use Rattle.c_tree.specs.SyntaxView.{expression_of, type_of};
 ghost use Rattle.c_tree.specs.declared.token.Punct.TheVariants as marks;
 ghost use Rattle.c_parser.specs.Front.{mark_at};
 ghost use Rattle.c_parser.specs.Operators.{level_row, row_at, infix_form, assignment_form, next_assignment, IsInfix};
-ghost use Rattle.c_parser.specs.declared.fault.ParseFault.TheVariants as parse_faults;
+ghost use Rattle.c_parser.specs.declared.fault.Refusal.TheVariants as refusals;
 ghost use Rattle.c_parser.specs.Parses.{MayStart, IsMeasured, IsParsed, IsMore, IsNode, NoReading, NoMore};
 ghost use Rattle.c_parser.specs.Refusals.{Refuses};
 
-use crate::fault::ParseFault;
+use crate::fault::Refusal;
 use crate::operators::{Assignment, Infix, Level, assignment_of, infix_of};
 use crate::parser::{Parsed, Parser};
 use c_tree::{ExprKind, Punct, TypeName};
@@ -27,7 +27,7 @@ impl<'a> Parser<'a> {
         &mut self,
         start: Option<Parsed>,
         depth: u32,
-    ) -> Result<Parsed, ParseFault>
+    ) -> Result<Parsed, Refusal>
         requires room { depth < greatest_height }
         requires start { MayStart depth start }
         ensures parsed { IfOk result (λ p. IsParsed ExpressionRow start self.old.cursor depth p self.new.cursor) }
@@ -40,7 +40,7 @@ impl<'a> Parser<'a> {
     // The commas that stand behind what was read first, and their other operands. What goes on with a row is read by a
     // function of its own: a frame of the row's is then small, and deep nests cost little of the stack.
     #[cycle(parser)]
-    fn commas(&mut self, start: Parsed, depth: u32) -> Result<Parsed, ParseFault>
+    fn commas(&mut self, start: Parsed, depth: u32) -> Result<Parsed, Refusal>
         requires room { depth < greatest_height }
         requires start { IsMeasured depth start }
         ensures parsed { IfOk result (λ p. IsMore ExpressionRow start self.old.cursor depth p self.new.cursor) }
@@ -56,11 +56,11 @@ impl<'a> Parser<'a> {
         Ok(left)
     }
 
-    fn joined_by_comma(&self, left: Parsed, right: Parsed) -> Result<Parsed, ParseFault>
+    fn joined_by_comma(&self, left: Parsed, right: Parsed) -> Result<Parsed, Refusal>
         requires left { left.height < greatest_height }
         requires right { right.height < greatest_height }
         ensures node { IfOk result (IsNode (Comma (expression_of left.tree) (expression_of right.tree)) left.at false (max left.height right.height)) }
-        ensures memory { IfErr result (λ f. f ≡ parse_faults.NoMemory) }
+        ensures memory { IfErr result (λ f. f ≡ refusals.NoMemory) }
     {
         let parts = left.height.max(right.height);
         let at = left.at;
@@ -77,7 +77,7 @@ impl<'a> Parser<'a> {
         &mut self,
         start: Option<Parsed>,
         depth: u32,
-    ) -> Result<Parsed, ParseFault>
+    ) -> Result<Parsed, Refusal>
         requires room { depth < greatest_height }
         requires start { MayStart depth start }
         ensures parsed { IfOk result (λ p. IsParsed AssignmentRow start self.old.cursor depth p self.new.cursor) }
@@ -100,7 +100,7 @@ impl<'a> Parser<'a> {
         left: Parsed,
         assignment: Assignment,
         depth: u32,
-    ) -> Result<Parsed, ParseFault>
+    ) -> Result<Parsed, Refusal>
         requires room { depth < greatest_height }
         requires left { IsMeasured depth left }
         requires unary { left.is_unary ≡ true }
@@ -126,11 +126,11 @@ impl<'a> Parser<'a> {
         assignment: Assignment,
         left: Parsed,
         right: Parsed,
-    ) -> Result<Parsed, ParseFault>
+    ) -> Result<Parsed, Refusal>
         requires left { left.height < greatest_height }
         requires right { right.height < greatest_height }
         ensures node { IfOk result (IsNode (assignment_form assignment (expression_of left.tree) (expression_of right.tree)) left.at false (max left.height right.height)) }
-        ensures memory { IfErr result (λ f. f ≡ parse_faults.NoMemory) }
+        ensures memory { IfErr result (λ f. f ≡ refusals.NoMemory) }
     {
         let parts = left.height.max(right.height);
         let at = left.at;
@@ -158,7 +158,7 @@ impl<'a> Parser<'a> {
         &mut self,
         start: Option<Parsed>,
         depth: u32,
-    ) -> Result<Parsed, ParseFault>
+    ) -> Result<Parsed, Refusal>
         requires room { depth < greatest_height }
         requires start { MayStart depth start }
         ensures parsed { IfOk result (λ p. IsParsed ConditionalRow start self.old.cursor depth p self.new.cursor) }
@@ -173,7 +173,7 @@ impl<'a> Parser<'a> {
 
     // `?` and what is chosen from by a test.
     #[cycle(parser)]
-    fn alternatives(&mut self, test: Parsed, depth: u32) -> Result<Parsed, ParseFault>
+    fn alternatives(&mut self, test: Parsed, depth: u32) -> Result<Parsed, Refusal>
         requires room { depth < greatest_height }
         requires test { IsMeasured depth test }
         requires question { mark_at self.old.cursor ≡ Some marks.Question }
@@ -188,12 +188,12 @@ impl<'a> Parser<'a> {
         self.chosen(test, yes, no)
     }
 
-    fn chosen(&self, test: Parsed, yes: Parsed, no: Parsed) -> Result<Parsed, ParseFault>
+    fn chosen(&self, test: Parsed, yes: Parsed, no: Parsed) -> Result<Parsed, Refusal>
         requires test { test.height < greatest_height }
         requires yes { yes.height < greatest_height }
         requires no { no.height < greatest_height }
         ensures node { IfOk result (IsNode (Conditional (expression_of test.tree) (expression_of yes.tree) (expression_of no.tree)) test.at false (max test.height (max yes.height no.height))) }
-        ensures memory { IfErr result (λ f. f ≡ parse_faults.NoMemory) }
+        ensures memory { IfErr result (λ f. f ≡ refusals.NoMemory) }
     {
         let parts = test.height.max(yes.height.max(no.height));
         let at = test.at;
@@ -213,7 +213,7 @@ impl<'a> Parser<'a> {
         loosest: Option<Level>,
         start: Option<Parsed>,
         depth: u32,
-    ) -> Result<Parsed, ParseFault>
+    ) -> Result<Parsed, Refusal>
         requires room { depth < greatest_height }
         requires start { MayStart depth start }
         ensures parsed { IfOk result (λ p. IsParsed (row_at loosest) start self.old.cursor depth p self.new.cursor) }
@@ -231,7 +231,7 @@ impl<'a> Parser<'a> {
 
     // The operators of a level that stand behind its first operand, and their other operands.
     #[cycle(parser)]
-    fn more_of(&mut self, level: Level, start: Parsed, depth: u32) -> Result<Parsed, ParseFault>
+    fn more_of(&mut self, level: Level, start: Parsed, depth: u32) -> Result<Parsed, Refusal>
         requires room { depth < greatest_height }
         requires start { IsMeasured depth start }
         ensures parsed { IfOk result (λ p. IsMore (level_row level) start self.old.cursor depth p self.new.cursor) }
@@ -256,11 +256,11 @@ impl<'a> Parser<'a> {
         if found == level { Some(infix) } else { None }
     }
 
-    fn joined(&self, operator: Infix, left: Parsed, right: Parsed) -> Result<Parsed, ParseFault>
+    fn joined(&self, operator: Infix, left: Parsed, right: Parsed) -> Result<Parsed, Refusal>
         requires left { left.height < greatest_height }
         requires right { right.height < greatest_height }
         ensures node { IfOk result (IsNode (infix_form operator (expression_of left.tree) (expression_of right.tree)) left.at false (max left.height right.height)) }
-        ensures memory { IfErr result (λ f. f ≡ parse_faults.NoMemory) }
+        ensures memory { IfErr result (λ f. f ≡ refusals.NoMemory) }
     {
         let parts = left.height.max(right.height);
         let at = left.at;
@@ -280,7 +280,7 @@ impl<'a> Parser<'a> {
 
     /// The row `cast`.
     #[cycle(parser)]
-    pub(crate) fn cast(&mut self, start: Option<Parsed>, depth: u32) -> Result<Parsed, ParseFault>
+    pub(crate) fn cast(&mut self, start: Option<Parsed>, depth: u32) -> Result<Parsed, Refusal>
         requires room { depth < greatest_height }
         requires start { MayStart depth start }
         ensures parsed { IfOk result (λ p. IsParsed CastRow start self.old.cursor depth p self.new.cursor) }
@@ -294,7 +294,7 @@ impl<'a> Parser<'a> {
 
     // The row `cast` from the next token on.
     #[cycle(parser)]
-    fn first_cast(&mut self, depth: u32) -> Result<Parsed, ParseFault>
+    fn first_cast(&mut self, depth: u32) -> Result<Parsed, Refusal>
         requires { depth < greatest_height }
         ensures parsed { IfOk result (λ p. IsParsed CastRow None self.old.cursor depth p self.new.cursor) }
         ensures refused { IfErr result (Refuses (NoReading CastRow None depth self.old.cursor)) }
@@ -312,10 +312,10 @@ impl<'a> Parser<'a> {
         self.converted(to, operand, at)
     }
 
-    fn converted(&self, to: TypeName, operand: Parsed, at: u32) -> Result<Parsed, ParseFault>
+    fn converted(&self, to: TypeName, operand: Parsed, at: u32) -> Result<Parsed, Refusal>
         requires { operand.height < greatest_height }
         ensures node { IfOk result (IsNode (Cast (type_of to) (expression_of operand.tree)) at false operand.height) }
-        ensures memory { IfErr result (λ f. f ≡ parse_faults.NoMemory) }
+        ensures memory { IfErr result (λ f. f ≡ refusals.NoMemory) }
     {
         let height = operand.height;
         let kind = ExprKind::Cast {

@@ -1,6 +1,6 @@
 //! Why tokens have no tree.
 ghost use Rattle.std.specs.Prelude.{◌≡◌};
-ghost use Rattle.c_parser.specs.declared.fault.ParseFault.TheVariants as parse_faults;
+ghost use Rattle.c_parser.specs.declared.fault.Refusal.TheVariants as refusals;
 
 use std::alloc::{AllocError, AllocFailed};
 use thiserror::Error;
@@ -16,26 +16,34 @@ pub enum ParseFault {
     NoMemory,
 }
 
-impl From<word_base::NoMemory> for ParseFault {
-    ghost from_gives = { λ _ e. e ≡ parse_faults.NoMemory };
+/// A refusal within the parser.
+#[derive(Clone, Copy, Debug, PartialEq, Eq)]
+pub(crate) enum Refusal {
+    /// No tree goes on where so many tokens are left.
+    Syntax { left: u32 },
+    NoMemory,
+}
+
+impl From<word_base::NoMemory> for Refusal {
+    ghost from_gives = { λ _ e. e ≡ refusals.NoMemory };
 
     fn from(_: word_base::NoMemory) -> Self {
-        ParseFault::NoMemory
+        Refusal::NoMemory
     }
 }
 
-impl From<AllocError> for ParseFault {
-    ghost from_gives = { λ _ e. e ≡ parse_faults.NoMemory };
+impl From<AllocError> for Refusal {
+    ghost from_gives = { λ _ e. e ≡ refusals.NoMemory };
 
     fn from(_: AllocError) -> Self {
-        ParseFault::NoMemory
+        Refusal::NoMemory
     }
 }
 
-impl<T: Drop> From<AllocFailed<T>> for ParseFault {
-    ghost from_gives = { λ _ e. e ≡ parse_faults.NoMemory };
+impl<T: Drop> From<AllocFailed<T>> for Refusal {
+    ghost from_gives = { λ _ e. e ≡ refusals.NoMemory };
 
     fn from(_: AllocFailed<T>) -> Self {
-        ParseFault::NoMemory
+        Refusal::NoMemory
     }
 }

@@ -3,7 +3,7 @@ ghost use Rattle.std.specs.Prelude.{◌≡◌, ◌+◌, ◌<◌, ◌≤◌, max,
 ghost use Rattle.c_tree.specs.declared.token.Keyword.TheVariants as keywords;
 ghost use Rattle.c_tree.specs.SyntaxTree.{StepBefore, Prefix, SizeofValue, SizeofType, Index, StepAfter, Call, Node};
 ghost use Rattle.c_tree.specs.declared.token.Punct.TheVariants as marks;
-ghost use Rattle.c_parser.specs.declared.fault.ParseFault.TheVariants as parse_faults;
+ghost use Rattle.c_parser.specs.declared.fault.Refusal.TheVariants as refusals;
 ghost use Rattle.c_tree.specs.Grammar.{UnaryRow, PrimaryRow, step_mark, prefix_mark, place_of};
 ghost use Rattle.c_tree.specs.Reads.{separator_of};
 ghost use Rattle.c_tree.specs.Measures.{greatest_height};
@@ -13,7 +13,7 @@ ghost use Rattle.c_parser.specs.Operators.{step_at, prefix_at};
 ghost use Rattle.c_parser.specs.Parses.{MayStart, IsMeasured, IsParsed, IsOperand, IsBehind, IsOneBehind, IsConstant, constant_form, constant_at, IsNode, ReadsClosed, Opened, AreRead, NoReading, NoOperand, NoneBehind, NoArguments, NotClosed};
 ghost use Rattle.c_parser.specs.Refusals.{Refuses};
 
-use crate::fault::ParseFault;
+use crate::fault::Refusal;
 use crate::operators::{prefix_of, step_of};
 use crate::parser::{Arguments, Parsed, Parser};
 use c_tree::{Expr, ExprKind, Keyword, PrefixOp, Punct, TokenKind, TypeName};
@@ -22,7 +22,7 @@ use word_base::Text;
 impl<'a> Parser<'a> {
     /// The row `unary`, under so many nodes.
     #[cycle(parser)]
-    pub(crate) fn unary(&mut self, start: Option<Parsed>, depth: u32) -> Result<Parsed, ParseFault>
+    pub(crate) fn unary(&mut self, start: Option<Parsed>, depth: u32) -> Result<Parsed, Refusal>
         requires room { depth < greatest_height }
         requires start { MayStart depth start }
         ensures parsed { IfOk result (λ p. IsParsed UnaryRow start self.old.cursor depth p self.new.cursor) }
@@ -36,7 +36,7 @@ impl<'a> Parser<'a> {
 
     // The row `unary` from the next token on.
     #[cycle(parser)]
-    fn first_unary(&mut self, depth: u32) -> Result<Parsed, ParseFault>
+    fn first_unary(&mut self, depth: u32) -> Result<Parsed, Refusal>
         requires { depth < greatest_height }
         ensures parsed { IfOk result (λ p. IsParsed UnaryRow None self.old.cursor depth p self.new.cursor) }
         ensures refused { IfErr result (Refuses (NoReading UnaryRow None depth self.old.cursor)) }
@@ -70,7 +70,7 @@ impl<'a> Parser<'a> {
 
     // A step before its operand.
     #[cycle(parser)]
-    fn step(&mut self, up: bool, depth: u32) -> Result<Parsed, ParseFault>
+    fn step(&mut self, up: bool, depth: u32) -> Result<Parsed, Refusal>
         requires room { depth < greatest_height }
         requires step { step_at (mark_at self.old.cursor) ≡ Some up }
         ensures parsed { IfOk result (λ p. IsParsed UnaryRow None self.old.cursor depth p self.new.cursor) }
@@ -83,10 +83,10 @@ impl<'a> Parser<'a> {
         self.stepped_before(up, operand, at)
     }
 
-    fn stepped_before(&self, up: bool, operand: Parsed, at: u32) -> Result<Parsed, ParseFault>
+    fn stepped_before(&self, up: bool, operand: Parsed, at: u32) -> Result<Parsed, Refusal>
         requires { operand.height < greatest_height }
         ensures node { IfOk result (IsNode (StepBefore up (expression_of operand.tree)) at true operand.height) }
-        ensures memory { IfErr result (λ f. f ≡ parse_faults.NoMemory) }
+        ensures memory { IfErr result (λ f. f ≡ refusals.NoMemory) }
     {
         let height = operand.height;
         let kind = ExprKind::StepBefore {
@@ -98,7 +98,7 @@ impl<'a> Parser<'a> {
 
     // An operator before a cast.
     #[cycle(parser)]
-    fn prefix(&mut self, op: PrefixOp, depth: u32) -> Result<Parsed, ParseFault>
+    fn prefix(&mut self, op: PrefixOp, depth: u32) -> Result<Parsed, Refusal>
         requires room { depth < greatest_height }
         requires operator { prefix_at (mark_at self.old.cursor) ≡ Some op }
         ensures parsed { IfOk result (λ p. IsParsed UnaryRow None self.old.cursor depth p self.new.cursor) }
@@ -111,10 +111,10 @@ impl<'a> Parser<'a> {
         self.prefixed(op, operand, at)
     }
 
-    fn prefixed(&self, op: PrefixOp, operand: Parsed, at: u32) -> Result<Parsed, ParseFault>
+    fn prefixed(&self, op: PrefixOp, operand: Parsed, at: u32) -> Result<Parsed, Refusal>
         requires { operand.height < greatest_height }
         ensures node { IfOk result (IsNode (Prefix op (expression_of operand.tree)) at true operand.height) }
-        ensures memory { IfErr result (λ f. f ≡ parse_faults.NoMemory) }
+        ensures memory { IfErr result (λ f. f ≡ refusals.NoMemory) }
     {
         let height = operand.height;
         let kind = ExprKind::Prefix {
@@ -126,7 +126,7 @@ impl<'a> Parser<'a> {
 
     // `sizeof` of a type or of a value.
     #[cycle(parser)]
-    fn size(&mut self, depth: u32) -> Result<Parsed, ParseFault>
+    fn size(&mut self, depth: u32) -> Result<Parsed, Refusal>
         requires room { depth < greatest_height }
         requires word { word_at self.old.cursor ≡ Some keywords.Sizeof }
         ensures parsed { IfOk result (λ p. IsParsed UnaryRow None self.old.cursor depth p self.new.cursor) }
@@ -143,10 +143,10 @@ impl<'a> Parser<'a> {
         self.sized(operand, at)
     }
 
-    fn sized(&self, operand: Parsed, at: u32) -> Result<Parsed, ParseFault>
+    fn sized(&self, operand: Parsed, at: u32) -> Result<Parsed, Refusal>
         requires { operand.height < greatest_height }
         ensures node { IfOk result (IsNode (SizeofValue (expression_of operand.tree)) at true operand.height) }
-        ensures memory { IfErr result (λ f. f ≡ parse_faults.NoMemory) }
+        ensures memory { IfErr result (λ f. f ≡ refusals.NoMemory) }
     {
         let height = operand.height;
         let kind = ExprKind::SizeofValue(Box::new(self.alloc, operand.tree)?);
@@ -154,7 +154,7 @@ impl<'a> Parser<'a> {
     }
 
     // `(`, a type and `)`.
-    pub(crate) fn type_in_parentheses(&mut self) -> Result<TypeName, ParseFault>
+    pub(crate) fn type_in_parentheses(&mut self) -> Result<TypeName, Refusal>
         requires { opens_type self.old.cursor ≡ true }
         ensures parsed { IfOk result (λ tree. ReadsClosed self.old.cursor (type_of tree) self.new.cursor) }
         ensures refused { IfErr result (Refuses (NotClosed self.old.cursor)) }
@@ -167,7 +167,7 @@ impl<'a> Parser<'a> {
 
     // What stands behind an operand: indexes and steps.
     #[cycle(parser)]
-    fn postfix(&mut self, start: Parsed, depth: u32) -> Result<Parsed, ParseFault>
+    fn postfix(&mut self, start: Parsed, depth: u32) -> Result<Parsed, Refusal>
         requires room { depth < greatest_height }
         requires start { IsMeasured depth start }
         ensures parsed { IfOk result (λ p. IsBehind start self.old.cursor depth p self.new.cursor) }
@@ -187,7 +187,7 @@ impl<'a> Parser<'a> {
 
     // An index behind an operand.
     #[cycle(parser)]
-    fn indexed(&mut self, left: Parsed, depth: u32) -> Result<Parsed, ParseFault>
+    fn indexed(&mut self, left: Parsed, depth: u32) -> Result<Parsed, Refusal>
         requires room { depth < greatest_height }
         requires left { IsMeasured depth left }
         requires open { mark_at self.old.cursor ≡ Some marks.OpenBracket }
@@ -201,11 +201,11 @@ impl<'a> Parser<'a> {
         self.element(left, index)
     }
 
-    fn element(&self, left: Parsed, index: Parsed) -> Result<Parsed, ParseFault>
+    fn element(&self, left: Parsed, index: Parsed) -> Result<Parsed, Refusal>
         requires left { left.height < greatest_height }
         requires index { index.height < greatest_height }
         ensures node { IfOk result (IsNode (Index (expression_of left.tree) (expression_of index.tree)) left.at true (max left.height index.height)) }
-        ensures memory { IfErr result (λ f. f ≡ parse_faults.NoMemory) }
+        ensures memory { IfErr result (λ f. f ≡ refusals.NoMemory) }
     {
         let parts = left.height.max(index.height);
         let at = left.at;
@@ -218,7 +218,7 @@ impl<'a> Parser<'a> {
 
     // A step behind its operand.
     #[tactic(auto, using(crate::proofs::Rows::step_behind))]
-    fn stepped(&mut self, left: Parsed, up: bool, depth: u32) -> Result<Parsed, ParseFault>
+    fn stepped(&mut self, left: Parsed, up: bool, depth: u32) -> Result<Parsed, Refusal>
         requires left { IsMeasured depth left }
         requires step { step_at (mark_at self.old.cursor) ≡ Some up }
         ensures parsed { IfOk result (λ p. IsOneBehind left self.old.cursor depth p self.new.cursor) }
@@ -229,10 +229,10 @@ impl<'a> Parser<'a> {
         self.stepped_after(up, left)
     }
 
-    fn stepped_after(&self, up: bool, left: Parsed) -> Result<Parsed, ParseFault>
+    fn stepped_after(&self, up: bool, left: Parsed) -> Result<Parsed, Refusal>
         requires { left.height < greatest_height }
         ensures node { IfOk result (IsNode (StepAfter up (expression_of left.tree)) left.at true left.height) }
-        ensures memory { IfErr result (λ f. f ≡ parse_faults.NoMemory) }
+        ensures memory { IfErr result (λ f. f ≡ refusals.NoMemory) }
     {
         let height = left.height;
         let at = left.at;
@@ -245,7 +245,7 @@ impl<'a> Parser<'a> {
 
     /// The row `primary`, and calls of names.
     #[cycle(parser)]
-    fn primary(&mut self, depth: u32) -> Result<Parsed, ParseFault>
+    fn primary(&mut self, depth: u32) -> Result<Parsed, Refusal>
         requires room { depth < greatest_height }
         ensures parsed { IfOk result (λ p. IsOperand self.old.cursor depth p self.new.cursor) }
         ensures refused { IfErr result (Refuses (NoOperand depth self.old.cursor)) }
@@ -260,7 +260,7 @@ impl<'a> Parser<'a> {
     }
 
     // A number or a character.
-    fn constant(&mut self) -> Result<Parsed, ParseFault>
+    fn constant(&mut self) -> Result<Parsed, Refusal>
         ensures parsed { IfOk result (λ p. IsConstant self.old.cursor p self.new.cursor) }
         ensures refused { IfErr result (λ _. constant_at self.old.cursor ≡ None) }
     {
@@ -277,7 +277,7 @@ impl<'a> Parser<'a> {
 
     // A name, or a call of one.
     #[cycle(parser)]
-    fn named(&mut self, depth: u32) -> Result<Parsed, ParseFault>
+    fn named(&mut self, depth: u32) -> Result<Parsed, Refusal>
         requires room { depth < greatest_height }
         requires name { IsSome (name_at self.old.cursor) }
         ensures parsed { IfOk result (λ p. IsOperand self.old.cursor depth p self.new.cursor) }
@@ -303,7 +303,7 @@ impl<'a> Parser<'a> {
 
     // The arguments of a call to its closing parenthesis.
     #[cycle(parser)]
-    fn arguments(&mut self, depth: u32) -> Result<Arguments, ParseFault>
+    fn arguments(&mut self, depth: u32) -> Result<Arguments, Refusal>
         requires room { depth < greatest_height }
         ensures parsed { IfOk result (λ a. AreRead self.old.cursor depth a self.new.cursor) }
         ensures refused { IfErr result (Refuses (NoArguments depth self.old.cursor)) }
@@ -330,7 +330,7 @@ impl<'a> Parser<'a> {
     // An expression in parentheses. They are opened and closed in loops, each closing one followed by what may stand behind
     // it within the next.
     #[cycle(parser)]
-    fn parenthesised(&mut self, depth: u32) -> Result<Parsed, ParseFault>
+    fn parenthesised(&mut self, depth: u32) -> Result<Parsed, Refusal>
         requires room { depth < greatest_height }
         requires open { mark_at self.old.cursor ≡ Some marks.OpenParen }
         ensures parsed { IfOk result (λ p. IsOperand self.old.cursor depth p self.new.cursor) }
@@ -351,7 +351,7 @@ impl<'a> Parser<'a> {
 
     #[tactic(auto, using(crate::proofs::Parens::opened_more, crate::proofs::Words::mark_some))]
     // The places of the parentheses that open next, one or more, but for one before a type.
-    fn open_parentheses(&mut self) -> Result<Vec<u32>, ParseFault>
+    fn open_parentheses(&mut self) -> Result<Vec<u32>, Refusal>
         requires { mark_at self.old.cursor ≡ Some marks.OpenParen }
         ensures opened { IfOk result (λ places. Opened self.old.cursor places.items self.new.cursor) }
         ensures some { IfOk result (λ places. 0 < length places.items) }

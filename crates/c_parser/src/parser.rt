@@ -7,7 +7,7 @@ ghost use Rattle.c_parser.specs.Refusals.{Refuses};
 ghost use Rattle.c_tree.specs.Lookahead.{spec_of};
 
 use crate::cursor::Cursor;
-use crate::fault::ParseFault;
+use crate::fault::Refusal;
 use c_tree::{Expr, ExprKind, Punct, SpecWord, Specs, Token, TypeName};
 use std::alloc::Global;
 use word_base::Items;
@@ -69,7 +69,7 @@ impl<'a> Parser<'a> {
 
     /// Whether a node over parts of this height may stand under `depth` nodes. It is refused at the next token where the whole
     /// tree would be too high.
-    pub(crate) fn allow(&self, parts: u32, depth: u32) -> Result<(), ParseFault>
+    pub(crate) fn allow(&self, parts: u32, depth: u32) -> Result<(), Refusal>
         ensures low { IfOk result (λ _. depth + parts + 1 ≤ greatest_height) }
         ensures refused { IfErr result (λ _. greatest_height < depth + parts + 1) }
     {
@@ -82,7 +82,7 @@ impl<'a> Parser<'a> {
 
     /// The words of a type, one or more.
     #[tactic(auto, using(crate::proofs::Words::spec_some, crate::proofs::Words::specs_done))]
-    pub(crate) fn specs(&mut self) -> Result<Specs, ParseFault>
+    pub(crate) fn specs(&mut self) -> Result<Specs, Refusal>
         ensures read { IfOk result (λ specs. ReadsSpecs self.old.cursor (specs_of specs) self.new.cursor) }
         ensures refused { IfErr result (Refuses (spec_of self.old.cursor ≡ None)) }
     {
@@ -112,7 +112,7 @@ impl<'a> Parser<'a> {
     }
 
     #[tactic(auto, using(crate::proofs::Words::type_read))]
-    pub(crate) fn type_name(&mut self) -> Result<TypeName, ParseFault>
+    pub(crate) fn type_name(&mut self) -> Result<TypeName, Refusal>
         ensures read { IfOk result (λ tree. ReadsType self.old.cursor (type_of tree) self.new.cursor) }
         ensures refused { IfErr result (Refuses (spec_of self.old.cursor ≡ None)) }
     {

@@ -7,7 +7,7 @@ ghost use Rattle.c_tree.specs.Grammar.{ExpressionRow, IsMark};
 ghost use Rattle.c_tree.specs.Derives.{DerivesOptional, DerivesDeclarations, IsTested, IsForHead, DerivesChoices};
 ghost use Rattle.c_tree.specs.Measures.{greatest, expression_height, optional_height, declaration_height, statement_height, statements_height, choices_height};
 ghost use Rattle.c_tree.specs.SyntaxView.{expression_of, optional_of, declaration_of, body_of, part_before};
-ghost use Rattle.c_parser.specs.declared.fault.ParseFault.TheVariants as parse_faults;
+ghost use Rattle.c_parser.specs.declared.fault.Refusal.TheVariants as refusals;
 ghost use Rattle.c_parser.specs.Front.{mark_at, word_at};
 ghost use Rattle.c_parser.specs.Fronts.{NoFront, OnlyTo, TestedFront};
 ghost use Rattle.c_parser.specs.Refusals.{Refuses};
@@ -16,7 +16,7 @@ ghost use Rattle.c_parser.specs.Takes.{Takes, IsOne, Both, IsStatement};
 ghost use Rattle.c_parser.specs.StatementRows.{tree_of, parts_of, IsBody, IsDoEnd};
 
 use crate::declarations::Tall;
-use crate::fault::ParseFault;
+use crate::fault::Refusal;
 use crate::parser::Parser;
 use c_tree::{Decl, Expr, Keyword, Punct, Stmt, StmtKind, SwitchPart};
 
@@ -51,7 +51,7 @@ fn over(kind: StmtKind, at: u32, parts: u32) -> Tall<Stmt>
 impl<'a> Parser<'a> {
     /// The rows `closed` and `open`, under so many nodes. An `else` goes with the innermost `if`.
     #[cycle(statements)]
-    pub(crate) fn statement(&mut self, depth: u32) -> Result<Tall<Stmt>, ParseFault>
+    pub(crate) fn statement(&mut self, depth: u32) -> Result<Tall<Stmt>, Refusal>
         requires { depth ≤ 200 }
         ensures tree { IfOk result (λ p. Takes (IsStatement (tree_of p.tree) self.new.cursor) self.old.cursor self.new.cursor) }
         ensures refused { IfErr result (Refuses (NoFront (StatementFront depth) self.old.cursor)) }
@@ -74,7 +74,7 @@ impl<'a> Parser<'a> {
     }
 
     // A statement without other statements in it.
-    fn simple(&mut self, depth: u32) -> Result<Tall<Stmt>, ParseFault>
+    fn simple(&mut self, depth: u32) -> Result<Tall<Stmt>, Refusal>
         requires low { depth < 200 }
         requires no_brace { mark_at self.old.cursor ≢ Some mark.OpenBrace }
         requires no_other { holds_others (word_at self.old.cursor) ≡ false }
@@ -95,7 +95,7 @@ impl<'a> Parser<'a> {
         }
     }
 
-    fn empty(&mut self, depth: u32) -> Result<Tall<Stmt>, ParseFault>
+    fn empty(&mut self, depth: u32) -> Result<Tall<Stmt>, Refusal>
         requires low { depth < 200 }
         requires begun { mark_at self.old.cursor ≡ Some mark.Semicolon }
         ensures tree { IfOk result (λ p. Takes (IsStatement (tree_of p.tree) self.new.cursor) self.old.cursor self.new.cursor) }
@@ -109,7 +109,7 @@ impl<'a> Parser<'a> {
         Ok(over(StmtKind::Empty, at, 0))
     }
 
-    fn broken(&mut self, depth: u32) -> Result<Tall<Stmt>, ParseFault>
+    fn broken(&mut self, depth: u32) -> Result<Tall<Stmt>, Refusal>
         requires low { depth < 200 }
         requires begun { word_at self.old.cursor ≡ Some keyword.Break }
         ensures tree { IfOk result (λ p. Takes (IsStatement (tree_of p.tree) self.new.cursor) self.old.cursor self.new.cursor) }
@@ -124,7 +124,7 @@ impl<'a> Parser<'a> {
         Ok(over(StmtKind::Break, at, 0))
     }
 
-    fn continued(&mut self, depth: u32) -> Result<Tall<Stmt>, ParseFault>
+    fn continued(&mut self, depth: u32) -> Result<Tall<Stmt>, Refusal>
         requires low { depth < 200 }
         requires begun { word_at self.old.cursor ≡ Some keyword.Continue }
         ensures tree { IfOk result (λ p. Takes (IsStatement (tree_of p.tree) self.new.cursor) self.old.cursor self.new.cursor) }
@@ -139,7 +139,7 @@ impl<'a> Parser<'a> {
         Ok(over(StmtKind::Continue, at, 0))
     }
 
-    fn returned(&mut self, depth: u32) -> Result<Tall<Stmt>, ParseFault>
+    fn returned(&mut self, depth: u32) -> Result<Tall<Stmt>, Refusal>
         requires low { depth < 200 }
         requires begun { word_at self.old.cursor ≡ Some keyword.Return }
         ensures tree { IfOk result (λ p. Takes (IsStatement (tree_of p.tree) self.new.cursor) self.old.cursor self.new.cursor) }
@@ -154,7 +154,7 @@ impl<'a> Parser<'a> {
         Ok(over(StmtKind::Return(value.tree), at, value.height))
     }
 
-    fn evaluated(&mut self, depth: u32) -> Result<Tall<Stmt>, ParseFault>
+    fn evaluated(&mut self, depth: u32) -> Result<Tall<Stmt>, Refusal>
         requires low { depth < 200 }
         requires no_semicolon { mark_at self.old.cursor ≢ Some mark.Semicolon }
         requires no_brace { mark_at self.old.cursor ≢ Some mark.OpenBrace }
@@ -173,7 +173,7 @@ impl<'a> Parser<'a> {
     }
 
     // An expression before a mark, where there is one, and the mark.
-    fn optional(&mut self, end: Punct, depth: u32) -> Result<Tall<Option<Expr>>, ParseFault>
+    fn optional(&mut self, end: Punct, depth: u32) -> Result<Tall<Option<Expr>>, Refusal>
         requires low { depth ≤ 200 }
         requires ends { (end ≡ mark.Semicolon) ⊎ (end ≡ mark.CloseParen) }
         ensures tree { IfOk result (λ p. Takes (Both (λ a. DerivesOptional ExpressionRow a (optional_of p.tree)) (IsOne (IsMark end))) self.old.cursor self.new.cursor) }
@@ -198,7 +198,7 @@ impl<'a> Parser<'a> {
     }
 
     // `(`, an expression and `)`.
-    fn tested(&mut self, depth: u32) -> Result<Tall<Expr>, ParseFault>
+    fn tested(&mut self, depth: u32) -> Result<Tall<Expr>, Refusal>
         requires { depth ≤ 200 }
         ensures tree { IfOk result (λ p. Takes (λ all. IsTested [] all (expression_of p.tree)) self.old.cursor self.new.cursor) }
         ensures only { IfOk result (λ _. OnlyTo (TestedFront depth) self.old.cursor self.new.cursor) }
@@ -215,7 +215,7 @@ impl<'a> Parser<'a> {
     }
 
     #[cycle(statements)]
-    fn do_loop(&mut self, depth: u32) -> Result<Tall<Stmt>, ParseFault>
+    fn do_loop(&mut self, depth: u32) -> Result<Tall<Stmt>, Refusal>
         requires low { depth < 200 }
         requires begun { word_at self.old.cursor ≡ Some keyword.Do }
         ensures tree { IfOk result (λ p. Takes (IsStatement (tree_of p.tree) self.new.cursor) self.old.cursor self.new.cursor) }
@@ -233,7 +233,7 @@ impl<'a> Parser<'a> {
     }
 
     // `while`, a test and `;` behind the body of a `do`.
-    fn do_test(&mut self, depth: u32) -> Result<Tall<Expr>, ParseFault>
+    fn do_test(&mut self, depth: u32) -> Result<Tall<Expr>, Refusal>
         requires { depth ≤ 200 }
         ensures tree { IfOk result (λ p. Takes (IsDoEnd (expression_of p.tree)) self.old.cursor self.new.cursor) }
         ensures refused { IfErr result (Refuses (NoFront (DoTestFront depth) self.old.cursor)) }
@@ -247,11 +247,11 @@ impl<'a> Parser<'a> {
         Ok(test)
     }
 
-    fn do_over(&self, at: u32, body: Tall<Stmt>, test: Tall<Expr>) -> Result<Tall<Stmt>, ParseFault>
+    fn do_over(&self, at: u32, body: Tall<Stmt>, test: Tall<Expr>) -> Result<Tall<Stmt>, Refusal>
         requires body_low { body.height < 200 }
         requires test_low { test.height < 200 }
         ensures tree { IfOk result (λ p. tree_of p.tree ≡ DoWhile (tree_of body.tree) (expression_of test.tree) at) }
-        ensures memory { IfErr result (λ f. f ≡ parse_faults.NoMemory) }
+        ensures memory { IfErr result (λ f. f ≡ refusals.NoMemory) }
         ensures height { IfOk result (λ p. p.height ≡ 1 + max body.height test.height) }
     {
         let parts = body.height.max(test.height);
@@ -264,7 +264,7 @@ impl<'a> Parser<'a> {
 
     // An `if`, and its `else` where one stands behind it.
     #[cycle(statements)]
-    fn choice(&mut self, depth: u32) -> Result<Tall<Stmt>, ParseFault>
+    fn choice(&mut self, depth: u32) -> Result<Tall<Stmt>, Refusal>
         requires low { depth < 200 }
         requires begun { word_at self.old.cursor ≡ Some keyword.If }
         ensures tree { IfOk result (λ p. Takes (IsStatement (tree_of p.tree) self.new.cursor) self.old.cursor self.new.cursor) }
@@ -285,11 +285,11 @@ impl<'a> Parser<'a> {
         self.if_else(at, test, yes, no)
     }
 
-    fn if_alone(&self, at: u32, test: Tall<Expr>, yes: Tall<Stmt>) -> Result<Tall<Stmt>, ParseFault>
+    fn if_alone(&self, at: u32, test: Tall<Expr>, yes: Tall<Stmt>) -> Result<Tall<Stmt>, Refusal>
         requires test_low { test.height < 200 }
         requires yes_low { yes.height < 200 }
         ensures tree { IfOk result (λ p. tree_of p.tree ≡ If (expression_of test.tree) (tree_of yes.tree) at) }
-        ensures memory { IfErr result (λ f. f ≡ parse_faults.NoMemory) }
+        ensures memory { IfErr result (λ f. f ≡ refusals.NoMemory) }
         ensures height { IfOk result (λ p. p.height ≡ 1 + max test.height yes.height) }
     {
         let parts = test.height.max(yes.height);
@@ -306,12 +306,12 @@ impl<'a> Parser<'a> {
         test: Tall<Expr>,
         yes: Tall<Stmt>,
         no: Tall<Stmt>,
-    ) -> Result<Tall<Stmt>, ParseFault>
+    ) -> Result<Tall<Stmt>, Refusal>
         requires test_low { test.height < 200 }
         requires yes_low { yes.height < 200 }
         requires no_low { no.height < 200 }
         ensures tree { IfOk result (λ p. tree_of p.tree ≡ IfElse (expression_of test.tree) (tree_of yes.tree) (tree_of no.tree) at) }
-        ensures memory { IfErr result (λ f. f ≡ parse_faults.NoMemory) }
+        ensures memory { IfErr result (λ f. f ≡ refusals.NoMemory) }
         ensures height { IfOk result (λ p. p.height ≡ 1 + max test.height (max yes.height no.height)) }
     {
         let parts = test.height.max(yes.height.max(no.height));
@@ -324,7 +324,7 @@ impl<'a> Parser<'a> {
     }
 
     #[cycle(statements)]
-    fn while_loop(&mut self, depth: u32) -> Result<Tall<Stmt>, ParseFault>
+    fn while_loop(&mut self, depth: u32) -> Result<Tall<Stmt>, Refusal>
         requires low { depth < 200 }
         requires begun { word_at self.old.cursor ≡ Some keyword.While }
         ensures tree { IfOk result (λ p. Takes (IsStatement (tree_of p.tree) self.new.cursor) self.old.cursor self.new.cursor) }
@@ -341,16 +341,11 @@ impl<'a> Parser<'a> {
         self.while_over(at, test, body)
     }
 
-    fn while_over(
-        &self,
-        at: u32,
-        test: Tall<Expr>,
-        body: Tall<Stmt>,
-    ) -> Result<Tall<Stmt>, ParseFault>
+    fn while_over(&self, at: u32, test: Tall<Expr>, body: Tall<Stmt>) -> Result<Tall<Stmt>, Refusal>
         requires test_low { test.height < 200 }
         requires body_low { body.height < 200 }
         ensures tree { IfOk result (λ p. tree_of p.tree ≡ While (expression_of test.tree) (tree_of body.tree) at) }
-        ensures memory { IfErr result (λ f. f ≡ parse_faults.NoMemory) }
+        ensures memory { IfErr result (λ f. f ≡ refusals.NoMemory) }
         ensures height { IfOk result (λ p. p.height ≡ 1 + max test.height body.height) }
     {
         let parts = test.height.max(body.height);
@@ -362,7 +357,7 @@ impl<'a> Parser<'a> {
     }
 
     #[cycle(statements)]
-    fn for_loop(&mut self, depth: u32) -> Result<Tall<Stmt>, ParseFault>
+    fn for_loop(&mut self, depth: u32) -> Result<Tall<Stmt>, Refusal>
         requires low { depth < 200 }
         requires begun { word_at self.old.cursor ≡ Some keyword.For }
         ensures tree { IfOk result (λ p. Takes (IsStatement (tree_of p.tree) self.new.cursor) self.old.cursor self.new.cursor) }
@@ -379,7 +374,7 @@ impl<'a> Parser<'a> {
     }
 
     // `for` and what stands between its parentheses.
-    fn for_head(&mut self, depth: u32) -> Result<ForHead, ParseFault>
+    fn for_head(&mut self, depth: u32) -> Result<ForHead, Refusal>
         requires { depth ≤ 200 }
         ensures tree { IfOk result (λ h. Takes (λ all. IsForHead all (optional_of h.first) (optional_of h.test) (optional_of h.third)) self.old.cursor self.new.cursor) }
         ensures refused { IfErr result (Refuses (NoFront (ForHeadFront depth) self.old.cursor)) }
@@ -400,11 +395,11 @@ impl<'a> Parser<'a> {
         })
     }
 
-    fn for_over(&self, at: u32, head: ForHead, body: Tall<Stmt>) -> Result<Tall<Stmt>, ParseFault>
+    fn for_over(&self, at: u32, head: ForHead, body: Tall<Stmt>) -> Result<Tall<Stmt>, Refusal>
         requires head_low { head.highest < 200 }
         requires body_low { body.height < 200 }
         ensures tree { IfOk result (λ p. tree_of p.tree ≡ For (optional_of head.first) (optional_of head.test) (optional_of head.third) (tree_of body.tree) at) }
-        ensures memory { IfErr result (λ f. f ≡ parse_faults.NoMemory) }
+        ensures memory { IfErr result (λ f. f ≡ refusals.NoMemory) }
         ensures height { IfOk result (λ p. p.height ≡ 1 + max head.highest body.height) }
     {
         let parts = head.highest.max(body.height);
@@ -418,7 +413,7 @@ impl<'a> Parser<'a> {
     }
 
     #[cycle(statements)]
-    fn switch(&mut self, depth: u32) -> Result<Tall<Stmt>, ParseFault>
+    fn switch(&mut self, depth: u32) -> Result<Tall<Stmt>, Refusal>
         requires low { depth < 200 }
         requires begun { word_at self.old.cursor ≡ Some keyword.Switch }
         ensures tree { IfOk result (λ p. Takes (IsStatement (tree_of p.tree) self.new.cursor) self.old.cursor self.new.cursor) }
@@ -440,7 +435,7 @@ impl<'a> Parser<'a> {
 
     // The row `choices` behind its `{`, and `}`.
     #[cycle(statements)]
-    fn switch_parts(&mut self, depth: u32) -> Result<Tall<Vec<SwitchPart>>, ParseFault>
+    fn switch_parts(&mut self, depth: u32) -> Result<Tall<Vec<SwitchPart>>, Refusal>
         requires { depth < 200 }
         ensures tree { IfOk result (λ p. Takes (Both (λ a. DerivesChoices a (parts_of p.tree.items)) (IsOne (IsMark mark.CloseBrace))) self.old.cursor self.new.cursor) }
         ensures refused { IfErr result (Refuses (NoFront (PartsFront depth) self.old.cursor)) }
@@ -463,7 +458,7 @@ impl<'a> Parser<'a> {
 
     // A label or a statement.
     #[cycle(statements)]
-    fn switch_part(&mut self, depth: u32) -> Result<Tall<SwitchPart>, ParseFault>
+    fn switch_part(&mut self, depth: u32) -> Result<Tall<SwitchPart>, Refusal>
         requires { depth ≤ 200 }
         ensures tree { IfOk result (λ p. Takes (λ a. DerivesChoices a (part_before p.tree no_choice)) self.old.cursor self.new.cursor) }
         ensures only { IfOk result (λ _. OnlyTo (PartFront depth) self.old.cursor self.new.cursor) }
@@ -482,7 +477,7 @@ impl<'a> Parser<'a> {
         Ok(part_over(statement))
     }
 
-    fn default_label(&mut self, depth: u32) -> Result<Tall<SwitchPart>, ParseFault>
+    fn default_label(&mut self, depth: u32) -> Result<Tall<SwitchPart>, Refusal>
         requires { depth ≤ 200 }
         ensures tree { IfOk result (λ p. Takes (λ a. DerivesChoices a (part_before p.tree no_choice)) self.old.cursor self.new.cursor) }
         ensures only { IfOk result (λ _. OnlyTo DefaultFront self.old.cursor self.new.cursor) }
@@ -499,7 +494,7 @@ impl<'a> Parser<'a> {
         })
     }
 
-    fn case_label(&mut self, depth: u32) -> Result<Tall<SwitchPart>, ParseFault>
+    fn case_label(&mut self, depth: u32) -> Result<Tall<SwitchPart>, Refusal>
         requires { depth ≤ 200 }
         ensures tree { IfOk result (λ p. Takes (λ a. DerivesChoices a (part_before p.tree no_choice)) self.old.cursor self.new.cursor) }
         ensures only { IfOk result (λ _. OnlyTo (CaseFront depth) self.old.cursor self.new.cursor) }
@@ -520,7 +515,7 @@ impl<'a> Parser<'a> {
 
     // A block within another statement.
     #[cycle(statements)]
-    fn inner_block(&mut self, depth: u32) -> Result<Tall<Stmt>, ParseFault>
+    fn inner_block(&mut self, depth: u32) -> Result<Tall<Stmt>, Refusal>
         requires low { depth < 200 }
         requires begun { mark_at self.old.cursor ≡ Some mark.OpenBrace }
         ensures tree { IfOk result (λ p. Takes (IsStatement (tree_of p.tree) self.new.cursor) self.old.cursor self.new.cursor) }
@@ -537,7 +532,7 @@ impl<'a> Parser<'a> {
 
     /// What stands behind the `{` of a block under so many nodes, and `}`.
     #[cycle(statements)]
-    pub(crate) fn body(&mut self, depth: u32) -> Result<Body, ParseFault>
+    pub(crate) fn body(&mut self, depth: u32) -> Result<Body, Refusal>
         requires { depth < 200 }
         ensures tree { IfOk result (λ b. Takes (IsBody (map declaration_of b.declarations.items) (body_of b.statements.items)) self.old.cursor self.new.cursor) }
         ensures refused { IfErr result (Refuses (NoFront (BodyFront depth) self.old.cursor)) }
@@ -561,7 +556,7 @@ impl<'a> Parser<'a> {
     }
 
     // The declarations at the front of a block.
-    fn declarations(&mut self, depth: u32) -> Result<Tall<Vec<Decl>>, ParseFault>
+    fn declarations(&mut self, depth: u32) -> Result<Tall<Vec<Decl>>, Refusal>
         requires { depth ≤ 200 }
         ensures tree { IfOk result (λ p. Takes (λ all. DerivesDeclarations all (map declaration_of p.tree.items)) self.old.cursor self.new.cursor) }
         ensures only { IfOk result (λ _. OnlyTo (DeclarationsFront depth) self.old.cursor self.new.cursor) }

@@ -7,13 +7,15 @@ ghost use Rattle.c_tree.specs.Measures.{parameters_height, item_form_height, ext
 ghost use Rattle.c_tree.specs.SyntaxView.{specs_of, parameters_of, item_form_of, external_of, unit_of};
 ghost use Rattle.c_tree.specs.declared.decl.ItemKind.TheVariants as functions;
 ghost use Rattle.c_tree.specs.Source.{IsSource};
-ghost use Rattle.c_parser.specs.Refusals.{Refuses, NoSource};
+ghost use Rattle.c_tree.specs.Source.{NoSource, IsPlace, end_of};
+ghost use Rattle.c_parser.specs.ParseFaults.{Says};
+ghost use Rattle.c_parser.specs.Refusals.{Refuses};
 ghost use Rattle.c_parser.specs.Fronts.{NoFront};
 ghost use Rattle.c_parser.specs.Takes.{Takes, Both, Behind, IsItemFront};
 ghost use Rattle.c_parser.specs.UnitFronts.{ExternalFront, IsListed, ListedFront, DeclarationEnd, FunctionEnd, IsFunctionHead};
 
 use crate::declarations::Tall;
-use crate::fault::ParseFault;
+use crate::fault::{ParseFault, Refusal};
 use crate::parser::Parser;
 use c_tree::{External, FunctionDef, ItemKind, Params, Punct, Specs, Token, Unit};
 use std::alloc::Global;
@@ -24,7 +26,7 @@ const OVER_EXTERNAL: u32 = 1;
 
 impl<'a> Parser<'a> {
     // The row `external`: a function where a body follows its parameters.
-    fn external(&mut self) -> Result<Tall<External>, ParseFault>
+    fn external(&mut self) -> Result<Tall<External>, Refusal>
         ensures tree { IfOk result (λ p. Takes (λ all. DerivesExternal all (external_of p.tree)) self.old.cursor self.new.cursor) }
         ensures height { IfOk result (λ p. p.height ≡ external_height (external_of p.tree)) }
         ensures room { IfOk result (λ p. 1 + p.height ≤ 200) }
@@ -48,7 +50,7 @@ impl<'a> Parser<'a> {
     }
 
     // Parameters in their parentheses.
-    fn listed(&mut self, depth: u32) -> Result<Tall<Params>, ParseFault>
+    fn listed(&mut self, depth: u32) -> Result<Tall<Params>, Refusal>
         requires { depth ≤ 200 }
         ensures tree { IfOk result (λ p. Takes (λ all. IsListed all (parameters_of p.tree)) self.old.cursor self.new.cursor) }
         ensures height { IfOk result (λ p. p.height ≡ parameters_height (parameters_of p.tree)) }
@@ -70,7 +72,7 @@ impl<'a> Parser<'a> {
         stars: u32,
         name: Text,
         kind: Tall<ItemKind>,
-    ) -> Result<Tall<External>, ParseFault>
+    ) -> Result<Tall<External>, Refusal>
         requires kind_height { kind.height ≡ item_form_height (item_form_of kind.tree) }
         requires kind_room { 3 + kind.height ≤ 200 }
         ensures tree { IfOk result (λ p. Takes (Behind (Both (λ a. DerivesSpecs a (specs_of specs)) (IsItemFront stars name (item_form_of kind.tree) item_at)) (λ all. DerivesExternal all (external_of p.tree))) self.old.cursor self.new.cursor) }
@@ -94,7 +96,7 @@ impl<'a> Parser<'a> {
         stars: u32,
         name: Text,
         params: Tall<Params>,
-    ) -> Result<Tall<External>, ParseFault>
+    ) -> Result<Tall<External>, Refusal>
         requires params_height { params.height ≡ parameters_height (parameters_of params.tree) }
         requires params_room { 2 + params.height ≤ 200 }
         ensures tree { IfOk result (λ p. Takes (Behind (IsFunctionHead (specs_of specs) stars name (parameters_of params.tree)) (λ all. DerivesExternal all (external_of p.tree))) self.old.cursor self.new.cursor) }
@@ -134,9 +136,8 @@ fn function_kind(params: Tall<Params>) -> Tall<ItemKind>
     }
 }
 
-/// The tree of a list of tokens, which the row `unit` derives and which is at most 200 high (docs/LANGUAGE.md, "Grammar").
-/// Tokens that have no such tree are refused: at the first token with which none can go on, or at the end of the last one.
-pub fn parse(alloc: Global, tokens: &[Token]) -> Result<Unit, ParseFault>
+// The row `unit` over all tokens.
+fn unit(alloc: Global, tokens: &[Token]) -> Result<Unit, Refusal>
     requires few { length tokens.now ≤ most_tokens }
     ensures tree { IfOk result (λ u. IsSource tokens.now (unit_of u)) }
     ensures refused { IfErr result (Refuses (NoSource tokens.now)) }
@@ -152,4 +153,42 @@ pub fn parse(alloc: Global, tokens: &[Token]) -> Result<Unit, ParseFault>
         externals.push(next.tree)?;
     }
     Ok(Unit::new(externals))
+}
+
+// Where the tokens end, in bytes, or 0 where there is none.
+fn end(tokens: &[Token]) -> u32
+    ensures { result ≡ end_of tokens.now }
+{
+    match tokens.split_last() {
+        Some((token, _)) => token.at.saturating_add(token.len),
+        None => 0,
+    }
+}
+
+// The place of the first of so many tokens that are left, or the end of all where none is.
+fn place(tokens: &[Token], left: u32) -> u32
+    ensures { IsPlace tokens.now result }
+{
+    let passed = tokens.len().saturating_sub(left as usize);
+    let (_, rest) = tokens.split_at(passed);
+    match rest.split_first() {
+        Some((token, _)) => token.at,
+        None => end(tokens),
+    }
+}
+
+/// The tree of a list of tokens, which the row `unit` derives and which is at most 200 high (docs/LANGUAGE.md, "Grammar").
+/// Tokens that have no such tree are refused: at the first token with which none can go on, or at the end of the last one.
+pub fn parse(alloc: Global, tokens: &[Token]) -> Result<Unit, ParseFault>
+    requires few { length tokens.now ≤ most_tokens }
+    ensures tree { IfOk result (λ u. IsSource tokens.now (unit_of u)) }
+    ensures refused { IfErr result (Says tokens.now) }
+{
+    match unit(alloc, tokens) {
+        Ok(unit) => Ok(unit),
+        Err(Refusal::Syntax { left }) => Err(ParseFault::Syntax {
+            at: place(tokens, left),
+        }),
+        Err(Refusal::NoMemory) => Err(ParseFault::NoMemory),
+    }
 }

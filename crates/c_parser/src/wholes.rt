@@ -9,7 +9,7 @@ ghost use Rattle.c_parser.specs.Fronts.{NoFront, OnlyTo, ExpressionFront, SpecsF
 ghost use Rattle.c_parser.specs.Refusals.{Refuses};
 
 use crate::declarations::Tall;
-use crate::fault::ParseFault;
+use crate::fault::Refusal;
 use crate::parser::{Parsed, Parser};
 use c_tree::{Expr, Specs};
 
@@ -24,7 +24,7 @@ fn whole(parsed: Parsed) -> Tall<Expr>
 
 impl<'a> Parser<'a> {
     /// The words of a type, one or more.
-    pub(crate) fn whole_specs(&mut self) -> Result<Specs, ParseFault>
+    pub(crate) fn whole_specs(&mut self) -> Result<Specs, Refusal>
         ensures tree { IfOk result (λ s. Takes (λ taken. DerivesSpecs taken (specs_of s)) self.old.cursor self.new.cursor) }
         ensures only { IfOk result (λ _. OnlyTo SpecsFront self.old.cursor self.new.cursor) }
         ensures refused { IfErr result (Refuses (NoFront SpecsFront self.old.cursor)) }
@@ -44,7 +44,7 @@ impl<'a> Parser<'a> {
     }
 
     /// The row `expression`, under so many nodes.
-    pub(crate) fn whole_expression(&mut self, depth: u32) -> Result<Tall<Expr>, ParseFault>
+    pub(crate) fn whole_expression(&mut self, depth: u32) -> Result<Tall<Expr>, Refusal>
         requires { depth < 200 }
         ensures tree { IfOk result (λ p. Takes (λ taken. Derives ExpressionRow taken (expression_of p.tree)) self.old.cursor self.new.cursor) }
         ensures only { IfOk result (λ _. OnlyTo (ExpressionFront ExpressionRow depth) self.old.cursor self.new.cursor) }
@@ -58,7 +58,7 @@ impl<'a> Parser<'a> {
     }
 
     /// The row `assignment`, under so many nodes.
-    pub(crate) fn whole_assignment(&mut self, depth: u32) -> Result<Tall<Expr>, ParseFault>
+    pub(crate) fn whole_assignment(&mut self, depth: u32) -> Result<Tall<Expr>, Refusal>
         requires { depth < 200 }
         ensures tree { IfOk result (λ p. Takes (λ taken. Derives AssignmentRow taken (expression_of p.tree)) self.old.cursor self.new.cursor) }
         ensures only { IfOk result (λ _. OnlyTo (ExpressionFront AssignmentRow depth) self.old.cursor self.new.cursor) }
@@ -72,7 +72,7 @@ impl<'a> Parser<'a> {
     }
 
     /// The row `conditional`, under so many nodes.
-    pub(crate) fn whole_conditional(&mut self, depth: u32) -> Result<Tall<Expr>, ParseFault>
+    pub(crate) fn whole_conditional(&mut self, depth: u32) -> Result<Tall<Expr>, Refusal>
         requires { depth < 200 }
         ensures tree { IfOk result (λ p. Takes (λ taken. Derives ConditionalRow taken (expression_of p.tree)) self.old.cursor self.new.cursor) }
         ensures only { IfOk result (λ _. OnlyTo (ExpressionFront ConditionalRow depth) self.old.cursor self.new.cursor) }

@@ -31,7 +31,7 @@ pub enum External {
     Declaration(Decl),
 }
 
-/// The tree of a whole source: one or more externals. It is at most 200 high, and has at most 400,000 expressions, statements
+/// The tree of a whole source, a list of externals. It is at most 200 high, and has at most 400,000 expressions, statements
 /// and declared items, and at most 200,000 externals, parameters and stars each. Contracts see the externals, whose tree is `unit_of`.
 #[derive(Drop)]
 pub struct Unit {

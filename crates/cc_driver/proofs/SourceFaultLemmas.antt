@@ -1,4 +1,4 @@
--- A source has at most one fault, but for the token that one of syntax names, and none where it is accepted.
+-- A source has at most one fault, but for the place that one of syntax names, and none where it is accepted.
 use Rattle.std.proofs.Common.{◌≡◌, ◌≢◌, ◌∙◌, ℕ, List, refl, sym, ap, subst}
 use Rattle.c_tree.specs.declared.token.Token.{Token}
 use Rattle.c_tree.specs.Lexes.{Lexes}
@@ -8,9 +8,8 @@ use Rattle.c_lexer.specs.declared.fault.LexFault.TheVariants as lex_faults
 use Rattle.c_lexer.specs.LexFaults.{Says}
 use Rattle.c_lexer.proofs.OneAnswer.{says_one, lexes_not_says}
 use Rattle.c_tree.specs.SyntaxTree.{UnitTree}
-use Rattle.c_tree.specs.Source.{IsSource}
+use Rattle.c_tree.specs.Source.{IsSource, NoSource}
 use Rattle.c_tree.proofs.Rows.UnitOne.{one_source}
-use Rattle.c_parser.specs.Refusals.{NoSource}
 use Rattle.cc_driver.specs.Thin.{IsThinTree}
 use Rattle.cc_driver.specs.SourceFaults.{HasFault, IsSameFault, of_lex_fault}
 use Rattle.cc_driver.specs.Build.{IsAccepted}

@@ -1,4 +1,4 @@
--- The lines that are put, and what a put makes of a sink (docs/COMMANDS.md, "Lines").
+-- The lines that are put, and what a put makes of a sink (docs/COMMANDS.md, "Statuses and lines").
 use Rattle.std.specs.Prelude.{◌≡◌, ℕ, ◌==◌, Bool, IsTrue, if◌then◌else◌, List, ◌++◌, take, codes, Option, Some, None}
 use Rattle.word_base.specs.Counts.{Rose}
 use Rattle.cc_driver.specs.SourceFaults.{source_line}

@@ -6,28 +6,27 @@ use Rattle.c_lexer.specs.declared.fault.LexFault.{LexFault}
 use Rattle.c_lexer.specs.declared.fault.LexFault.TheVariants as lex_faults
 use Rattle.c_lexer.specs.LexFaults.{Says}
 use Rattle.c_tree.specs.SyntaxTree.{UnitTree}
-use Rattle.c_tree.specs.Source.{IsSource}
+use Rattle.c_tree.specs.Source.{IsSource, NoSource, IsPlace}
 use Rattle.c_parser.specs.declared.fault.ParseFault.{ParseFault}
 use Rattle.c_parser.specs.declared.fault.ParseFault.TheVariants as parse_faults
-use Rattle.c_parser.specs.Refusals.{NoSource}
 use Rattle.cc_driver.specs.Thin.{IsThinTree}
 use Rattle.cc_driver.specs.declared.fault.SourceFault.{SourceFault}
 use Rattle.cc_driver.specs.declared.fault.SourceFault.TheVariants.{BadByte, OpenComment, BadConstant, LongName, TooManyTokens, Syntax, NotYet}
 use Rattle.cc_driver.specs.declared.fault.BuildFault.{BuildFault}
 use Rattle.cc_driver.specs.declared.fault.BuildFault.TheVariants as fault
 
--- what each fault says of the bytes of a source: why they have no tokens, that their tokens have no tree, or that their tree isn't
--- that of a thin source. Which token a fault of syntax names isn't told by the grammar.
+-- what each fault says of the bytes of a source: why they have no tokens, that their tokens have no tree, and a place among them, or that
+-- their tree isn't that of a thin source. Which of the places a fault of syntax names isn't told by the grammar.
 abbrev pub HasFault : List ℕ → SourceFault → Type 0
 HasFault bytes (BadByte at) = Says bytes (lex_faults.BadByte at)
 HasFault bytes (OpenComment at) = Says bytes (lex_faults.OpenComment at)
 HasFault bytes (BadConstant at) = Says bytes (lex_faults.BadConstant at)
 HasFault bytes (LongName at) = Says bytes (lex_faults.LongName at)
 HasFault bytes (TooManyTokens count) = Says bytes (lex_faults.TooManyTokens count)
-HasFault bytes (Syntax at) = (tokens : List Token) × Lexes bytes tokens × NoSource tokens
+HasFault bytes (Syntax at) = (tokens : List Token) × Lexes bytes tokens × NoSource tokens × IsPlace tokens at
 HasFault bytes NotYet = (tokens : List Token) × (source : UnitTree) × Lexes bytes tokens × IsSource tokens source × ¬ IsThinTree source
 
--- the same fault, but for the token that one of syntax names
+-- the same fault, but for the place that one of syntax names
 abbrev pub IsSameFault : SourceFault → SourceFault → Type 0
 IsSameFault (Syntax at) other = (place : ℕ) × (other ≡ Syntax place)
 IsSameFault fault other = other ≡ fault

@@ -12,7 +12,7 @@ use Rattle.c_tree.proofs.Examples.Types.{int, unsigned, int_pointer, int_at, uns
 
 -- words without a sign wrap, and are compared without one:
 -- int main(void){unsigned a; a = 65535u; __out(0, (a + 1u) < 2u); a = a + 1u; __out(0, a); return 0;}
-abbrev unsigned_wraps : ProgramTree
+abbrev pub unsigned_wraps : ProgramTree
 unsigned_wraps = alone (main_with (unsigned ∷ []) []
     (Block ((Scalar 0) ∷ [])
     (both (Do_expr (unsigned_at 27 (Assign (Named (Scalar 0) 27) (unsigned_at 31 (Const 65535)))))
@@ -30,7 +30,7 @@ unsigned_wraps_is = refl
 
 -- an int beside an unsigned is converted, so -1 is the greatest word:
 -- int main(void){__out(0, -1 < 1u); return 0;}
-abbrev minus_one_is_great : ProgramTree
+abbrev pub minus_one_is_great : ProgramTree
 minus_one_is_great = alone (main_with [] []
     (Block []
     (both (Do_expr (void_at 15 (Out 0 (int_at 24 (Binary op.Lt (unsigned_at 24 (Convert (int_at 24 (Unary Minus (int_at 25 (Const 1))))))
@@ -43,7 +43,7 @@ minus_one_is_great_is = refl
 
 -- the quotient of ints is cut toward zero, and the remainder has the sign of the dividend:
 -- int main(void){int x; x = -7; __out(0, x / 2); __out(0, x % 2); return 0;}
-abbrev cut_toward_zero : ProgramTree
+abbrev pub cut_toward_zero : ProgramTree
 cut_toward_zero = alone (main_with (int ∷ []) []
     (Block ((Scalar 0) ∷ [])
     (both (Do_expr (int_at 22 (Assign (Named (Scalar 0) 22) (int_at 26 (Unary Minus (int_at 27 (Const 7)))))))
@@ -57,7 +57,7 @@ cut_toward_zero_is = refl
 
 -- division and right shift without a sign; a shift has the type of its left operand:
 -- int main(void){unsigned a; int n; a = 65535u; n = 3; __out(0, a / 65535u); __out(0, a / 0x8000); __out(0, a % 0x8000); __out(0, 40000u >> n); return 0;}
-abbrev unsigned_division : ProgramTree
+abbrev pub unsigned_division : ProgramTree
 unsigned_division = alone (main_with (unsigned ∷ int ∷ []) []
     (Block ((Scalar 0) ∷ (Scalar 1) ∷ [])
     (both (Do_expr (unsigned_at 34 (Assign (Named (Scalar 0) 34) (unsigned_at 38 (Const 65535)))))
@@ -76,7 +76,7 @@ unsigned_division_is = refl
 
 -- the least int:
 -- int main(void){return -32767-1;}
-abbrev least_int : ProgramTree
+abbrev pub least_int : ProgramTree
 least_int = alone (main_with [] []
     (Block []
     (both (Return (Some (int_at 22 (Binary op.Sub (int_at 22 (Unary Minus (int_at 23 (Const 32767)))) (int_at 29 (Const 1))))))
@@ -87,7 +87,7 @@ least_int_is = refl
 
 -- an int divided by an unsigned is divided without a sign:
 -- int main(void) {int x; x = -7; x /= 2u; return x;}
-abbrev unsigned_op : ProgramTree
+abbrev pub unsigned_op : ProgramTree
 unsigned_op = alone (main_with (int ∷ []) []
     (Block ((Scalar 0) ∷ [])
     (both (Do_expr (int_at 23 (Assign (Named (Scalar 0) 23) (int_at 27 (Unary Minus (int_at 28 (Const 7)))))))
@@ -100,7 +100,7 @@ unsigned_op_is = refl
 
 -- a right shift of an int copies the sign, a left shift moves the bit pattern:
 -- int main(void) {int x; x = -7; __out(0, x >> 1); __out(0, x << 13); __out(0, 65529u >> 1); return 1 << 15;}
-abbrev shifts : ProgramTree
+abbrev pub shifts : ProgramTree
 shifts = alone (main_with (int ∷ []) []
     (Block ((Scalar 0) ∷ [])
     (both (Do_expr (int_at 23 (Assign (Named (Scalar 0) 23) (int_at 27 (Unary Minus (int_at 28 (Const 7)))))))
@@ -115,7 +115,7 @@ shifts_is = refl
 
 -- assignments with an operator shift by the type of their left side:
 -- int main(void) {int x; unsigned u; x = -8; u = 1; x >>= u; u <<= 15; __out(0, x); u >>= 3; return u;}
-abbrev shift_assigned : ProgramTree
+abbrev pub shift_assigned : ProgramTree
 shift_assigned = alone (main_with (int ∷ unsigned ∷ []) []
     (Block ((Scalar 0) ∷ (Scalar 1) ∷ [])
     (both (Do_expr (int_at 35 (Assign (Named (Scalar 0) 35) (int_at 39 (Unary Minus (int_at 40 (Const 8)))))))
@@ -132,7 +132,7 @@ shift_assigned_is = refl
 
 -- steps and assignments of an unsigned wrap:
 -- int main(void) {unsigned u; u = 0; u--; ++u; u -= 2; return u;}
-abbrev unsigned_steps : ProgramTree
+abbrev pub unsigned_steps : ProgramTree
 unsigned_steps = alone (main_with (unsigned ∷ []) []
     (Block ((Scalar 0) ∷ [])
     (both (Do_expr (unsigned_at 28 (Assign (Named (Scalar 0) 28) (unsigned_at 32 (Convert (int_at 32 (Const 0)))))))
@@ -147,7 +147,7 @@ unsigned_steps_is = refl
 
 -- operators on bits, and the negative of an unsigned:
 -- int main(void) {__out(0, 12 & 10); __out(0, 12 | 10); __out(0, 12 ^ 10); __out(0, ~0); return -1u;}
-abbrev bits : ProgramTree
+abbrev pub bits : ProgramTree
 bits = alone (main_with [] []
     (Block []
     (both (Do_expr (void_at 16 (Out 0 (int_at 25 (Binary op.And (int_at 25 (Const 12)) (int_at 30 (Const 10)))))))
@@ -162,7 +162,7 @@ bits_is = refl
 
 -- a conversion keeps the 16 bits:
 -- int main(void) {int x; unsigned u; x = -1; u = x; x = 40000u; __out(0, u); __out(0, x < 0); return x;}
-abbrev keeps_bits : ProgramTree
+abbrev pub keeps_bits : ProgramTree
 keeps_bits = alone (main_with (int ∷ unsigned ∷ []) []
     (Block ((Scalar 0) ∷ (Scalar 1) ∷ [])
     (both (Do_expr (int_at 35 (Assign (Named (Scalar 0) 35) (int_at 39 (Unary Minus (int_at 40 (Const 1)))))))
@@ -186,7 +186,7 @@ sizes_main = main_with (int_pointer ∷ []) []
     (unsigned_at 63 (Const 1))))))))
     done))
 
-abbrev sizes : ProgramTree
+abbrev pub sizes : ProgramTree
 sizes = program ((object 3 int []) ∷ []) (sizes_main ∷ [])
 
 sizes_is : source_run sizes silent 10 ≡ Ended [] (ending.Returned 5)

@@ -21,7 +21,7 @@ use Rattle.c_tree.proofs.Examples.Types.{int, int_pointer, int_at, pointer_at, v
 --     return acc >> 2;
 -- }
 -- int main(void) { for (;;) __out(1, fir(__in(0))); return 0; }
-abbrev fir_filter_fir : FunctionTree
+abbrev pub fir_filter_fir : FunctionTree
 fir_filter_fir = function (codes "fir") (Some int) ((Scalar 0) ∷ []) (int ∷ int ∷ int ∷ int_pointer ∷ []) []
     (Block ((Scalar 1) ∷ (Scalar 2) ∷ (Scalar 3) ∷ [])
     (both (For
@@ -53,7 +53,7 @@ fir_filter_main = main_with [] []
     (both (Return (Some (int_at 312 (Const 0))))
     done)))
 
-abbrev fir_filter : ProgramTree
+abbrev pub fir_filter : ProgramTree
 fir_filter = program
     ((object 16 int (words (1 ∷ 2 ∷ 3 ∷ 4 ∷ 5 ∷ 6 ∷ 7 ∷ 8 ∷ 8 ∷ 7 ∷ 6 ∷ 5 ∷ 4 ∷ 3 ∷ 2 ∷ 1 ∷ []))) ∷ (object 16 int []) ∷ [])
     (fir_filter_fir ∷ fir_filter_main ∷ [])

@@ -33,7 +33,7 @@ skips_right_main = main_with [] []
     (both (Return (Some (int_at 137 (Const 0))))
     done))))))
 
-abbrev skips_right : ProgramTree
+abbrev pub skips_right : ProgramTree
 skips_right = program [] (skips_right_f ∷ skips_right_main ∷ [])
 
 skips_right_is :
@@ -63,7 +63,7 @@ arguments_in_order_main = main_with [] []
     (more (int_at 105 (Call 0 (more (int_at 107 (Const 3)) none))) none))))))
     done))
 
-abbrev arguments_in_order : ProgramTree
+abbrev pub arguments_in_order : ProgramTree
 arguments_in_order = program [] (arguments_in_order_f ∷ arguments_in_order_g ∷ arguments_in_order_main ∷ [])
 
 arguments_in_order_is : source_run arguments_in_order silent 10 ≡ Ended ((0, 7) ∷ (0, 3) ∷ []) (ending.Returned 4)
@@ -86,7 +86,7 @@ argument_copied_main = main_with (int ∷ []) []
     (both (Return (Some (int_at 79 (Read (Scalar 0)))))
     done))))
 
-abbrev argument_copied : ProgramTree
+abbrev pub argument_copied : ProgramTree
 argument_copied = program [] (argument_copied_f ∷ argument_copied_main ∷ [])
 
 argument_copied_is : source_run argument_copied silent 10 ≡ Ended [] (ending.Returned 1)
@@ -115,7 +115,7 @@ pointer_first_main = main_with [] []
     (both (Return (Some (int_at 120 (Load (pointer_at 120 (Binary op.Add (pointer_at 120 (AddressOf (Static 0))) (int_at 122 (Const 0))))))))
     done)))
 
-abbrev pointer_first : ProgramTree
+abbrev pub pointer_first : ProgramTree
 pointer_first = program ((object 2 int []) ∷ []) (pointer_first_f ∷ pointer_first_g ∷ pointer_first_main ∷ [])
 
 pointer_first_is : source_run pointer_first silent 10 ≡ Ended ((0, 1) ∷ (0, 2) ∷ []) (ending.Returned 5)
@@ -138,7 +138,7 @@ left_first_main = main_with [] []
     (both (Return (Some (int_at 79 (Read (Static 0)))))
     done))))
 
-abbrev left_first : ProgramTree
+abbrev pub left_first : ProgramTree
 left_first = program ((object 1 int []) ∷ []) (left_first_f ∷ left_first_main ∷ [])
 
 left_first_is : source_run left_first silent 10 ≡ Ended [] (ending.Returned 3)
@@ -162,7 +162,7 @@ one_arm_main = main_with [] []
     (int_at 75 (Call 0 (more (int_at 77 (Const 2)) none)))))))
     done))
 
-abbrev one_arm : ProgramTree
+abbrev pub one_arm : ProgramTree
 one_arm = program [] (one_arm_f ∷ one_arm_main ∷ [])
 
 one_arm_is : source_run one_arm silent 10 ≡ Ended ((0, 0) ∷ (0, 2) ∷ []) (ending.Returned 2)
@@ -180,7 +180,7 @@ arm_not_taken_main = main_with [] []
     (both (Return (Some (int_at 38 (Pick (int_at 38 (Const 1)) (int_at 42 (Const 2)) (int_at 46 (Call 0 none))))))
     done))
 
-abbrev arm_not_taken : ProgramTree
+abbrev pub arm_not_taken : ProgramTree
 arm_not_taken = program [] (arm_not_taken_f ∷ arm_not_taken_main ∷ [])
 
 arm_not_taken_is : source_run arm_not_taken silent 10 ≡ Ended [] (ending.Returned 2)
@@ -199,7 +199,7 @@ arm_not_used_main = main_with [] []
     (both (Return (Some (int_at 51 (Const 3))))
     done)))
 
-abbrev arm_not_used : ProgramTree
+abbrev pub arm_not_used : ProgramTree
 arm_not_used = program [] (arm_not_used_f ∷ arm_not_used_main ∷ [])
 
 arm_not_used_is : source_run arm_not_used silent 10 ≡ Ended [] (ending.Returned 3)
@@ -218,7 +218,7 @@ arm_converted_main = main_with [] []
     (both (Return (Some (int_at 52 (Const 3))))
     done)))
 
-abbrev arm_converted : ProgramTree
+abbrev pub arm_converted : ProgramTree
 arm_converted = program [] (arm_converted_f ∷ arm_converted_main ∷ [])
 
 arm_converted_is : source_run arm_converted silent 10 ≡ Undefined [] NoValue 35
@@ -243,7 +243,7 @@ unused_main = main_with (int ∷ []) []
     (both (Return (Some (int_at 102 (Read (Scalar 0)))))
     done)))
 
-abbrev unused : ProgramTree
+abbrev pub unused : ProgramTree
 unused = program [] (unused_f ∷ unused_main ∷ [])
 
 unused_is : source_run unused silent 10 ≡ Ended ((0, 1) ∷ (0, 1) ∷ (0, 1) ∷ []) (ending.Returned 1)
@@ -263,7 +263,7 @@ no_value_main = main_with (int ∷ []) []
     (both (Return (Some (int_at 64 (Read (Scalar 0)))))
     done))))
 
-abbrev no_value : ProgramTree
+abbrev pub no_value : ProgramTree
 no_value = program [] (no_value_f ∷ no_value_main ∷ [])
 
 no_value_is : source_run no_value silent 10 ≡ Undefined [] NoValue 51
@@ -287,7 +287,7 @@ asks_main = main_with [] []
     (both (Return (Some (int_at 117 (Const 0))))
     done))))
 
-abbrev asks : ProgramTree
+abbrev pub asks : ProgramTree
 asks = program [] (asks_g ∷ asks_main ∷ [])
 
 asks_is : source_run asks (on_port_0 (4 ∷ [])) 10 ≡ Ended ((1, 5) ∷ []) (ending.InputEnded 0)

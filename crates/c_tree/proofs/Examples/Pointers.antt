@@ -28,7 +28,7 @@ sum_main = main_with (int ∷ int_pointer ∷ []) ((object 4 int (words (3 ∷ 1
     (both (Return (Some (int_at 126 (Read (Scalar 0)))))
     done)))))
 
-abbrev sum : ProgramTree
+abbrev pub sum : ProgramTree
 sum = program ((object 2 int (words (7 ∷ 1 ∷ []))) ∷ []) (sum_main ∷ [])
 
 sum_is : source_run sum silent 10 ≡ Ended [] (ending.Returned 9)
@@ -44,7 +44,7 @@ statics_are_zero_main = main_with [] []
     (int_at 48 (Not (pointer_at 49 (Read (Static 1)))))))))
     done))
 
-abbrev statics_are_zero : ProgramTree
+abbrev pub statics_are_zero : ProgramTree
 statics_are_zero = program ((object 3 int []) ∷ (object 1 int_pointer []) ∷ []) (statics_are_zero_main ∷ [])
 
 statics_are_zero_is : source_run statics_are_zero silent 10 ≡ Ended [] (ending.Returned 1)
@@ -64,7 +64,7 @@ short_lists_main = main_with [] ((object 4 int (words (1 ∷ 2 ∷ []))) ∷ [])
     (int_at 79 (Load (pointer_at 79 (Binary op.Add (pointer_at 79 (AddressOf (Local 0))) (int_at 81 (Const 3))))))))))
     done)))
 
-abbrev short_lists : ProgramTree
+abbrev pub short_lists : ProgramTree
 short_lists = program ((object 3 int (words (5 ∷ []))) ∷ []) (short_lists_main ∷ [])
 
 short_lists_is : source_run short_lists silent 10 ≡ Ended [] (ending.Returned 7)
@@ -72,7 +72,7 @@ short_lists_is = refl
 
 -- a local array is filled at each entry of its block:
 -- int main(void) {int i; for (i = 0; i < 2; i++) {int n[2] = {4}; __out(0, n[0] + n[1]); n[0] = 7; n[1] = 8;} return 0;}
-abbrev filled_again : ProgramTree
+abbrev pub filled_again : ProgramTree
 filled_again = alone (main_with (int ∷ []) ((object 2 int (words (4 ∷ []))) ∷ [])
     (Block ((Scalar 0) ∷ [])
     (both (For
@@ -107,7 +107,7 @@ inner_object_main = main_with (int ∷ int ∷ []) []
     (both (Return (Some (int_at 60 (Read (Scalar 0)))))
     done))))
 
-abbrev inner_object : ProgramTree
+abbrev pub inner_object : ProgramTree
 inner_object = program ((object 1 int []) ∷ []) (inner_object_main ∷ [])
 
 inner_object_is : source_run inner_object silent 10 ≡ Ended [] (ending.Returned 1)
@@ -122,7 +122,7 @@ static_addresses_main = main_with [] []
     (int_at 78 (Not (pointer_at 79 (Read (Static 2)))))))))
     done))
 
-abbrev static_addresses : ProgramTree
+abbrev pub static_addresses : ProgramTree
 static_addresses = program
     ((object 3 int (words (4 ∷ 5 ∷ 6 ∷ []))) ∷ (object 1 int_pointer ((initial.Address 0 1) ∷ [])) ∷ (object 1 int_pointer (initial.Null ∷ [])) ∷ [])
     (static_addresses_main ∷ [])
@@ -132,7 +132,7 @@ static_addresses_is = refl
 
 -- a pointer equals itself, and differs from another object's and from null:
 -- int main(void) {int x; int y; int *p; p = &x; __out(0, p == &x); __out(0, p == &y); __out(0, p != 0); p = 0; __out(0, p == 0); return 0;}
-abbrev equal_pointers : ProgramTree
+abbrev pub equal_pointers : ProgramTree
 equal_pointers = alone (main_with (int_pointer ∷ []) ((object 1 int []) ∷ (object 1 int []) ∷ [])
     (Block ((Local 0) ∷ (Local 1) ∷ (Scalar 0) ∷ [])
     (both (Do_expr (pointer_at 38 (Assign (Named (Scalar 0) 38) (pointer_at 42 (AddressOf (Local 0))))))
@@ -169,7 +169,7 @@ ordered_pointers_main = main_with (int_pointer ∷ []) []
     (pointer_at 151 (Binary op.Add (pointer_at 151 (AddressOf (Static 0))) (int_at 155 (Const 4))))))))
     done))))))))
 
-abbrev ordered_pointers : ProgramTree
+abbrev pub ordered_pointers : ProgramTree
 ordered_pointers = program ((object 4 int []) ∷ []) (ordered_pointers_main ∷ [])
 
 ordered_pointers_is :
@@ -187,7 +187,7 @@ either_side_main = main_with [] []
     (int_at 49 (Load (pointer_at 51 (Binary op.Add (int_at 51 (Const 1)) (pointer_at 55 (AddressOf (Static 0)))))))))))
     done))
 
-abbrev either_side : ProgramTree
+abbrev pub either_side : ProgramTree
 either_side = program ((object 2 int (words (3 ∷ 4 ∷ []))) ∷ []) (either_side_main ∷ [])
 
 either_side_is : source_run either_side silent 10 ≡ Ended [] (ending.Returned 8)
@@ -207,7 +207,7 @@ moved_pointers_main = main_with (int_pointer ∷ int ∷ []) []
     (int_at 112 (Load (pointer_at 113 (Read (Scalar 0)))))))))
     done))))))
 
-abbrev moved_pointers : ProgramTree
+abbrev pub moved_pointers : ProgramTree
 moved_pointers = program ((object 4 int (words (1 ∷ 2 ∷ 3 ∷ 4 ∷ []))) ∷ []) (moved_pointers_main ∷ [])
 
 moved_pointers_is : source_run moved_pointers silent 10 ≡ Ended [] (ending.Returned 73)
@@ -215,7 +215,7 @@ moved_pointers_is = refl
 
 -- the address of what a null pointer points to is null:
 -- int main(void) {int *p; p = 0; return &*p == 0;}
-abbrev address_of_content : ProgramTree
+abbrev pub address_of_content : ProgramTree
 address_of_content = alone (main_with (int_pointer ∷ []) []
     (Block ((Scalar 0) ∷ [])
     (both (Do_expr (pointer_at 24 (Assign (Named (Scalar 0) 24) (pointer_at 28 (Const 0)))))
@@ -237,7 +237,7 @@ true_pointer_main = main_with (int_pointer ∷ []) []
     (both (Return (Some (int_at 68 (Const 0))))
     done))))
 
-abbrev true_pointer : ProgramTree
+abbrev pub true_pointer : ProgramTree
 true_pointer = program ((object 1 int []) ∷ []) (true_pointer_main ∷ [])
 
 true_pointer_is : source_run true_pointer silent 10 ≡ Ended [] (ending.Returned 2)
@@ -256,7 +256,7 @@ pointer_or_null_main = main_with (int_pointer ∷ []) []
     (int_at 68 (Const 6))))))
     done)))
 
-abbrev pointer_or_null : ProgramTree
+abbrev pub pointer_or_null : ProgramTree
 pointer_or_null = program ((object 1 int []) ∷ []) (pointer_or_null_main ∷ [])
 
 pointer_or_null_is : source_run pointer_or_null silent 10 ≡ Ended [] (ending.Returned 5)
@@ -273,7 +273,7 @@ through_void_main = main_with (void_pointer ∷ int_pointer ∷ []) []
     (both (Return (Some (int_at 69 (Load (pointer_at 70 (Read (Scalar 1)))))))
     done)))))
 
-abbrev through_void : ProgramTree
+abbrev pub through_void : ProgramTree
 through_void = program ((object 1 int []) ∷ []) (through_void_main ∷ [])
 
 through_void_is : source_run through_void silent 10 ≡ Ended [] (ending.Returned 6)
@@ -281,7 +281,7 @@ through_void_is = refl
 
 -- a pointer to a pointer:
 -- int main(void) {int x; int *p; int **q; q = &p; *q = &x; **q = 8; return x;}
-abbrev two_stars : ProgramTree
+abbrev pub two_stars : ProgramTree
 two_stars = alone (main_with (int_pointer_pointer ∷ []) ((object 1 int []) ∷ (object 1 int_pointer []) ∷ [])
     (Block ((Local 0) ∷ (Local 1) ∷ (Scalar 0) ∷ [])
     (both (Do_expr (pointer_pointer_at 40 (Assign (Named (Scalar 0) 40) (pointer_pointer_at 44 (AddressOf (Local 1))))))

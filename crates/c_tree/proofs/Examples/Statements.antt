@@ -11,7 +11,7 @@ use Rattle.c_tree.proofs.Examples.Types.{int, int_at, void_at, function, main_wi
 
 -- an else belongs to the inner if, and a+++b is a++ + b:
 -- int main(void){int a; int b; a=2; b=3; __out(0, a+++b); __out(0, a); if (0) if (1) __out(0, 9); else __out(0, 8); return 0;}
-abbrev dangling_else : ProgramTree
+abbrev pub dangling_else : ProgramTree
 dangling_else = alone (main_with (int ∷ int ∷ []) []
     (Block ((Scalar 0) ∷ (Scalar 1) ∷ [])
     (both (Do_expr (int_at 29 (Assign (Named (Scalar 0) 29) (int_at 31 (Const 2)))))
@@ -29,7 +29,7 @@ dangling_else_is = refl
 
 -- a switch whose default stands in the middle, and is fallen into and out of:
 -- int main(void) {int i; for (i = 0; i < 4; i++) switch (i) {case 1: __out(0, 1); default: __out(0, 2); case 3: __out(0, 3); if (i == 3) continue; break; case 2: __out(0, 4);} return i;}
-abbrev falls : ProgramTree
+abbrev pub falls : ProgramTree
 falls = alone (main_with (int ∷ []) []
     (Block ((Scalar 0) ∷ [])
     (both (For
@@ -58,7 +58,7 @@ falls_is = refl
 
 -- a switch without a matching case and without a default does nothing:
 -- int main(void) {switch (3) {case 1: __out(0, 1); break; case 2: __out(0, 2);} return 4;}
-abbrev no_case : ProgramTree
+abbrev pub no_case : ProgramTree
 no_case = alone (main_with [] []
     (Block []
     (both (Switch (int_at 24 (Const 3))
@@ -76,7 +76,7 @@ no_case_is = refl
 
 -- a continue goes to the test of a do, and out of a switch:
 -- int main(void) {int i; i = 0; do {i++; switch (i) {case 2: continue;} __out(1, i);} while (i < 3); return i;}
-abbrev skips : ProgramTree
+abbrev pub skips : ProgramTree
 skips = alone (main_with (int ∷ []) []
     (Block ((Scalar 0) ∷ [])
     (both (Do_expr (int_at 23 (Assign (Named (Scalar 0) 23) (int_at 27 (Const 0)))))
@@ -98,7 +98,7 @@ skips_is = refl
 
 -- a do runs its body once before the test, which is a turn; a while tests first:
 -- int main(void) {int i; i = 5; do __out(0, i++); while (i < 3); while (i < 3) __out(0, i); return i;}
-abbrev body_before_test : ProgramTree
+abbrev pub body_before_test : ProgramTree
 body_before_test = alone (main_with (int ∷ []) []
     (Block ((Scalar 0) ∷ [])
     (both (Do_expr (int_at 23 (Assign (Named (Scalar 0) 23) (int_at 27 (Const 5)))))
@@ -118,7 +118,7 @@ body_before_test_wants_a_turn = refl
 
 -- a break leaves a loop before its third part:
 -- int main(void) {int i; for (i = 0; ; i++) if (i == 2) break; return i;}
-abbrev breaks : ProgramTree
+abbrev pub breaks : ProgramTree
 breaks = alone (main_with (int ∷ []) []
     (Block ((Scalar 0) ∷ [])
     (both (For
@@ -153,7 +153,7 @@ returns_main = main_with [] []
     (both (Return (Some (int_at 80 (Call 0 (more (int_at 82 (Const 4)) none)))))
     done))
 
-abbrev returns : ProgramTree
+abbrev pub returns : ProgramTree
 returns = program [] (returns_f ∷ returns_main ∷ [])
 
 returns_is : source_run returns silent 1 ≡ Ended [] (ending.Returned 4)
@@ -176,7 +176,7 @@ returns_nothing_main = main_with [] []
     (both (Return (Some (int_at 79 (Const 0))))
     done))))
 
-abbrev returns_nothing : ProgramTree
+abbrev pub returns_nothing : ProgramTree
 returns_nothing = program [] (returns_nothing_f ∷ returns_nothing_main ∷ [])
 
 returns_nothing_is : source_run returns_nothing silent 10 ≡ Ended ((0, 0) ∷ []) (ending.Returned 0)
@@ -184,7 +184,7 @@ returns_nothing_is = refl
 
 -- the end of main returns 0:
 -- int main(void) {__out(0, 1);}
-abbrev no_return : ProgramTree
+abbrev pub no_return : ProgramTree
 no_return = alone (main_with [] []
     (Block []
     (both (Do_expr (void_at 16 (Out 0 (int_at 25 (Const 1)))))
@@ -195,7 +195,7 @@ no_return_is = refl
 
 -- the turns of each execution of a loop are counted anew:
 -- int main(void) {int i; int j; int n; n = 0; for (i = 0; i < 3; i++) for (j = 0; j < 2; j++) n++; return n;}
-abbrev counts_anew : ProgramTree
+abbrev pub counts_anew : ProgramTree
 counts_anew = alone (main_with (int ∷ int ∷ int ∷ []) []
     (Block ((Scalar 0) ∷ (Scalar 1) ∷ (Scalar 2) ∷ [])
     (both (Do_expr (int_at 37 (Assign (Named (Scalar 2) 37) (int_at 41 (Const 0)))))
@@ -219,7 +219,7 @@ counts_anew_goes_on = refl
 
 -- an endless loop ends with its input:
 -- int main(void){for(;;) __out(1, __in(0)); return 0;}
-abbrev echo : ProgramTree
+abbrev pub echo : ProgramTree
 echo = alone (main_with [] []
     (Block []
     (both (For None None None (Do_expr (void_at 23 (Out 1 (int_at 32 (In 0))))))
@@ -236,7 +236,7 @@ echo_goes_on = refl
 
 -- an endless loop goes on after any number of turns:
 -- int main(void){for(;;); return 0;}
-abbrev endless : ProgramTree
+abbrev pub endless : ProgramTree
 endless = alone (main_with [] []
     (Block []
     (both (For None None None (Block [] done))
@@ -254,7 +254,7 @@ endless_in_no_turns = refl
 
 -- a loop that would begin a turn too many has run its third part and its test:
 -- int main(void) {int i; for (i = 0; __out(0, i), i < 3; i++) ; return i;}
-abbrev goes_on : ProgramTree
+abbrev pub goes_on : ProgramTree
 goes_on = alone (main_with (int ∷ []) []
     (Block ((Scalar 0) ∷ [])
     (both (For

@@ -12,7 +12,7 @@ use Rattle.c_tree.proofs.Examples.Types.{int, unsigned, int_pointer, void_pointe
 
 -- an overflow stands at its node, behind the outputs before it:
 -- int main(void) {int x; x = 32767; __out(0, x); x = (x) + 1; return x;}
-abbrev overflows : ProgramTree
+abbrev pub overflows : ProgramTree
 overflows = alone (main_with (int ∷ []) []
     (Block ((Scalar 0) ∷ [])
     (both (Do_expr (int_at 23 (Assign (Named (Scalar 0) 23) (int_at 27 (Const 32767)))))
@@ -26,7 +26,7 @@ overflows_is = refl
 
 -- the same at the first token of a sum without parentheses:
 -- int main(void){int x; x = 32767; __out(0,1); x = x + 1; return x;}
-abbrev overflows_behind_output : ProgramTree
+abbrev pub overflows_behind_output : ProgramTree
 overflows_behind_output = alone (main_with (int ∷ []) []
     (Block ((Scalar 0) ∷ [])
     (both (Do_expr (int_at 22 (Assign (Named (Scalar 0) 22) (int_at 26 (Const 32767)))))
@@ -40,7 +40,7 @@ overflows_behind_output_is = refl
 
 -- a product that is no int:
 -- int main(void) {int x; x = 300; return x * x;}
-abbrev product_overflows : ProgramTree
+abbrev pub product_overflows : ProgramTree
 product_overflows = alone (main_with (int ∷ []) []
     (Block ((Scalar 0) ∷ [])
     (both (Do_expr (int_at 23 (Assign (Named (Scalar 0) 23) (int_at 27 (Const 300)))))
@@ -52,7 +52,7 @@ product_overflows_is = refl
 
 -- a step overflows at the step:
 -- int main(void) {int x; x = 32767; ++x; return x;}
-abbrev step_overflows : ProgramTree
+abbrev pub step_overflows : ProgramTree
 step_overflows = alone (main_with (int ∷ []) []
     (Block ((Scalar 0) ∷ [])
     (both (Do_expr (int_at 23 (Assign (Named (Scalar 0) 23) (int_at 27 (Const 32767)))))
@@ -65,7 +65,7 @@ step_overflows_is = refl
 
 -- the least int has no remainder by -1, since it has no quotient:
 -- int main(void) {int x; x = -32767 - 1; return x % -1;}
-abbrev no_remainder : ProgramTree
+abbrev pub no_remainder : ProgramTree
 no_remainder = alone (main_with (int ∷ []) []
     (Block ((Scalar 0) ∷ [])
     (both (Do_expr (int_at 23 (Assign (Named (Scalar 0) 23)
@@ -78,7 +78,7 @@ no_remainder_is = refl
 
 -- the least int has no negative:
 -- int main(void) {int x; x = -32767 - 1; return -x;}
-abbrev no_negative : ProgramTree
+abbrev pub no_negative : ProgramTree
 no_negative = alone (main_with (int ∷ []) []
     (Block ((Scalar 0) ∷ [])
     (both (Do_expr (int_at 23 (Assign (Named (Scalar 0) 23)
@@ -91,7 +91,7 @@ no_negative_is = refl
 
 -- a quotient by zero:
 -- int main(void) {int x; x = 0; return 5 / x;}
-abbrev divides_by_zero : ProgramTree
+abbrev pub divides_by_zero : ProgramTree
 divides_by_zero = alone (main_with (int ∷ []) []
     (Block ((Scalar 0) ∷ [])
     (both (Do_expr (int_at 23 (Assign (Named (Scalar 0) 23) (int_at 27 (Const 0)))))
@@ -103,7 +103,7 @@ divides_by_zero_is = refl
 
 -- a remainder by zero, without a sign:
 -- int main(void) {unsigned u; u = 0; u %= 0; return 1;}
-abbrev remainder_by_zero : ProgramTree
+abbrev pub remainder_by_zero : ProgramTree
 remainder_by_zero = alone (main_with (unsigned ∷ []) []
     (Block ((Scalar 0) ∷ [])
     (both (Do_expr (unsigned_at 28 (Assign (Named (Scalar 0) 28) (unsigned_at 32 (Convert (int_at 32 (Const 0)))))))
@@ -116,7 +116,7 @@ remainder_by_zero_is = refl
 
 -- a shift by 16:
 -- int main(void) {int x; x = 16; return 1 << x;}
-abbrev shifts_too_far : ProgramTree
+abbrev pub shifts_too_far : ProgramTree
 shifts_too_far = alone (main_with (int ∷ []) []
     (Block ((Scalar 0) ∷ [])
     (both (Do_expr (int_at 23 (Assign (Named (Scalar 0) 23) (int_at 27 (Const 16)))))
@@ -128,7 +128,7 @@ shifts_too_far_is = refl
 
 -- a shift by a negative count:
 -- int main(void) {return 1u >> -1;}
-abbrev shifts_back : ProgramTree
+abbrev pub shifts_back : ProgramTree
 shifts_back = alone (main_with [] []
     (Block []
     (both (Return (Some (int_at 23 (Convert (unsigned_at 23 (Binary op.Shr (unsigned_at 23 (Const 1))
@@ -140,7 +140,7 @@ shifts_back_is = refl
 
 -- a step of an indeterminate object fails at the object:
 -- int main(void) {int x; ++x; return 0;}
-abbrev indeterminate : ProgramTree
+abbrev pub indeterminate : ProgramTree
 indeterminate = alone (main_with (int ∷ []) []
     (Block ((Scalar 0) ∷ [])
     (both (Do_expr (int_at 23 (StepBefore true (Named (Scalar 0) 25))))
@@ -152,7 +152,7 @@ indeterminate_is = refl
 
 -- an object is fresh at each entry of its block:
 -- int main(void) {int i; for (i = 0; i < 2; i++) {int x; if (i == 0) x = 5; __out(0, x);} return 0;}
-abbrev fresh_object : ProgramTree
+abbrev pub fresh_object : ProgramTree
 fresh_object = alone (main_with (int ∷ int ∷ []) []
     (Block ((Scalar 0) ∷ [])
     (both (For
@@ -187,7 +187,7 @@ fresh_at_call_main = main_with [] []
     (both (Return (Some (int_at 75 (Call 0 (more (int_at 77 (Const 0)) none)))))
     done)))
 
-abbrev fresh_at_call : ProgramTree
+abbrev pub fresh_at_call : ProgramTree
 fresh_at_call = program [] (fresh_at_call_f ∷ fresh_at_call_main ∷ [])
 
 fresh_at_call_is : source_run fresh_at_call silent 10 ≡ Undefined [] Indeterminate 42
@@ -195,7 +195,7 @@ fresh_at_call_is = refl
 
 -- a local array without a list starts indeterminate:
 -- int main(void) {int n[2]; n[0] = 1; return n[1];}
-abbrev no_list : ProgramTree
+abbrev pub no_list : ProgramTree
 no_list = alone (main_with [] ((object 2 int []) ∷ [])
     (Block ((Local 0) ∷ [])
     (both (Do_expr (int_at 26 (Assign (At (pointer_at 26 (Binary op.Add (pointer_at 26 (AddressOf (Local 0))) (int_at 28 (Const 0)))) 26)
@@ -208,7 +208,7 @@ no_list_is = refl
 
 -- a store through a null pointer fails at its lvalue, behind the value:
 -- int main(void) {int *p; p = 0; *p = (__out(0, 7), 5); return 0;}
-abbrev bad_pointer : ProgramTree
+abbrev pub bad_pointer : ProgramTree
 bad_pointer = alone (main_with (int_pointer ∷ []) []
     (Block ((Scalar 0) ∷ [])
     (both (Do_expr (pointer_at 24 (Assign (Named (Scalar 0) 24) (pointer_at 28 (Const 0)))))
@@ -222,7 +222,7 @@ bad_pointer_is = refl
 
 -- an assignment with an operator reads first, so it fails before the value:
 -- int main(void) {int *p; p = 0; *p += (__out(0, 7), 5); return 0;}
-abbrev reads_null : ProgramTree
+abbrev pub reads_null : ProgramTree
 reads_null = alone (main_with (int_pointer ∷ []) []
     (Block ((Scalar 0) ∷ [])
     (both (Do_expr (pointer_at 24 (Assign (Named (Scalar 0) 24) (pointer_at 28 (Const 0)))))
@@ -236,7 +236,7 @@ reads_null_is = refl
 
 -- a step fails at its lvalue too:
 -- int main(void) {int *p; p = 0; ++*p; return 0;}
-abbrev steps_null : ProgramTree
+abbrev pub steps_null : ProgramTree
 steps_null = alone (main_with (int_pointer ∷ []) []
     (Block ((Scalar 0) ∷ [])
     (both (Do_expr (pointer_at 24 (Assign (Named (Scalar 0) 24) (pointer_at 28 (Const 0)))))
@@ -257,7 +257,7 @@ reads_behind_main = main_with (int_pointer ∷ []) []
     (both (Return (Some (int_at 52 (Load (pointer_at 53 (Read (Scalar 0)))))))
     done)))
 
-abbrev reads_behind : ProgramTree
+abbrev pub reads_behind : ProgramTree
 reads_behind = program ((object 2 int []) ∷ []) (reads_behind_main ∷ [])
 
 reads_behind_is : source_run reads_behind silent 10 ≡ Undefined [] BadPointer 52
@@ -274,7 +274,7 @@ moved_behind_main = main_with (int_pointer ∷ []) []
     (both (Return (Some (int_at 57 (Const 0))))
     done))))
 
-abbrev moved_behind : ProgramTree
+abbrev pub moved_behind : ProgramTree
 moved_behind = program ((object 2 int []) ∷ []) (moved_behind_main ∷ [])
 
 moved_behind_is : source_run moved_behind silent 10 ≡ Undefined [] BadPointer 45
@@ -290,7 +290,7 @@ moved_before_main = main_with (int_pointer ∷ []) []
     (both (Return (Some (int_at 56 (Const 0))))
     done))))
 
-abbrev moved_before : ProgramTree
+abbrev pub moved_before : ProgramTree
 moved_before = program ((object 2 int []) ∷ []) (moved_before_main ∷ [])
 
 moved_before_is : source_run moved_before silent 10 ≡ Undefined [] BadPointer 41
@@ -306,7 +306,7 @@ unsigned_moves_up_main = main_with (int_pointer ∷ []) []
     (both (Return (Some (int_at 52 (Load (pointer_at 54 (Binary op.Add (pointer_at 54 (Read (Scalar 0))) (unsigned_at 58 (Const 65535))))))))
     done)))
 
-abbrev unsigned_moves_up : ProgramTree
+abbrev pub unsigned_moves_up : ProgramTree
 unsigned_moves_up = program ((object 2 int []) ∷ []) (unsigned_moves_up_main ∷ [])
 
 unsigned_moves_up_is : source_run unsigned_moves_up silent 10 ≡ Undefined [] BadPointer 54
@@ -314,7 +314,7 @@ unsigned_moves_up_is = refl
 
 -- pointers into two objects have no order:
 -- int main(void) {int x; int y; return &x < &y;}
-abbrev no_order : ProgramTree
+abbrev pub no_order : ProgramTree
 no_order = alone (main_with [] ((object 1 int []) ∷ (object 1 int []) ∷ [])
     (Block ((Local 0) ∷ (Local 1) ∷ [])
     (both (Return (Some (int_at 37 (Binary op.Lt (pointer_at 37 (AddressOf (Local 0))) (pointer_at 42 (AddressOf (Local 1)))))))
@@ -325,7 +325,7 @@ no_order_is = refl
 
 -- nor a difference:
 -- int main(void) {int x; int y; return &x - &y;}
-abbrev no_difference : ProgramTree
+abbrev pub no_difference : ProgramTree
 no_difference = alone (main_with [] ((object 1 int []) ∷ (object 1 int []) ∷ [])
     (Block ((Local 0) ∷ (Local 1) ∷ [])
     (both (Return (Some (int_at 37 (Binary op.Sub (pointer_at 37 (AddressOf (Local 0))) (pointer_at 42 (AddressOf (Local 1)))))))
@@ -336,7 +336,7 @@ no_difference_is = refl
 
 -- nor have null pointers an order:
 -- int main(void) {int *p; p = 0; return p < p;}
-abbrev no_null_order : ProgramTree
+abbrev pub no_null_order : ProgramTree
 no_null_order = alone (main_with (int_pointer ∷ []) []
     (Block ((Scalar 0) ∷ [])
     (both (Do_expr (pointer_at 24 (Assign (Named (Scalar 0) 24) (pointer_at 28 (Const 0)))))
@@ -348,7 +348,7 @@ no_null_order_is = refl
 
 -- a null pointer isn't moved, not even by 0; the sum stands behind the &:
 -- int main(void) {int *p; p = 0; return &p[0] == 0;}
-abbrev null_not_moved : ProgramTree
+abbrev pub null_not_moved : ProgramTree
 null_not_moved = alone (main_with (int_pointer ∷ []) []
     (Block ((Scalar 0) ∷ [])
     (both (Do_expr (pointer_at 24 (Assign (Named (Scalar 0) 24) (pointer_at 28 (Const 0)))))
@@ -361,7 +361,7 @@ null_not_moved_is = refl
 
 -- a cell that holds pointers isn't read as a word; this is tested before whether it was written:
 -- int main(void) {int *q; void *v; int *p; v = &q; p = v; return *p;}
-abbrev other_kind : ProgramTree
+abbrev pub other_kind : ProgramTree
 other_kind = alone (main_with (void_pointer ∷ int_pointer ∷ []) ((object 1 int_pointer []) ∷ [])
     (Block ((Local 0) ∷ (Scalar 0) ∷ (Scalar 1) ∷ [])
     (both (Do_expr (void_pointer_at 41 (Assign (Named (Scalar 0) 41) (void_pointer_at 45 (Convert (pointer_pointer_at 45 (AddressOf (Local 0))))))))
@@ -374,7 +374,7 @@ other_kind_is = refl
 
 -- a pointer to an ended object is read and passed on, and fails where it is tested:
 -- int main(void) {int *p; int *q; {int x; x = 1; p = &x;} q = p; return !q;}
-abbrev ended : ProgramTree
+abbrev pub ended : ProgramTree
 ended = alone (main_with (int_pointer ∷ int_pointer ∷ []) ((object 1 int []) ∷ [])
     (Block ((Scalar 0) ∷ (Scalar 1) ∷ [])
     (both (Block ((Local 0) ∷ [])
@@ -390,7 +390,7 @@ ended_is = refl
 
 -- it fails where it is compared, also with null:
 -- int main(void) {int *p; {int x; p = &x;} return p == 0;}
-abbrev ended_compared : ProgramTree
+abbrev pub ended_compared : ProgramTree
 ended_compared = alone (main_with (int_pointer ∷ []) ((object 1 int []) ∷ [])
     (Block ((Scalar 0) ∷ [])
     (both (Block ((Local 0) ∷ [])
@@ -404,7 +404,7 @@ ended_compared_is = refl
 
 -- the test of a statement fails at its expression:
 -- int main(void) {int *p; {int x; p = &x;} if (p) return 1; return 0;}
-abbrev ended_tested : ProgramTree
+abbrev pub ended_tested : ProgramTree
 ended_tested = alone (main_with (int_pointer ∷ []) ((object 1 int []) ∷ [])
     (Block ((Scalar 0) ∷ [])
     (both (Block ((Local 0) ∷ [])
@@ -432,7 +432,7 @@ ended_with_function_main = main_with [] []
     (both (Return (Some (int_at 63 (Load (pointer_at 64 (Call 0 none))))))
     done))
 
-abbrev ended_with_function : ProgramTree
+abbrev pub ended_with_function : ProgramTree
 ended_with_function = program [] (ended_with_function_f ∷ ended_with_function_main ∷ [])
 
 ended_with_function_is : source_run ended_with_function silent 10 ≡ Undefined [] BadPointer 63

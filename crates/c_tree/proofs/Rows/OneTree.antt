@@ -1,18 +1,20 @@
 -- A list of tokens has at most one tree by each row of declarations, statements and the unit.
-use Rattle.std.proofs.Common.{◌≡◌, ◌≢◌, List, [], ◌∷◌, ◌++◌, Option, refl, sym, ap, ◌∙◌, inl}
+use Rattle.std.proofs.Common.{◌≡◌, ◌≢◌, ℕ, List, [], ◌∷◌, ◌++◌, refl, sym, ap, ◌∙◌}
 use Rattle.c_tree.specs.declared.token.Token.{Token}
 use Rattle.c_tree.specs.declared.token.TokenKind.TheVariants as token
 use Rattle.c_tree.specs.declared.token.Punct.{Punct}
 use Rattle.c_tree.specs.declared.token.Punct.TheVariants as mark
-use Rattle.c_tree.specs.SyntaxTree.{SpecsTree, Expression, ParameterTree, ParametersTree, ItemForm, InitialTree, ItemTree, DeclarationTree, Statement, Empty, Evaluate, Block, Break, Continue, Return, DoWhile, If, IfElse, While, For, Switch, Statements, Choices, FunctionSyntax, ExternalTree, UnitTree}
-use Rattle.c_tree.specs.Derives.{DerivesSpecs, DerivesList, DerivesInitial, DerivesInitialiser, DerivesArray, DerivesParameter, DerivesParameterList, DerivesParameters, DerivesForm, DerivesItem, DerivesItems, DerivesDeclaration, DerivesDeclarations, Closing, Closed, Open, DerivesStatement, EmptyRule, EvaluateRule, BlockRule, BreakRule, ContinueRule, ReturnRule, DoRule, IfRule, IfElseRule, WhileRule, ForRule, SwitchRule, DerivesStatements, DerivesChoices, DerivesFunction, DerivesExternal, DerivesUnit}
-use Rattle.c_tree.proofs.Rows.Fronts.{ElseWord, BraceCloses, first, Agree}
+use Rattle.c_tree.specs.SyntaxTree.{SpecsTree, ParameterTree, ParametersTree, InitialTree, ItemTree, DeclarationTree, Statement, Empty, Evaluate, Block, Break, Continue, Return, DoWhile, If, IfElse, While, For, Switch, Choices, FunctionSyntax, ExternalTree, UnitTree}
+use Rattle.c_tree.specs.Derives.{DerivesSpecs, DerivesInitial, DerivesParameter, DerivesParameters, DerivesItem, DerivesDeclaration, Closing, Closed, Open, DerivesStatement, EmptyRule, EvaluateRule, BlockRule, BreakRule, ContinueRule, ReturnRule, DoRule, IfRule, IfElseRule, WhileRule, ForRule, SwitchRule, DerivesChoices, DerivesFunction, DerivesExternal, DerivesUnit}
+use Rattle.c_tree.specs.Grammar.{AreStars}
+use Rattle.c_tree.proofs.Rows.SpecsAndStars.{stars_one}
+use Rattle.c_tree.proofs.Rows.Fronts.{ElseWord, first, Agree}
 use Rattle.c_tree.proofs.Rows.Given.{OneExpression}
-use Rattle.c_tree.proofs.Rows.Initialisers.{list_one, initial_one, initialiser_one, array_one}
-use Rattle.c_tree.proofs.Rows.Parameters.{type_words_one, parameter_one, parameter_list_one, parameters_one}
-use Rattle.c_tree.proofs.Rows.Declarations.{form_one, item_one, items_one, declaration_one, declarations_one}
+use Rattle.c_tree.proofs.Rows.Initialisers.{initial_one}
+use Rattle.c_tree.proofs.Rows.Parameters.{type_words_one, parameter_one, parameters_one}
+use Rattle.c_tree.proofs.Rows.Declarations.{item_one, declaration_one}
 use Rattle.c_tree.proofs.Rows.Statements.{fits}
-use Rattle.c_tree.proofs.Rows.Blocks.{statement_one, statements_one, choices_one}
+use Rattle.c_tree.proofs.Rows.Blocks.{statement_one, choices_one}
 use Rattle.c_tree.proofs.Rows.Externals.{function_one, external_one, unit_one}
 
 -- a mark to stand behind a list of tokens, where a row needs one there
@@ -60,62 +62,32 @@ module _ (known : OneExpression) where
   pub closed_front : (a b r s : List Token) (x y : Statement) → DerivesStatement Closed a x → DerivesStatement Closed b y → a ++ r ≡ b ++ s → Agree a b r s x y
   closed_front a b r s x y g h e = (statement_one known g).same Closed b r s y h tt tt e
 
-  pub statements_front : (a b r s : List Token) (xs ys : Statements) → DerivesStatements a xs → DerivesStatements b ys → first r ≡ BraceCloses → first s ≡ BraceCloses → a ++ r ≡ b ++ s → Agree a b r s xs ys
-  statements_front a b r s xs ys g h p q e = (statements_one known g).same b r s ys h p q e
-
-  pub choices_front : (a b r s : List Token) (xs ys : Choices) → DerivesChoices a xs → DerivesChoices b ys → first r ≡ BraceCloses → first s ≡ BraceCloses → a ++ r ≡ b ++ s → Agree a b r s xs ys
-  choices_front a b r s xs ys g h p q e = (choices_one known g).same b r s ys h p q e
-
 -- over whole lists
 module _ (known : OneExpression) (a : List Token) where
   pub one_specs : (x y : SpecsTree) → DerivesSpecs a x → DerivesSpecs a y → x ≡ y
   one_specs x y g h = (type_words_one a a [] [] x y g h (λ e. cc) (λ e. cc) refl).tree
 
-  pub one_list : (xs ys : List Expression) → DerivesList a xs → DerivesList a ys → xs ≡ ys
-  one_list xs ys g h = (list_one known a a (lone mark.CloseBrace) (lone mark.CloseBrace) xs ys g h (inl refl) (inl refl) refl).tree
+  pub one_stars : (n m : ℕ) → AreStars a n → AreStars a m → n ≡ m
+  one_stars n m g h = (stars_one a a [] [] n m g h (λ e. cc) (λ e. cc) refl).tree
 
   pub one_initial : (x y : InitialTree) → DerivesInitial a x → DerivesInitial a y → x ≡ y
   one_initial x y g h = (initial_one known a a (lone mark.Semicolon) (lone mark.Semicolon) x y g h refl refl refl).tree
 
-  pub one_initialiser : (x y : Option InitialTree) → DerivesInitialiser a x → DerivesInitialiser a y → x ≡ y
-  one_initialiser x y g h = (initialiser_one known a a (lone mark.Semicolon) (lone mark.Semicolon) x y g h refl refl refl).tree
-
-  pub one_array : (x y : Option Expression) → DerivesArray a x → DerivesArray a y → x ≡ y
-  one_array x y g h = (array_one known a a [] [] x y g h refl).tree
-
   pub one_parameter : (x y : ParameterTree) → DerivesParameter a x → DerivesParameter a y → x ≡ y
   one_parameter x y g h = (parameter_one known a a (lone mark.CloseParen) (lone mark.CloseParen) x y g h refl refl refl).tree
-
-  pub one_parameter_list : (xs ys : List ParameterTree) → DerivesParameterList a xs → DerivesParameterList a ys → xs ≡ ys
-  one_parameter_list xs ys g h = (parameter_list_one known a a (lone mark.CloseParen) (lone mark.CloseParen) xs ys g h refl refl refl).tree
 
   pub one_parameters : (x y : ParametersTree) → DerivesParameters a x → DerivesParameters a y → x ≡ y
   one_parameters x y g h = (parameters_one known a a (lone mark.CloseParen) (lone mark.CloseParen) x y g h refl refl refl).tree
 
-  pub one_form : (x y : ItemForm) → DerivesForm a x → DerivesForm a y → x ≡ y
-  one_form x y g h = (form_one known a a [] [] x y g h (λ e. cc) (λ e. cc) (λ e. cc) (λ e. cc) refl).tree
-
   pub one_item : (x y : ItemTree) → DerivesItem a x → DerivesItem a y → x ≡ y
   one_item x y g h = (item_one known a a (lone mark.Semicolon) (lone mark.Semicolon) x y g h refl refl refl).tree
-
-  pub one_items : (xs ys : List ItemTree) → DerivesItems a xs → DerivesItems a ys → xs ≡ ys
-  one_items xs ys g h = (items_one known a a (lone mark.Semicolon) (lone mark.Semicolon) xs ys g h refl refl refl).tree
 
   pub one_declaration : (x y : DeclarationTree) → DerivesDeclaration a x → DerivesDeclaration a y → x ≡ y
   one_declaration x y g h = (declaration_one known a a [] [] x y g h refl).tree
 
-  pub one_declarations : (xs ys : List DeclarationTree) → DerivesDeclarations a xs → DerivesDeclarations a ys → xs ≡ ys
-  one_declarations xs ys g h = (declarations_one known a a [] [] xs ys g h (λ e. cc) (λ e. cc) refl).tree
-
   -- of either row of statements
   pub one_statement : (c d : Closing) (x y : Statement) → DerivesStatement c a x → DerivesStatement d a y → x ≡ y
   one_statement c d x y g h = ((statement_one known g).same d a [] [] y h (fits c [] (λ e. cc)) (fits d [] (λ e. cc)) refl).tree
-
-  pub one_closing : (c d : Closing) (x y : Statement) → DerivesStatement c a x → DerivesStatement d a y → c ≡ d
-  one_closing c d x y g h = (statement_front known c d a a [] [] x y g h (λ e. cc) (λ e. cc) refl).0
-
-  pub one_statements : (xs ys : Statements) → DerivesStatements a xs → DerivesStatements a ys → xs ≡ ys
-  one_statements xs ys g h = ((statements_one known g).same a (lone mark.CloseBrace) (lone mark.CloseBrace) ys h refl refl refl).tree
 
   pub one_choices : (xs ys : Choices) → DerivesChoices a xs → DerivesChoices a ys → xs ≡ ys
   one_choices xs ys g h = ((choices_one known g).same a (lone mark.CloseBrace) (lone mark.CloseBrace) ys h refl refl refl).tree

@@ -6,7 +6,6 @@ use Rattle.c25_image.specs.ImageText.{image_text}
 use Rattle.c25_image.specs.ImageFaults.{IsWhole}
 use Rattle.c_tree.specs.SyntaxView.{unit_of}
 use Rattle.c_tree.specs.Source.{IsSource}
-use Rattle.c_parser.specs.Refusals.{NoSource}
 use Rattle.cc_driver.specs.Thin.{thin_program}
 use Rattle.cc_driver.proofs.build.build.Goals as goal
 

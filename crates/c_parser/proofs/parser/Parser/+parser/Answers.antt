@@ -9,16 +9,18 @@ use Rattle.c_parser.proofs.Refusals.{refuses_all, passed_on, known_to, goes_out,
 use Rattle.c_parser.proofs.Rows.{assignment_more, conditional_more, assignment_done, conditional_done, index_behind, behind_done}
 use Rattle.c_parser.proofs.RowsRefuse.{expression_first_refused, expression_read, expression_refused, more_begins, commas_done, comma_too_high, comma_refused, comma_more, assignment_first_refused, assignment_read, assignment_refused, not_assigned_to, assignment_too_high, assigned_refused, conditional_first_refused, conditional_read, conditional_refused, conditional_too_high, chosen_refused, no_colon, other_refused, more_done, level_more, operator_too_high, operand_refused, cast_tightest, is_looser, looser_refused, level_read, level_refused, cast_passes, cast_starts, cast_first_refused, cast_start_refused, cast_too_high, cast_not_closed, cast_operand_refused}
 use Rattle.c_parser.proofs.parser.Parser.+parser.Goals as goal
-use Rattle.c_parser.specs.Parses.{IsParsed, IsNode, trees_of}
+use Rattle.c_parser.specs.Parses.{IsParsed, IsNode}
+use Rattle.c_tree.specs.SyntaxView.{trees_of}
 use Rattle.c_tree.specs.Measures.{greatest_height}
 use Rattle.c_parser.proofs.Firsts.{cast_parsed, constant_operand, name_operand, call_operand, step_parsed, prefix_parsed, size_parsed, size_type_parsed, unary_starts, unary_passes}
 use Rattle.c_tree.specs.declared.token.Keyword.TheVariants as keyword
 use Rattle.c_tree.specs.SyntaxTree.{Node, Name, Call, SizeofType}
 use Rattle.c_tree.specs.SyntaxView.{type_of}
-use Rattle.c_parser.proofs.Parens.{opened_length, parens_begin, parens_fewer, parens_measured, parens_more, parens_close, behind_le}
-use Rattle.c_parser.proofs.Calls.{call_form}
+use Rattle.c_parser.proofs.Parens.{opened_length, parens_begin, parens_fewer, parens_measured, parens_more, parens_close}
+use Rattle.c_tree.proofs.Views.{call_form}
 use Rattle.c_parser.proofs.Arguments.{arguments_begin, arguments_none, arguments_done, arguments_more}
 use Rattle.c_parser.proofs.OperandsRefuse.{part_too_high, part_refused, step_part, prefix_part, size_part, size_too_high, size_type_refused, index_too_high, index_refused, index_not_closed, behind_refused, unary_start_refused, unary_no_operand, unary_none_behind, cast_no_operand, other_no_operand, named_not, call_refused, arguments_too_high, argument_refused, arguments_not_closed, parens_refused, parens_not_closed, parens_behind_refused}
+use Rattle.c_parser.proofs.Words.{behind_shorter}
 
 pub expression-returns-in_err-first-clause-refused : goal.expression-returns-in_err-first-clause-refused
 expression-returns-in_err-first-clause-refused t c =
@@ -357,7 +359,7 @@ named-returns-clause-parsed t c =
     let e : name_at c.args.self.now.cursor ≡ Some c.in_ok-name-2.name = c.in_ok-name.ensures.taken ∙ ap Some (sym c.in_ok-name-2.ensures) in
     let q = rw j at c.in_ok-arguments.ensures.parsed in
     let n : IsNode (Call c.in_ok-name-2.name (trees_of c.in_ok-arguments.arguments.list.items)) c.place-at.result true c.in_ok-arguments.arguments.height c.node-2.result =
-    rw c.node-2.ensures (record { tree = ap (λ f. Node f c.place-at.result) (call_form c.in_ok-name-2.name c.in_ok-arguments.arguments); place = refl; unary_is = refl; height = refl }) in
+    rw c.node-2.ensures (record { tree = ap (λ f. Node f c.place-at.result) (call_form c.in_ok-name-2.name c.in_ok-arguments.arguments.list); place = refl; unary_is = refl; height = refl }) in
     call_operand c.args.self.now.cursor c.args.depth c.node-2.result c.in_ok-name-2.name c.place-at.result c.in_ok-arguments.arguments c.arguments.new.self.cursor e g c.place-at.ensures q n
 
 pub named-returns-in_err-name-clause-refused : goal.named-returns-in_err-name-clause-refused
@@ -386,7 +388,7 @@ parenthesised-expression-requires-then-not-is_empty t c =
     let some : 0 < length c.loop-at.places.items = search rules in
     let f = parens_fewer c.args.self.now.cursor c.args.depth c.loop-at.places.items c.loop-at.inner c.loop-at.self.cursor c.loop-at.invariant some in
     let m = parens_measured c.args.self.now.cursor c.args.depth c.loop-at.places.items c.loop-at.inner c.loop-at.self.cursor c.loop-at.invariant in
-    let le = behind_le c.loop-at.self.cursor in
+    let le = behind_shorter c.loop-at.self.cursor in
     (omega (arith, f, le, ap length c.in_ok-expect.ensures.left, c.decreases), (c.requires.room, record { height = m.height; fits = m.fits }))
 
 pub parenthesised-loop-at-preserved-then-not-is_empty : goal.parenthesised-loop-at-preserved-then-not-is_empty

@@ -6,7 +6,7 @@ use Rattle.c_parser.proofs.TakesLemmas.{mapped, joined, mark_taken, word_taken}
 use Rattle.c_parser.proofs.StatementRows.{case_row}
 use Rattle.c_parser.proofs.FrontLemmas.{first_fails, second_fails, second_never, both_lead, one_leads, mark_fails, word_fails}
 use Rattle.c_parser.proofs.Refusals.{passed_on, known_to}
-use Rattle.c_parser.proofs.StatementWays.{expression_too_high}
+use Rattle.c_parser.proofs.FrontMarks.{expression_too_high}
 use Rattle.c_parser.proofs.parser.Parser.case_label.Goals as goal
 
 pub returns-clause-tree : goal.returns-clause-tree

@@ -7,7 +7,8 @@ use Rattle.c_parser.proofs.TakesLemmas.{joined, mark_taken, one_fewer}
 use Rattle.c_parser.proofs.StatementRows.{stated, evaluate_row}
 use Rattle.c_parser.proofs.FrontLemmas.{first_fails, second_fails, fails_as, mark_fails}
 use Rattle.c_parser.proofs.Refusals.{passed_on, known_to}
-use Rattle.c_parser.proofs.StatementWays.{evaluate_ways, expression_too_high}
+use Rattle.c_parser.proofs.StatementWays.{evaluate_ways}
+use Rattle.c_parser.proofs.FrontMarks.{expression_too_high}
 use Rattle.c_parser.proofs.parser.Parser.evaluated.Goals as goal
 
 pub returns-clause-tree : goal.returns-clause-tree

@@ -3,7 +3,7 @@ use Rattle.c_tree.specs.Derives.{OneRule}
 use Rattle.c_parser.proofs.DeclarationRows.{initial_taken}
 use Rattle.c_parser.proofs.FrontLemmas.{second_fails, both_lead, fails_as, leads_as, one_leads, only_stays}
 use Rattle.c_parser.proofs.Refusals.{passed_on, known_to}
-use Rattle.c_parser.proofs.FrontMarks.{expression_low}
+use Rattle.c_parser.proofs.FrontMarks.{expression_too_high}
 use Rattle.c_parser.proofs.DeclarationWays.{initialiser_ways, no_initial_leads, braced_ways, value_ways}
 use Rattle.c_parser.proofs.TakesLemmas.{mapped, took, gone, kept, not_there}
 use Rattle.c_parser.proofs.parser.Parser.initialiser.Goals as goal
@@ -31,7 +31,7 @@ returns-then-stands-clause-only c =
 pub returns-in_err-allow-clause-refused : goal.returns-in_err-allow-clause-refused
 returns-in_err-allow-clause-refused c =
     known_to c.from_residual-in_err-allow.result
-    (fails_as (initialiser_ways c.args.depth _ (c.take.ensures.taken.0 c.if-not-take.false)) (second_fails (one_leads (gone c.args.self.now.cursor c.take.ensures.left c.if-not-take.false)) (fails_as (value_ways c.args.depth _ (not_there c.stands.ensures c.if-stands.false)) (expression_low (omega (arith, c.in_err-allow.ensures.refused))))))
+    (fails_as (initialiser_ways c.args.depth _ (c.take.ensures.taken.0 c.if-not-take.false)) (second_fails (one_leads (gone c.args.self.now.cursor c.take.ensures.left c.if-not-take.false)) (fails_as (value_ways c.args.depth _ (not_there c.stands.ensures c.if-stands.false)) (expression_too_high (omega (arith, c.in_err-allow.ensures.refused))))))
 
 pub returns-in_err-value-clause-refused : goal.returns-in_err-value-clause-refused
 returns-in_err-value-clause-refused c =

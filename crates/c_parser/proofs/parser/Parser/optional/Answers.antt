@@ -3,7 +3,8 @@ use Rattle.c_parser.proofs.TakesLemmas.{not_there, mapped, joined, mark_taken, t
 use Rattle.c_parser.proofs.StatementRows.{no_expression}
 use Rattle.c_parser.proofs.FrontLemmas.{first_fails, second_fails, fails_as, mark_fails, fails_kept, only_kept}
 use Rattle.c_parser.proofs.Refusals.{passed_on, known_to}
-use Rattle.c_parser.proofs.StatementWays.{optional_ways, expression_too_high}
+use Rattle.c_parser.proofs.StatementWays.{optional_ways}
+use Rattle.c_parser.proofs.FrontMarks.{expression_too_high}
 use Rattle.c_parser.proofs.parser.Parser.optional.Goals as goal
 
 pub returns-then-take-clause-tree : goal.returns-then-take-clause-tree

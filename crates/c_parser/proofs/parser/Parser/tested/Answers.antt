@@ -3,7 +3,8 @@ use Rattle.c_tree.specs.declared.token.Punct.TheVariants as mark
 use Rattle.c_tree.specs.SyntaxView.{expression_of}
 use Rattle.c_parser.proofs.FrontLemmas.{first_fails, second_fails, both_lead, fails_as, leads_as, one_leads, mark_fails}
 use Rattle.c_parser.proofs.Refusals.{passed_on, known_to}
-use Rattle.c_parser.proofs.StatementWays.{tested_ways, expression_too_high}
+use Rattle.c_parser.proofs.StatementWays.{tested_ways}
+use Rattle.c_parser.proofs.FrontMarks.{expression_too_high}
 use Rattle.c_parser.proofs.TakesLemmas.{mapped, joined, mark_taken}
 use Rattle.c_parser.proofs.StatementRows.{tested_row}
 use Rattle.c_parser.proofs.parser.Parser.tested.Goals as goal

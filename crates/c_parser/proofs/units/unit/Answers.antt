@@ -8,7 +8,7 @@ use Rattle.c_parser.proofs.Refusals.{passed_on}
 use Rattle.c_parser.proofs.TakesLemmas.{mapped}
 use Rattle.c_parser.proofs.Lists.{begun, grown, height_begun, height_grown, with_next, externals_more}
 use Rattle.c_parser.proofs.UnitWays.{unit_ways, more_units, no_source, external_only, units_taken}
-use Rattle.c_parser.proofs.units.parse.Goals as goal
+use Rattle.c_parser.proofs.units.unit.Goals as goal
 
 pub returns-in_err-first-clause-refused : goal.returns-in_err-first-clause-refused
 returns-in_err-first-clause-refused c =

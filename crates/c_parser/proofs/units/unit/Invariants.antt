@@ -5,7 +5,7 @@ use Rattle.c_tree.specs.SyntaxView.{external_of}
 use Rattle.c_parser.specs.Takes.{Takes}
 use Rattle.c_parser.specs.UnitFronts.{UnitFront, MoreUnits}
 use Rattle.c_parser.proofs.FrontLemmas.{LeadsOn}
-use Rattle.c_parser.proofs.units.parse.Given as goal
+use Rattle.c_parser.proofs.units.unit.Given as goal
 
 abbrev pub invariant-loop-parser : goal.invariant-loop-parser
 invariant-loop-parser l = record {
