@@ -1,0 +1,34 @@
+-- Functions among the items of blocks.
+use Rattle.std.proofs.Common.{◌≡◌, ℕ, false, is_some, List, Option, Some, None, refl, ap, subst, sym, ◌∙◌}
+use Rattle.c_tree.specs.declared.program.Base.{Base}
+use Rattle.c_tree.specs.declared.program.VarRef.{VarRef}
+use Rattle.c_tree.specs.declared.decl.Init.{Init}
+use Rattle.c_tree.specs.declared.decl.Init.TheVariants as init
+use Rattle.c_tree.specs.declared.decl.Item.{Item}
+use Rattle.c_tree.specs.SyntaxView.{item_form_of, initial_of, item_of}
+use Rattle.c_types.specs.declared.declarations.Declared.{Declared}
+use Rattle.c_types.specs.declared.declarations.Declared.TheVariants as declares
+use Rattle.c_types.specs.declared.fault.Rule.TheVariants.{Mismatch, Misplaced}
+use Rattle.c_types.specs.declared.fault.Refusal.{Refusal}
+use Rattle.c_types.specs.declared.meaning.FunctionType.{FunctionType}
+use Rattle.c_types.specs.Answers.{Refuses}
+use Rattle.c_types.specs.Outcome.{Outcome, Is, Broken, breaks}
+use Rattle.c_types.specs.Scopes.{Scope, is_taken}
+use Rattle.c_types.specs.Declarations.{declarator}
+use Rattle.c_types.specs.Statements.{Opened, Initialiser, initialiser, is_array, with_object, block_item}
+
+initial_given : (i : Option Init) → is_some (initial_of i) ≡ is_some i
+initial_given None = refl
+initial_given (Some (init.One e)) = refl
+initial_given (Some (init.Braced values at)) = refl
+
+-- a function among the items of a block
+pub function_refused : (known : List VarRef) (o : Opened) (b : Base) (item : Item) (s t : Scope) (r : VarRef) (name : List ℕ) (d : Declared) (type : FunctionType) (i : Initialiser) (f : Refusal) → declarator o.scope b (item_form_of item.kind) item.stars (initial_of item.init) ≡ Is d → d ≡ declares.Function type → s ≡ o.scope → t ≡ with_object s name r d → initialiser t (is_array (item_form_of item.kind)) (initial_of item.init) ≡ Is i → name ≡ item.name → is_taken s name ≡ false → Refuses {A = Opened} (breaks (is_some item.init) Mismatch item.at (Broken Misplaced item.at)) f → Refuses (block_item known o b (item_of item)) f
+function_refused known o b item s t r name d type i f declared function same seen typed named untaken h =
+    let here : t ≡ o.scope = seen ∙ ap (with_object s name r) function ∙ same in
+    let typed_here : initialiser o.scope (is_array (item_form_of item.kind)) (initial_of item.init) ≡ Is i = ap (λ u. initialiser u (is_array (item_form_of item.kind)) (initial_of item.init)) (sym here) ∙ typed in
+    let untaken_here : is_taken o.scope item.name ≡ false = ap (λ u. is_taken u item.name) (sym same) ∙ ap (is_taken s) (sym named) ∙ untaken in
+    let declared_here : declarator o.scope b (item_form_of item.kind) item.stars (initial_of item.init) ≡ Is (declares.Function type) = declared ∙ ap Is function in
+    let P : Outcome Opened → Type 0 = λ x. Refuses x f in
+    let whole : breaks (is_some item.init) Mismatch item.at (Broken Misplaced item.at) ≡ block_item known o b (item_of item) = rw (declared_here, typed_here, untaken_here, initial_given item.init) in
+    subst P whole h

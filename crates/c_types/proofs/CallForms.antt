@@ -1,0 +1,34 @@
+-- Calls, whose arguments are a list in memory.
+use Rattle.std.proofs.Common.{◌≡◌, ℕ, List, subst, Vec, Global}
+use Rattle.std.specs.Prelude.{Result, IfOk, IfErr}
+use Rattle.c_tree.specs.declared.expr.Expr.{Expr}
+use Rattle.c_tree.specs.declared.expr.ExprKind as kind
+use Rattle.c_tree.specs.declared.typed_expression.TypedExpr.{TypedExpr}
+use Rattle.c_tree.specs.declared.typed_expression.ExprForm as typed
+use Rattle.c_tree.specs.SyntaxTree as tree
+use Rattle.c_tree.specs.SyntaxView.{form_of, expression_of, trees_of}
+use Rattle.c_tree.specs.TypedTree.{Kind, Node, Call, Exprs}
+use Rattle.c_tree.specs.View.{form_of as typed_form_of, argument_list, expr_of}
+use Rattle.c_tree.proofs.Views.{call_form, typed_call_form}
+use Rattle.c_types.specs.declared.fault.Refusal.{Refusal}
+use Rattle.c_types.specs.Outcome.{Outcome, Is, ◌>>=◌}
+use Rattle.c_types.specs.Answers.{Refuses}
+use Rattle.c_types.specs.Scopes.{Scope}
+use Rattle.c_types.specs.Typing.{typing, typing_form}
+
+-- a call in memory of the arguments that were passed
+pub call_typed : (o : Outcome Exprs) (n m : ℕ) (l : Vec TypedExpr Global) (k : Kind) (at : ℕ) → m ≡ n → o ≡ Is (argument_list l.items) → (o >>= λ es. Is (Node (Call n es) k at)) ≡ Is (Node (typed_form_of (typed.Call m l)) k at)
+call_typed o n m l k at q e = rw (e, typed_call_form m l, q)
+
+-- what is known of the form of a call is known of the call
+pub call_is_typed : (s : Scope) (r : Result TypedExpr Refusal) (e : Expr) (n m : List ℕ) (l : Vec Expr Global) (xs : List Expr) → e.kind ≡ kind.Call n l → m ≡ n → xs ≡ l.items → IfOk r (λ x. typing_form s (tree.Call m (trees_of xs)) e.at ≡ Is (expr_of x)) → IfOk r (λ x. typing s (expression_of e) ≡ Is (expr_of x))
+call_is_typed s r e n m l xs k p q h =
+    let P : tree.ExpressionForm → Type 0 = λ f. IfOk r (λ x. typing_form s f e.at ≡ Is (expr_of x)) in
+    let f : tree.Call m (trees_of xs) ≡ form_of e.kind = rw (k, p, q, call_form n l) in
+    subst P f h
+
+pub call_is_refused : (s : Scope) (r : Result TypedExpr Refusal) (e : Expr) (n m : List ℕ) (l : Vec Expr Global) (xs : List Expr) → e.kind ≡ kind.Call n l → m ≡ n → xs ≡ l.items → IfErr r (Refuses (typing_form s (tree.Call m (trees_of xs)) e.at)) → IfErr r (Refuses (typing s (expression_of e)))
+call_is_refused s r e n m l xs k p q h =
+    let P : tree.ExpressionForm → Type 0 = λ f. IfErr r (Refuses (typing_form s f e.at)) in
+    let f : tree.Call m (trees_of xs) ≡ form_of e.kind = rw (k, p, q, call_form n l) in
+    subst P f h

@@ -1,0 +1,24 @@
+-- What statements leave as it was: the scopes around them, and what is known of the function.
+use Rattle.std.proofs.Common.{◌≡◌, ℕ, List, [], ◌∷◌, is_some, Option, Some, None, refl, ap, ◌∙◌}
+use Rattle.c_tree.specs.SyntaxTree.{Statements}
+use Rattle.c_tree.specs.TypedTree.{Stmts}
+use Rattle.c_types.specs.declared.blocks.Body.{Body}
+use Rattle.c_types.specs.declared.local.Enclosing.{Enclosing}
+use Rattle.c_types.specs.declared.meaning.Meaning.{Meaning}
+use Rattle.c_types.specs.declared.scopes.Scopes.{Scopes}
+use Rattle.c_types.specs.Outcome.{Outcome}
+use Rattle.c_types.specs.Scopes.{Scope}
+use Rattle.c_types.specs.Statements.{LocalTree, Typed, typed_statements}
+use Rattle.c_types.specs.Tables.{Table, in_table, in_tables, names_of, tables_of, around_of, closed, scope_of}
+
+-- the scope of a list of tables, the innermost one first
+abbrev in_first : List Table → List ℕ → Option Meaning
+in_first [] name = None
+in_first (t ∷ ts) name = in_table t name
+
+abbrev scope_from : List Table → List (List ℕ) → Scope
+scope_from ts bodies = record { meaning = in_tables ts; here = λ name. is_some (in_first ts name); bodies = bodies }
+
+-- a scope is what its tables and the names of the bodies make it
+pub scope_kept : (s t : Scopes) → tables_of s ≡ tables_of t → s.bodies ≡ t.bodies → scope_of s ≡ scope_of t
+scope_kept s t tables bodies = λ i. scope_from (tables i) (names_of (bodies i).keys)

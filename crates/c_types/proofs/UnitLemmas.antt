@@ -1,0 +1,262 @@
+-- Turns of the loops over the parts of a source: types, parameters, items and externals.
+use Rattle.std.proofs.Common.{◌≡◌, ◌≢◌, ℕ, zero, suc, ◌+◌, ◌<◌, ◌≤◌, ◌&&◌, ◌||◌, Bool, true, false, if◌then◌else◌, List, [], ◌∷◌, ◌++◌, map, set, drop, get_or, length, Option, Some, None, is_some, is_none, option_map, true≢false, not, Bor, subst, refl, ap, sym, ◌∙◌, append_assoc, arith}
+use Rattle.std.specs.Str.{bytes_eq}
+use Rattle.std.specs.List.{list_any}
+use Rattle.std.specs.Prelude.{slice_get, slice_set}
+use Rattle.std.proofs.Math.ListN.{drop_of_length-le}
+use Rattle.std.proofs.lemmas.Cmp.{nat_list_eq_equiv}
+use Rattle.std.proofs.lemmas.List.{drop_more, map-append, map-set}
+use Rattle.std.proofs.lemmas.Option.{slice_get-map, slice_get_read}
+use Rattle.indexmap.specs.IndexSet.{insert_key}
+use Rattle.c_tree.specs.declared.program.Base.{Base}
+use Rattle.c_tree.specs.declared.program.ScalarType.{ScalarType}
+use Rattle.c_tree.specs.declared.program.VarRef.{VarRef}
+use Rattle.c_tree.specs.declared.program.Initial.{Initial}
+use Rattle.c_tree.specs.declared.decl.Param.{Param}
+use Rattle.c_tree.specs.declared.decl.Item.{Item}
+use Rattle.c_tree.specs.declared.decl.Init.{Init}
+use Rattle.c_tree.specs.declared.decl.Init.TheVariants as init
+use Rattle.c_tree.specs.declared.unit.External.{External}
+use Rattle.c_tree.specs.declared.unit.External.TheVariants as externals_of
+use Rattle.c_tree.specs.declared.unit.FunctionDef.{FunctionDef}
+use Rattle.c_tree.specs.declared.decl.Decl.{Decl}
+use Rattle.c_tree.specs.SyntaxTree.{ItemTree, FunctionSyntax, ParameterTree}
+use Rattle.c_tree.specs.TypedTree.{Kind, Stmt}
+use Rattle.c_tree.specs.SyntaxView.{parameter_of, initial_of, item_of, external_of, unit_of}
+use Rattle.c_types.specs.declared.declarations.Declared.{Declared}
+use Rattle.c_types.specs.declared.declarations.Declared.TheVariants as declares
+use Rattle.c_types.specs.declared.fault.Rule.{Rule}
+use Rattle.c_types.specs.declared.fault.Rule.TheVariants.{Redeclared, Mismatch}
+use Rattle.c_types.specs.declared.fault.Refusal.{Refusal}
+use Rattle.c_types.specs.declared.fault.Refusal.TheVariants as refusals
+use Rattle.c_types.specs.declared.meaning.Meaning.{Meaning}
+use Rattle.c_types.specs.declared.meaning.Meaning.TheVariants as meanings
+use Rattle.c_types.specs.declared.meaning.ObjectType.{ObjectType}
+use Rattle.c_types.specs.declared.units.Static as memory
+use Rattle.c_types.specs.declared.functions.TypedFunction as functions
+use Rattle.c_types.specs.Answers.{Refuses}
+use Rattle.c_types.specs.Outcome.{Outcome, Is, Broken, ◌>>=◌, breaks}
+use Rattle.c_types.specs.Kinds.{same_type}
+use Rattle.c_types.specs.Scopes.{Scope, open_scope, is_in, is_out}
+use Rattle.c_types.specs.Declarations.{reference, with_single}
+use Rattle.c_types.specs.Statements.{LocalTree, Typed, typed_body}
+use Rattle.c_types.specs.Tables.{names_of}
+use Rattle.c_types.specs.View.{static_tree_of, typed_function_of}
+use Rattle.c_types.specs.Units.{File, StaticTree, Starts, starts, agrees, may_declare, with_declared, static_number, is_initialised, is_twice, untyped_rule, item_as, declared_as, same_types, with_parameters, with_list, with_static, set_list, file_item, file_items, external, externals, is_among, bodies_behind, with_function, with_body, parameter_locals}
+
+same_false : (b : Bool) → (b && false) ≡ false
+same_false true = refl
+same_false false = refl
+
+-- lists of two lengths aren't the same
+pub unlike_lengths : (a b : List ScalarType) → length a ≢ length b → same_types a b ≡ false
+unlike_lengths [] [] unlike = absurd (unlike refl)
+unlike_lengths [] (y ∷ ys) unlike = refl
+unlike_lengths (x ∷ xs) [] unlike = refl
+unlike_lengths (x ∷ xs) (y ∷ ys) unlike = ap (λ r. same_type x y && r) (unlike_lengths xs ys (λ e. unlike (ap suc e))) ∙ same_false (same_type x y)
+
+-- the element of a turn is the first of what is left
+first_of : {A : Type 0} (list : List A) (i : ℕ) (x : A) → x ≡ get_or list i x → i < length list → drop i list ≡ x ∷ drop (i + 1) list
+first_of list i x is below = drop_more list i x below ∙ ap (λ e. e ∷ drop (i + 1) list) (sym is)
+
+pub same_turn : (a b : List ScalarType) (i : ℕ) (x y : ScalarType) → x ≡ get_or a i x → i < length a → y ≡ get_or b i y → i < length b → same_types (drop i a) (drop i b) ≡ (same_type x y && same_types (drop (i + 1) a) (drop (i + 1) b))
+same_turn a b i x y x_is x_below y_is y_below =
+    ap (λ l. same_types l (drop i b)) (first_of a i x x_is x_below) ∙ ap (same_types (x ∷ drop (i + 1) a)) (first_of b i y y_is y_below)
+
+-- the names of a set with one more name
+module _ (name : Bor (List ℕ)) where
+  among_names : (keys : List (Bor (List ℕ))) → list_any (λ k. bytes_eq name.now k.now) keys ≡ is_among name.now (names_of keys)
+  among_names [] = refl
+  among_names (k ∷ keys) =
+      ap (λ b. b || list_any (λ k'. bytes_eq name.now k'.now) keys) (nat_list_eq_equiv.symm name.now k.now)
+      ∙ ap (λ b. bytes_eq k.now name.now || b) (among_names keys)
+
+  names_chosen : (b : Bool) (keys : List (Bor (List ℕ))) → names_of (if b then keys else keys ++ name ∷ []) ≡ (if b then names_of keys else names_of keys ++ name.now ∷ [])
+  names_chosen true keys = refl
+  names_chosen false keys = map-append (λ (k : Bor (List ℕ)). k.now) keys (name ∷ [])
+
+  pub names_inserted : (keys : List (Bor (List ℕ))) → names_of (insert_key (λ a b. bytes_eq a.now b.now) keys name) ≡ (if is_among name.now (names_of keys) then names_of keys else names_of keys ++ name.now ∷ [])
+  names_inserted keys = names_chosen (list_any (λ k. bytes_eq name.now k.now) keys) keys ∙ ap (λ b. if b then names_of keys else names_of keys ++ name.now ∷ []) (among_names keys)
+
+-- parameters: one of a turn, and those behind the end of the shorter list
+pub parameter_declared : (s : Scope) (known : List VarRef) (n : ℕ) (list : List Param) (kinds : List ScalarType) (i : ℕ) (p : Param) (kind : ScalarType) → p ≡ get_or list i p → i < length list → kind ≡ get_or kinds i kind → i < length kinds → with_parameters s known n (map parameter_of (drop i list)) (drop i kinds) ≡ with_parameters (with_single s p.name (reference known n) kind) known (n + 1) (map parameter_of (drop (i + 1) list)) (drop (i + 1) kinds)
+parameter_declared s known n list kinds i p kind p_is p_below kind_is kind_below =
+    ap (λ l. with_parameters s known n (map parameter_of l) (drop i kinds)) (first_of list i p p_is p_below)
+    ∙ ap (λ l. with_parameters s known n (map parameter_of (p ∷ drop (i + 1) list)) l) (first_of kinds i kind kind_is kind_below)
+    ∙ ap (λ m. with_parameters (with_single s p.name (reference known n) kind) known m (map parameter_of (drop (i + 1) list)) (drop (i + 1) kinds)) (omega arith)
+
+-- where no type is left, no parameter is declared
+none_left : (s : Scope) (known : List VarRef) (n : ℕ) (ps : List ParameterTree) → with_parameters s known n ps [] ≡ s
+none_left s known n [] = refl
+none_left s known n (p ∷ ps) = refl
+
+pub parameters_ended : (s : Scope) (known : List VarRef) (list : List Param) (kinds : List ScalarType) (i : ℕ) → length kinds ≤ i → with_parameters s known i (map parameter_of (drop i list)) (drop i kinds) ≡ s
+parameters_ended s known list kinds i past =
+    ap (with_parameters s known i (map parameter_of (drop i list))) (drop_of_length-le kinds past) ∙ none_left s known i (map parameter_of (drop i list))
+
+-- items of a declaration
+pub item_typed : (f g : File) (b : Base) (whole : Outcome File) (list : List Item) (i : ℕ) (item : Item) → item ≡ get_or list i item → i < length list → whole ≡ file_items f b (map item_of (drop i list)) → file_item f b (item_of item) ≡ Is g → whole ≡ file_items g b (map item_of (drop (i + 1) list))
+item_typed f g b whole list i item is below so_far h =
+    so_far ∙ ap (λ l. file_items f b (map item_of l)) (first_of list i item is below) ∙ ap (λ x. x >>= λ q. file_items q b (map item_of (drop (i + 1) list))) h
+
+pub item_refused : (f : File) (b : Base) (whole : Outcome File) (list : List Item) (i : ℕ) (item : Item) (refusal : Refusal) → item ≡ get_or list i item → i < length list → whole ≡ file_items f b (map item_of (drop i list)) → Refuses (file_item f b (item_of item)) refusal → Refuses whole refusal
+item_refused f b whole list i item (refusals.Broken rule at) is below so_far h =
+    so_far ∙ ap (λ l. file_items f b (map item_of l)) (first_of list i item is below) ∙ ap (λ x. x >>= λ q. file_items q b (map item_of (drop (i + 1) list))) h
+item_refused f b whole list i item refusals.NoMemory is below so_far h = tt {0}
+
+-- externals
+pub external_typed : (f g : File) (known : List (List VarRef)) (whole : Outcome File) (list : List External) (i : ℕ) (x : External) → x ≡ get_or list i x → i < length list → whole ≡ externals known f (unit_of (drop i list)) → external known f (external_of x) ≡ Is g → whole ≡ externals known g (unit_of (drop (i + 1) list))
+external_typed f g known whole list i x is below so_far h =
+    so_far ∙ ap (λ l. externals known f (unit_of l)) (first_of list i x is below) ∙ ap (λ o. o >>= λ q. externals known q (unit_of (drop (i + 1) list))) h
+
+pub external_refused : (f : File) (known : List (List VarRef)) (whole : Outcome File) (list : List External) (i : ℕ) (x : External) (refusal : Refusal) → x ≡ get_or list i x → i < length list → whole ≡ externals known f (unit_of (drop i list)) → Refuses (external known f (external_of x)) refusal → Refuses whole refusal
+external_refused f known whole list i x (refusals.Broken rule at) is below so_far h =
+    so_far ∙ ap (λ l. externals known f (unit_of l)) (first_of list i x is below) ∙ ap (λ o. o >>= λ q. externals known q (unit_of (drop (i + 1) list))) h
+external_refused f known whole list i x refusals.NoMemory is below so_far h = tt {0}
+
+abbrev broken : Rule → ℕ → Outcome File
+broken rule at = Broken rule at
+
+-- an item without a valid type
+module _ (statics : List StaticTree) (given : Bool) (at : ℕ) where
+  untyped_broken : (port : Bool) (m : Option Meaning) → breaks (not (not port && agrees m declares.Untyped) || (given && is_initialised statics (static_number m))) Redeclared at (broken Mismatch at) ≡ Broken (if port || is_some m then Redeclared else Mismatch) at
+  untyped_broken true m = refl
+  untyped_broken false None = ap (λ b. breaks b Redeclared at (broken Mismatch at)) (same_false given)
+  untyped_broken false (Some (meanings.Object r type)) = refl
+  untyped_broken false (Some (meanings.Function type)) = refl
+
+module _ (f : File) (item : ItemTree) where
+  same_either : (b : Bool) (s : Scope) → (if b then s else s) ≡ s
+  same_either true s = refl
+  same_either false s = refl
+
+  untyped_item : item_as f declares.Untyped item ≡ (starts f.scope item.initial >>= λ i. Broken (untyped_rule f.scope item.name) item.at)
+  untyped_item =
+      ap (λ s. starts s item.initial >>= λ i. breaks (not (may_declare f.scope item.name declares.Untyped) || is_twice f item) Redeclared item.at (broken Mismatch item.at)) (same_either (may_declare f.scope item.name declares.Untyped && is_none (f.scope.meaning item.name)) f.scope)
+      ∙ ap (λ o. starts f.scope item.initial >>= λ i. o) (untyped_broken f.statics (is_some item.initial) item.at (is_in item.name || is_out item.name) (f.scope.meaning item.name))
+
+  pub untyped_refused : (refusal : Refusal) → Refuses (starts f.scope item.initial) refusal → Refuses (item_as f declares.Untyped item) refusal
+  untyped_refused (refusals.Broken rule at) h = untyped_item ∙ ap (λ o. o >>= λ i. broken (untyped_rule f.scope item.name) item.at) h
+  untyped_refused refusals.NoMemory h = tt {0}
+
+  pub untyped_refuses : (i : Starts) (refusal : Refusal) → starts f.scope item.initial ≡ Is i → refusal ≡ refusals.Broken (untyped_rule f.scope item.name) item.at → Refuses (item_as f declares.Untyped item) refusal
+  untyped_refuses i refusal h is =
+      subst (Refuses (item_as f declares.Untyped item)) (sym is) (untyped_item ∙ ap (λ o. o >>= λ j. broken (untyped_rule f.scope item.name) item.at) h)
+
+-- an item of this type, in the scope behind its declarator
+module _ (f : File) (item : ItemTree) (d : Declared) (s : Scope) (name : List ℕ) (n : ℕ) (allowed twice : Bool) (named : name ≡ item.name) (numbered : n ≡ length f.statics) (is : s ≡ with_declared f.scope name n d) (may : allowed ≡ may_declare f.scope name d) (again : twice ≡ is_twice f item) where
+  abbrev behind : Scope
+  behind = with_declared f.scope item.name (length f.statics) d
+
+  behind_is : s ≡ behind
+  behind_is = is ∙ ap (λ m. with_declared f.scope m n d) named ∙ ap (λ k. with_declared f.scope item.name k d) numbered
+
+  broken_is : (not allowed || twice) ≡ (not (may_declare f.scope item.name d) || is_twice f item)
+  broken_is = ap (λ b. not b || twice) (may ∙ ap (λ m. may_declare f.scope m d) named) ∙ ap (λ b. not (may_declare f.scope item.name d) || b) again
+
+  abbrev rest : Starts → Outcome File
+  rest i = breaks (not (may_declare f.scope item.name d) || is_twice f item) Redeclared item.at (declared_as f behind d item i)
+
+  started : (o : Outcome Starts) → starts s item.initial ≡ o → item_as f d item ≡ (o >>= rest)
+  started o h = ap (λ t. starts t item.initial >>= rest) (sym behind_is) ∙ ap (λ x. x >>= rest) h
+
+  pub starts_refused : (refusal : Refusal) → Refuses (starts s item.initial) refusal → Refuses (item_as f d item) refusal
+  starts_refused (refusals.Broken rule at) h = started (Broken rule at) h
+  starts_refused refusals.NoMemory h = tt {0}
+
+  module _ (i : Starts) (typed : starts s item.initial ≡ Is i) where
+    pub redeclared_refused : (refusal : Refusal) → (not allowed || twice) ≡ true → refusal ≡ refusals.Broken Redeclared item.at → Refuses (item_as f d item) refusal
+    redeclared_refused refusal is_broken refuses =
+        subst (Refuses (item_as f d item)) (sym refuses) (started (Is i) typed ∙ ap (λ b. breaks b Redeclared item.at (declared_as f behind d item i)) (sym broken_is ∙ is_broken))
+
+    -- one that breaks no rule so far
+    pub declared_item : (not allowed || twice) ≡ false → item_as f d item ≡ declared_as f s d item i
+    declared_item kept =
+        started (Is i) typed ∙ ap (λ b. breaks b Redeclared item.at (declared_as f behind d item i)) (sym broken_is ∙ kept)
+        ∙ ap (λ t. declared_as f t d item i) (sym behind_is)
+
+    pub declared_refused : (refusal : Refusal) → (not allowed || twice) ≡ false → Refuses (declared_as f s d item i) refusal → Refuses (item_as f d item) refusal
+    declared_refused refusal kept h = subst (λ o. Refuses o refusal) (sym (declared_item kept)) h
+
+module _ (allowed twice : Bool) where
+  pub not_allowed : allowed ≡ false → (not allowed || twice) ≡ true
+  not_allowed h = ap (λ b. not b || twice) h
+
+  pub allowed_twice : allowed ≡ true → twice ≡ true → (not allowed || twice) ≡ true
+  allowed_twice h t = ap (λ b. not b || twice) h ∙ t
+
+  pub allowed_once : allowed ≡ true → twice ≡ false → (not allowed || twice) ≡ false
+  allowed_once h t = ap (λ b. not b || twice) h ∙ t
+
+pub initial_given : (i : Option Init) (given : Bool) → given ≡ is_some i → is_some (initial_of i) ≡ given
+initial_given None given h = sym h
+initial_given (Some (init.One e)) given h = sym h
+initial_given (Some (init.Braced values at)) given h = sym h
+
+pub breaks_mismatch : (b : Bool) (at : ℕ) (next : Outcome File) (refusal : Refusal) → b ≡ true → refusal ≡ refusals.Broken Mismatch at → Refuses (breaks b Mismatch at next) refusal
+breaks_mismatch b at next refusal is_broken is = subst (Refuses (breaks b Mismatch at next)) (sym is) (ap (λ x. breaks x Mismatch at next) is_broken)
+
+-- what is refused is refused with all that stands behind it
+pub refused_first : {A B : Type 0} (o : Outcome A) (next : A → Outcome B) (refusal : Refusal) → Refuses o refusal → Refuses (o >>= next) refusal
+refused_first o next (refusals.Broken rule at) h = ap (λ x. x >>= next) h
+refused_first o next refusals.NoMemory h = tt {0}
+
+-- an object among those of file scope gets its list, or keeps what it had
+list_given : (xs : List StaticTree) (n : ℕ) (x y : StaticTree) (list : Option (List Initial)) → slice_get xs n ≡ Some x → y ≡ with_list x list → slice_set xs n y ≡ set_list xs n (slice_get xs n) list
+list_given xs n x y list there is = ap (slice_set xs n) is ∙ ap (λ o. set_list xs n o list) (sym there)
+
+module _ (items : List memory.Static) (n : ℕ) (number : Option ℕ) (numbered : number ≡ Some n) (below : n < length items) (x : memory.Static) (is : x ≡ get_or items n x) (type : ObjectType) (list : Option (List Initial)) where
+  static_set : (y : memory.Static) → static_tree_of y ≡ with_list (static_tree_of x) list → map static_tree_of (set items n y) ≡ with_static (map static_tree_of items) number type list
+  static_set y given =
+      map-set static_tree_of items n y
+      ∙ list_given (map static_tree_of items) n (static_tree_of x) (static_tree_of y) list (slice_get-map static_tree_of items n ∙ ap (option_map static_tree_of) (slice_get_read items (length items) n x refl below is)) given
+      ∙ ap (λ m. with_static (map static_tree_of items) m type list) (sym numbered)
+
+  with_some : (l : Option (List Initial)) → is_some l ≡ true → static_tree_of (record { name = x.name; object_type = x.object_type; initial = l }) ≡ with_list (static_tree_of x) l
+  with_some None h = absurd (true≢false (sym h))
+  with_some (Some values) h = refl
+
+  with_none : (l : Option (List Initial)) → is_some l ≡ false → static_tree_of x ≡ with_list (static_tree_of x) l
+  with_none None h = refl
+  with_none (Some values) h = absurd (true≢false h)
+
+  pub list_set : is_some list ≡ true → map static_tree_of (set items n (record { name = x.name; object_type = x.object_type; initial = list })) ≡ with_static (map static_tree_of items) number type list
+  list_set h = static_set (record { name = x.name; object_type = x.object_type; initial = list }) (with_some list h)
+
+  pub list_kept : is_some list ≡ false → map static_tree_of (set items n x) ≡ with_static (map static_tree_of items) number type list
+  list_kept h = static_set x (with_none list h)
+
+-- a function with its body
+module _ (file : File) (known : List VarRef) (f : FunctionSyntax) (result : Kind) (kinds : List ScalarType) where
+  abbrev then_pushed : Typed Stmt → Outcome File
+  then_pushed r = Is (with_function file f.name result kinds r)
+
+  pub body_typed : (s : Scope) (locals : List LocalTree) (r : Typed Stmt) (g : File) → s ≡ with_parameters (open_scope file.scope) known 0 f.parameters.list kinds → locals ≡ parameter_locals kinds → typed_body known result s locals f.declarations f.statements ≡ Is r → g ≡ with_function file f.name result kinds r → with_body file known f result kinds ≡ Is g
+  body_typed s locals r g s_is locals_are typed g_is =
+      ap (λ t. typed_body known result t (parameter_locals kinds) f.declarations f.statements >>= then_pushed) (sym s_is)
+      ∙ ap (λ l. typed_body known result s l f.declarations f.statements >>= then_pushed) (sym locals_are)
+      ∙ ap (λ o. o >>= then_pushed) typed
+      ∙ ap Is (sym g_is)
+
+-- an external among those that may be functions with bodies
+module _ (list : List External) (i : ℕ) (x : External) (is : x ≡ get_or list i x) (below : i < length list) where
+  bodies_from : (names : List (List ℕ)) → bodies_behind names (unit_of (drop i list)) ≡ bodies_behind names (external_of x ∷ unit_of (drop (i + 1) list))
+  bodies_from names = ap (λ l. bodies_behind names (unit_of l)) (first_of list i x is below)
+
+  pub declaration_passed : (d : Decl) (names : List (List ℕ)) → x ≡ externals_of.Declaration d → bodies_behind names (unit_of (drop i list)) ≡ bodies_behind names (unit_of (drop (i + 1) list))
+  declaration_passed d names declared = bodies_from names ∙ ap (λ y. bodies_behind names (external_of y ∷ unit_of (drop (i + 1) list))) declared
+
+  pub function_passed : (f : FunctionDef) (name : Bor (List ℕ)) (keys more : List (Bor (List ℕ))) → x ≡ externals_of.Function f → name.now ≡ f.name → more ≡ insert_key (λ a b. bytes_eq a.now b.now) keys name → bodies_behind (names_of keys) (unit_of (drop i list)) ≡ bodies_behind (names_of more) (unit_of (drop (i + 1) list))
+  function_passed f name keys more defined named put =
+      bodies_from (names_of keys)
+      ∙ ap (λ y. bodies_behind (names_of keys) (external_of y ∷ unit_of (drop (i + 1) list))) defined
+      ∙ ap (λ n. bodies_behind (if is_among n (names_of keys) then names_of keys else names_of keys ++ n ∷ []) (unit_of (drop (i + 1) list))) (sym named)
+      ∙ ap (λ ns. bodies_behind ns (unit_of (drop (i + 1) list))) (sym (ap names_of put ∙ names_inserted name keys))
+
+-- the functions with one more
+pub function_pushed : (file : File) (s : Scope) (before after : List functions.TypedFunction) (t : functions.TypedFunction) (name : List ℕ) (result : Kind) (kinds : List ScalarType) (r : Typed Stmt) → s ≡ file.scope → file.functions ≡ map typed_function_of before → after ≡ before ++ t ∷ [] → typed_function_of t ≡ record { name = name; result = result; parameters = length kinds; locals = r.locals; body = r.tree } → record { scope = s; statics = file.statics; functions = map typed_function_of after } ≡ with_function file name result kinds r
+function_pushed file s before after t name result kinds r s_is before_is put t_is =
+    let one_more : map typed_function_of after ≡ file.functions ++ record { name = name; result = result; parameters = length kinds; locals = r.locals; body = r.tree } ∷ [] =
+    ap (map typed_function_of) put ∙ map-append typed_function_of before (t ∷ []) ∙ ap (λ x. map typed_function_of before ++ x ∷ []) t_is
+    ∙ ap (λ l. l ++ record { name = name; result = result; parameters = length kinds; locals = r.locals; body = r.tree } ∷ []) (sym before_is) in
+    λ i. record { scope = s_is i; statics = file.statics; functions = one_more i }

@@ -1,0 +1,7 @@
+use Rattle.std.proofs.Common.{◌≡◌, map, take}
+use Rattle.c_types.specs.Units.{parameter_locals}
+use Rattle.c_types.specs.View.{local_tree_of}
+use Rattle.c_types.proofs.units.parameter_locals.Given as goal
+
+abbrev pub invariant-loop-n : goal.invariant-loop-n
+invariant-loop-n l = map local_tree_of l.locals.items ≡ parameter_locals (take l.n l.kinds)

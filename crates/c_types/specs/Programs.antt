@@ -1,0 +1,119 @@
+-- The typed program of a source (docs/LANGUAGE.md, "Types").
+use Rattle.std.specs.Prelude.{◌≡◌, ◌<◌, ◌≤◌, ℕ, suc, ◌+◌, ◌==◌, ◌&&◌, ◌||◌, not, nat_lt, Bool, true, false, if◌then◌else◌, List, [], ◌∷◌, ◌++◌, map, take, length, codes, slice_get, is_some, is_none, unwrap_or, Option, Some, None}
+use Rattle.std.specs.Str.{bytes_eq}
+use Rattle.c_tree.specs.declared.program.ScalarType.{ScalarType}
+use Rattle.c_tree.specs.declared.program.VarRef.{VarRef}
+use Rattle.c_tree.specs.declared.program.VarRef.TheVariants as refs
+use Rattle.c_tree.specs.declared.program.Initial.{Initial}
+use Rattle.c_tree.specs.SyntaxTree.{UnitTree}
+use Rattle.c_tree.specs.TypedTree as tree
+use Rattle.c_tree.specs.TypedTree.{Kind, Stmt, Stmts, Choices, ObjectTree, FunctionTree, ProgramTree}
+use Rattle.c_types.specs.declared.uses.Use.{Use}
+use Rattle.c_types.specs.declared.uses.Use.TheVariants.{Address, Call, Cases}
+use Rattle.c_types.specs.declared.meaning.ObjectType.{ObjectType}
+use Rattle.c_types.specs.declared.meaning.ObjectType.TheVariants.{Single, Array}
+use Rattle.c_types.specs.Outcome.{Outcome, Is, Broken, ◌>>=◌}
+use Rattle.c_types.specs.Kinds.{int, same_kind}
+use Rattle.c_types.specs.Statements.{LocalTree}
+use Rattle.c_types.specs.Uses.{statement_uses}
+use Rattle.c_types.specs.Temporaries.{statement_temporaries}
+use Rattle.c_types.specs.Units.{StaticTree, TypedFunction, File, typed_unit}
+
+-- frame scalars: the parameters and objects of one cell whose address isn't taken. Each object is numbered among its own kind, in
+-- order of declaration.
+abbrev pub names_local : VarRef → ℕ → Bool
+names_local (refs.Local m) n = m == n
+names_local (refs.Scalar m) n = false
+names_local (refs.Static m) n = false
+
+abbrev pub is_address : Use → ℕ → Bool
+is_address (Address r) n = names_local r n
+is_address (Call f at) n = false
+is_address (Cases m) n = false
+
+abbrev pub is_pointed : List Use → ℕ → Bool
+is_pointed [] n = false
+is_pointed (u ∷ us) n = is_address u n || is_pointed us n
+
+abbrev pub is_single : ObjectType → Bool
+is_single (Single kind) = true
+is_single (Array kind n) = false
+
+abbrev pub numbered : List Use → ℕ → ℕ → ℕ → List LocalTree → List VarRef
+numbered us n scalars objects [] = []
+numbered us n scalars objects (l ∷ ls) =
+    if is_single l.object_type && not (is_pointed us n)
+    then refs.Scalar scalars ∷ numbered us (suc n) (suc scalars) objects ls
+    else refs.Local objects ∷ numbered us (suc n) scalars (suc objects) ls
+
+abbrev pub frame : TypedFunction → List VarRef
+frame f = numbered (statement_uses f.body) 0 0 0 f.locals
+
+-- the types of the frame scalars, and the other objects
+abbrev pub cell_kind : ObjectType → ScalarType
+cell_kind (Single kind) = kind
+cell_kind (Array kind n) = kind
+
+abbrev pub cell_count : ObjectType → ℕ
+cell_count (Single kind) = 1
+cell_count (Array kind n) = n
+
+abbrev pub scalars_in : List VarRef → List LocalTree → List ScalarType
+scalars_in (refs.Scalar n ∷ rs) (l ∷ ls) = cell_kind l.object_type ∷ scalars_in rs ls
+scalars_in (refs.Local n ∷ rs) (l ∷ ls) = scalars_in rs ls
+scalars_in (refs.Static n ∷ rs) (l ∷ ls) = scalars_in rs ls
+scalars_in rs ls = []
+
+abbrev pub local_object : LocalTree → ObjectTree
+local_object l = record { length = cell_count l.object_type; kind = cell_kind l.object_type; initial = l.values }
+
+abbrev pub objects_in : List VarRef → List LocalTree → List ObjectTree
+objects_in (refs.Scalar n ∷ rs) (l ∷ ls) = objects_in rs ls
+objects_in (refs.Local n ∷ rs) (l ∷ ls) = local_object l ∷ objects_in rs ls
+objects_in (refs.Static n ∷ rs) (l ∷ ls) = objects_in rs ls
+objects_in rs ls = []
+
+abbrev pub function_tree : List VarRef → TypedFunction → FunctionTree
+function_tree known f = record {
+  name = f.name;
+  result = f.result;
+  params = take f.parameters known;
+  scalars = scalars_in known f.locals;
+  locals = objects_in known f.locals;
+  body = f.body;
+}
+
+abbrev pub function_trees : List (List VarRef) → List TypedFunction → List FunctionTree
+function_trees (known ∷ rest) (f ∷ fs) = function_tree known f ∷ function_trees rest fs
+function_trees known fs = []
+
+abbrev pub static_object : StaticTree → ObjectTree
+static_object s = record { length = cell_count s.object_type; kind = cell_kind s.object_type; initial = unwrap_or s.initial [] }
+
+abbrev pub program_tree : List (List VarRef) → File → ProgramTree
+program_tree known file = record { statics = map static_object file.statics; functions = function_trees known file.functions }
+
+abbrev pub frames : File → List (List VarRef)
+frames file = map frame file.functions
+
+-- `int main(void)` is defined
+abbrev pub is_main : TypedFunction → Bool
+is_main f = bytes_eq f.name (codes "main") && (same_kind f.result (Some int) && f.parameters == 0)
+
+abbrev pub has_main : List TypedFunction → Bool
+has_main [] = false
+has_main (f ∷ fs) = is_main f || has_main fs
+
+-- a function calls another
+pub data Calls : List TypedFunction → ℕ → ℕ → Type 0 where
+  Calling : (fs : List TypedFunction) (n m : ℕ) (f : TypedFunction) (at : ℕ) (before behind : List Use) → slice_get fs n ≡ Some f
+      → statement_uses f.body ≡ before ++ Call m at ∷ behind → Calls fs n m
+
+-- each function that is called has a body
+abbrev pub HasBodies : List TypedFunction → Type 0
+HasBodies fs = (n m : ℕ) → Calls fs n m → m < length fs
+
+-- no function reaches itself by calls: one can stand behind all that it calls
+pub record HasNoCycle (fs : List TypedFunction) : Type 0 where
+  pub rank : ℕ → ℕ
+  pub falls : (n m : ℕ) → Calls fs n m → rank m < rank n

@@ -1,0 +1,195 @@
+//! The declarations of blocks: ISO 9899:1990 6.5.4 and 6.6.2. The objects of a function are numbered in order of declaration.
+ghost use Rattle.std.specs.Prelude.{◌≡◌, IfOk, IfErr, OnOk, map, length, is_some};
+ghost use Rattle.c_tree.specs.SyntaxView.{item_of, declaration_of};
+ghost use Rattle.c_types.specs.declared.fault.Refusal.TheVariants as refusals;
+ghost use Rattle.c_types.specs.declared.fault.Rule.TheVariants as rule;
+ghost use Rattle.c_types.specs.Answers.{Refuses};
+ghost use Rattle.c_types.specs.Declarations as names;
+ghost use Rattle.c_types.specs.Outcome.{Is, Broken, breaks};
+ghost use Rattle.c_types.specs.Statements as rules;
+ghost use Rattle.c_types.specs.Tables.{scope_of, around_of};
+ghost use Rattle.c_types.specs.View.{start_of, initialiser_of, opened_of};
+
+use crate::declarations::{Declared, redeclared};
+use crate::fault::{Refusal, Rule, mismatch};
+use crate::initialisers::{Initialiser, Start, started};
+use crate::local::Local;
+use crate::meaning::{Meaning, ObjectType};
+use crate::scopes::Scopes;
+use crate::type_words::plain;
+use c_tree::{Base, Decl, Item, ScalarType, TypedStmt, VarRef};
+use word_base::Text;
+
+/// The body of a function, as far as it is typed.
+#[derive(Drop)]
+pub(crate) struct Body<'a> {
+    pub(crate) scopes: Scopes<'a>,
+    /// What the objects of the function stand for in the end, where that is known.
+    pub(crate) known: &'a [VarRef],
+    pub(crate) locals: Vec<Local>,
+    /// The type of the function's value, or `None` where it is void.
+    pub(crate) result: Option<ScalarType>,
+}
+
+/// The beginning of a block: what it declares, and the statements that give first values.
+#[derive(Drop)]
+pub(crate) struct Opening {
+    pub(crate) declared: Vec<VarRef>,
+    pub(crate) statements: Vec<TypedStmt>,
+}
+
+/// What an object of this number stands for: a local object where it isn't known yet.
+pub(crate) fn reference_in(known: &[VarRef], number: u32) -> VarRef
+    ensures { result ≡ names.reference known.now number }
+{
+    match known.get(number as usize) {
+        Some(reference) => *reference,
+        None => VarRef::Local(number),
+    }
+}
+
+// A function can't be declared in a block, and has no initialiser anywhere.
+fn function_in_block(item: &Item) -> Refusal
+    ensures { Refuses {A = rules.Opened} (breaks (is_some item.now.init) rule.Mismatch item.now.at (Broken rule.Misplaced item.now.at)) result }
+{
+    if item.init.is_some() {
+        return mismatch(item.at);
+    }
+    Refusal::Broken {
+        rule: Rule::Misplaced,
+        at: item.at,
+    }
+}
+
+impl<'a> Scopes<'a> {
+    // Declares an object, whose own initialiser sees it. What can't be declared isn't seen.
+    fn declare_object(
+        &mut self,
+        name: &'a str,
+        reference: VarRef,
+        declared: &Declared,
+    ) -> Result<(), Refusal>
+        ensures declared { OnOk result (scope_of self.new ≡ rules.with_object (scope_of self.old) name.now reference declared.now) }
+        ensures around { around_of self.new ≡ around_of self.old }
+        ensures bodies { self.new.bodies ≡ self.old.bodies }
+        ensures memory { IfErr result (λ f. f ≡ refusals.NoMemory) }
+    {
+        match declared {
+            Declared::Object(object_type) if !self.is_taken(name) => self.declare(
+                name,
+                Meaning::Object {
+                    reference,
+                    object_type: *object_type,
+                },
+            ),
+            _ => Ok(()),
+        }
+    }
+}
+
+impl<'a> Body<'a> {
+    /// An item of a block.
+    pub(crate) fn item(
+        &mut self,
+        opening: Opening,
+        base: Base,
+        item: &'a Item,
+    ) -> Result<Opening, Refusal>
+        ensures typed { IfOk result (λ o. rules.block_item self.old.known.now (opened_of self.old opening) base (item_of item.now) ≡ Is (opened_of self.new o)) }
+        ensures refused { IfErr result (Refuses (rules.block_item self.old.known.now (opened_of self.old opening) base (item_of item.now))) }
+        ensures around { OnOk result (around_of self.new.scopes ≡ around_of self.old.scopes) }
+        ensures bodies { self.new.scopes.bodies ≡ self.old.scopes.bodies }
+        ensures known { self.new.known ≡ self.old.known }
+        ensures returned { self.new.result ≡ self.old.result }
+    {
+        // No source that the parser gives has more objects than can be counted.
+        let Ok(number) = u32::try_from(self.locals.len()) else {
+            return Err(Refusal::NoMemory);
+        };
+        let reference = reference_in(self.known, number);
+        let name = item.name.as_str();
+        let declared = self.scopes.declarator(base, item)?;
+        let is_taken = self.scopes.is_taken(name);
+        self.scopes.declare_object(name, reference, &declared)?;
+        let initialiser = self.scopes.initialiser(&item.kind, &item.init)?;
+        if is_taken {
+            return Err(redeclared(item.at));
+        }
+        match declared {
+            Declared::Untyped => Err(mismatch(item.at)),
+            Declared::Function(_) => Err(function_in_block(item)),
+            Declared::Object(object_type) => {
+                self.object(opening, item, reference, object_type, initialiser)
+            }
+        }
+    }
+
+    // An object that is declared, with its start.
+    fn object(
+        &mut self,
+        mut opening: Opening,
+        item: &Item,
+        reference: VarRef,
+        object_type: ObjectType,
+        initialiser: Initialiser,
+    ) -> Result<Opening, Refusal>
+        ensures typed { IfOk result (λ o. rules.declared_as (opened_of self.old opening) (scope_of self.old.scopes) reference (Declared.Object object_type) (item_of item.now) (initialiser_of initialiser) ≡ Is (opened_of self.new o)) }
+        ensures refused { IfErr result (Refuses (rules.declared_as (opened_of self.old opening) (scope_of self.old.scopes) reference (Declared.Object object_type) (item_of item.now) (initialiser_of initialiser))) }
+        ensures scopes { self.new.scopes ≡ self.old.scopes }
+        ensures known { self.new.known ≡ self.old.known }
+        ensures returned { self.new.result ≡ self.old.result }
+    {
+        let alloc = self.scopes.alloc;
+        let start = started(alloc, reference, object_type, item.at, initialiser)?;
+        self.locals.push(Local {
+            name: Text::copy_of(alloc, item.name.as_str())?,
+            object_type,
+            values: start.values,
+        })?;
+        opening.declared.push(reference)?;
+        if let Some(statement) = start.statement {
+            opening.statements.push(statement)?;
+        }
+        Ok(opening)
+    }
+
+    /// The items of a declaration of this base, in order.
+    pub(crate) fn items(
+        &mut self,
+        mut opening: Opening,
+        base: Base,
+        list: &'a [Item],
+    ) -> Result<Opening, Refusal>
+        ensures typed { IfOk result (λ o. rules.block_items self.old.known.now (opened_of self.old opening) base (map item_of list.now) ≡ Is (opened_of self.new o)) }
+        ensures refused { IfErr result (Refuses (rules.block_items self.old.known.now (opened_of self.old opening) base (map item_of list.now))) }
+        ensures around { OnOk result (around_of self.new.scopes ≡ around_of self.old.scopes) }
+        ensures bodies { self.new.scopes.bodies ≡ self.old.scopes.bodies }
+        ensures known { self.new.known ≡ self.old.known }
+        ensures returned { self.new.result ≡ self.old.result }
+    {
+        for item in list {
+            opening = self.item(opening, base, item)?;
+        }
+        Ok(opening)
+    }
+
+    /// The declarations of a block, in order.
+    pub(crate) fn declarations(
+        &mut self,
+        mut opening: Opening,
+        list: &'a [Decl],
+    ) -> Result<Opening, Refusal>
+        ensures typed { IfOk result (λ o. rules.declarations self.old.known.now (opened_of self.old opening) (map declaration_of list.now) ≡ Is (opened_of self.new o)) }
+        ensures refused { IfErr result (Refuses (rules.declarations self.old.known.now (opened_of self.old opening) (map declaration_of list.now))) }
+        ensures around { OnOk result (around_of self.new.scopes ≡ around_of self.old.scopes) }
+        ensures bodies { self.new.scopes.bodies ≡ self.old.scopes.bodies }
+        ensures known { self.new.known ≡ self.old.known }
+        ensures returned { self.new.result ≡ self.old.result }
+    {
+        for declaration in list {
+            let base = plain(&declaration.specs)?;
+            opening = self.items(opening, base, declaration.items.as_slice())?;
+        }
+        Ok(opening)
+    }
+}

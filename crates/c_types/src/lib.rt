@@ -1,0 +1,33 @@
+//! The types of a C source: from its tree to the typed program (docs/LANGUAGE.md, "Types").
+#![tactic(auto)]
+
+mod arguments;
+mod blocks;
+mod calls;
+mod constants;
+mod conversions;
+mod declarations;
+mod expressions;
+mod fault;
+mod frames;
+mod functions;
+mod initialisers;
+mod kinds;
+mod labels;
+mod local;
+mod meaning;
+mod names;
+mod operands;
+mod program;
+mod recursion;
+mod scopes;
+mod statements;
+mod temporaries;
+mod type_words;
+mod units;
+mod uses;
+mod words;
+mod writes;
+
+pub use fault::{LimitName, TypeFault};
+pub use program::check;

@@ -1,0 +1,31 @@
+//! What names stand for.
+use c_tree::{ScalarType, VarRef};
+use word_base::Items;
+
+/// The type of an object.
+#[derive(Clone, Copy, Debug, PartialEq, Eq)]
+pub(crate) enum ObjectType {
+    /// One cell.
+    Single(ScalarType),
+    /// An array of so many cells, 1 to 32,767.
+    Array { kind: ScalarType, length: u16 },
+}
+
+/// The type of a function.
+#[derive(Debug, Drop)]
+pub(crate) struct FunctionType {
+    /// The type of its value, or `None` for void.
+    pub(crate) result: Option<ScalarType>,
+    /// The types of its parameters.
+    pub(crate) parameters: Items<ScalarType>,
+}
+
+/// What a name stands for.
+#[derive(Debug, Drop)]
+pub(crate) enum Meaning {
+    Object {
+        reference: VarRef,
+        object_type: ObjectType,
+    },
+    Function(FunctionType),
+}
