@@ -62,13 +62,87 @@ wants 1 'source refused: syntax at byte 608' build nested.c b.img
 nested 195 '1?(' '):1'
 wants 1 'source refused: not yet' build nested.c b.img
 nested 195 'f(' ')'
-wants 1 'source refused: not yet' build nested.c b.img
+wants 1 'source refused: undeclared at byte 410' build nested.c b.img
 nested 195 '((int)' ')'
 wants 1 'source refused: not yet' build nested.c b.img
 nested 99000 '(' ')'
 wants 1 'source refused: not yet' build nested.c b.img
 awk 'BEGIN { printf "int main(void){"; for (i = 0; i < 197; i++) printf "{"; for (i = 0; i < 198; i++) printf "}" }' > nested.c
 wants 1 'source refused: not yet' build nested.c b.img
+
+# The sources of types.txt, each with its fault. A source lies in N.c, and in N.wants is its line, or nothing where it has no fault.
+program=$top/crates/c25cc/out/c25cc
+mkdir sources
+sources=$(LC_ALL=C awk '
+    /^#/ || !/ [|] / { next }
+    {
+        kind = substr($0, 1, index($0, " | ") - 1)
+        source = substr($0, index($0, " | ") + 3)
+        if (kind !~ /^missing main/ && source !~ /main\(/) source = source " int main(void){return 0;}"
+        place = index(source, "§")
+        if (place) {
+            source = substr(source, 1, place - 1) substr(source, place + length("§"))
+            kind = kind " at byte " (place - 1)
+        }
+        sub(/^missing main at 0$/, "missing main at byte 0", kind)
+        count++
+        printf "%s", source > ("sources/" count ".c")
+        print (kind == "ok" ? "" : "source refused: " kind) > ("sources/" count ".wants")
+        close("sources/" count ".c")
+        close("sources/" count ".wants")
+    }
+    END { print count + 0 }' "$top/tests/types.txt")
+[ "$sources" -ge 460 ] || fail "types.txt has $sources sources"
+# answers_types LINE SOURCE: builds a source without a fault, where LINE is empty, or one with this line.
+answers_types() {
+    local line=$1 got status
+    got=$("$program" build "$2" made.img)
+    status=$?
+    case $line:$status:$got in
+        ":0:" | ":1:source refused: not yet") ;;
+        ":"*) fail "$2 gave: $status $got" ;;
+        *) [ "$status $got" = "1 $line" ] || fail "$2 gave '$status $got', and wanted '$line': $(head -c 200 "$2")" ;;
+    esac
+}
+for source in $(seq 1 "$sources"); do
+    read -r line < "sources/$source.wants"
+    answers_types "$line" "sources/$source.c"
+done
+
+# Limits: the greatest number that is taken, and one more.
+# repeated COUNT BETWEEN FORMAT: the format with the numbers from 1 to COUNT.
+repeated() { awk -v n="$1" -v between="$2" -v form="$3" 'BEGIN { for (i = 1; i <= n; i++) printf "%s" form, (i > 1 ? between : ""), i }'; }
+functions() { echo "$(repeated "$(($1 - 1))" '' 'void f%d(void){}') int main(void){return 0;}" > limit.c; }
+parameters() { echo "int f($(repeated "$1" ', ' 'int p%d')){return 0;} int main(void){return 0;}" > limit.c; }
+scalars() { echo "int main(void){$(repeated "$1" '' 'int s%d;')return 0;}" > limit.c; }
+scalars_and_temporary() { echo "int g(int a){return a;} int main(void){$(repeated "$1" '' 'int s%d = 1;')return s1 + g(s2);}" > limit.c; }
+cases() { echo "int main(void){switch (1) {$(repeated "$1" '' 'case %d:')} return 0;}" > limit.c; }
+for limit in 'functions 256 functions' 'parameters 31 parameters' 'scalars 64 scalars' 'scalars_and_temporary 63 scalars' 'cases 256 cases'; do
+    read -r make most name <<< "$limit"
+    $make "$most"
+    answers_types '' limit.c
+    $make $((most + 1))
+    [ "$name" = scalars ] && most=64
+    answers_types "source refused: limit $name $((most + 1))" limit.c
+done
+
+# Large sources: names in one scope, and functions that call one another in a chain or in a circle.
+quickly() {
+    local started took
+    started=$(date +%s%N)
+    answers_types "$1" "$2"
+    took=$((($(date +%s%N) - started) / 1000000))
+    [ "$took" -lt 2000 ] || fail "$2 took $took ms"
+}
+echo "int main(void){int $(repeated 99990 ',' 'n%d');return 0;}" > names.c
+quickly 'source refused: limit scalars 99990' names.c
+echo "int $(repeated 99990 ',' 'n%d');int main(void){return n99990;}" > statics.c
+quickly '' statics.c
+echo "int f0(void){return 0;}$(awk 'BEGIN { for (i = 1; i < 255; i++) printf "int f%d(void){return f%d();}", i, i - 1 }')int main(void){return f254();}" > chain.c
+quickly '' chain.c
+echo "int f255(void);int f0(void){return f255();}$(awk 'BEGIN { for (i = 1; i < 256; i++) printf "int f%d(void){return f%d();}", i, i - 1 }')int main(void){return f254();}" > circle.c
+quickly "source refused: recursion f0 $(awk 'BEGIN { for (i = 255; i > 0; i--) printf "f%d ", i }')f0" circle.c
+
 head -c 1048576 /dev/zero | tr '\0' ' ' > long.c
 wants 1 'source refused: syntax at byte 0' build long.c b.img
 printf ' ' >> long.c

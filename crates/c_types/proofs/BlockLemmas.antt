@@ -23,12 +23,12 @@ initial_given (Some (init.One e)) = refl
 initial_given (Some (init.Braced values at)) = refl
 
 -- a function among the items of a block
-pub function_refused : (known : List VarRef) (o : Opened) (b : Base) (item : Item) (s t : Scope) (r : VarRef) (name : List ℕ) (d : Declared) (type : FunctionType) (i : Initialiser) (f : Refusal) → declarator o.scope b (item_form_of item.kind) item.stars (initial_of item.init) ≡ Is d → d ≡ declares.Function type → s ≡ o.scope → t ≡ with_object s name r d → initialiser t (is_array (item_form_of item.kind)) (initial_of item.init) ≡ Is i → name ≡ item.name → is_taken s name ≡ false → Refuses {A = Opened} (breaks (is_some item.init) Mismatch item.at (Broken Misplaced item.at)) f → Refuses (block_item known o b (item_of item)) f
-function_refused known o b item s t r name d type i f declared function same seen typed named untaken h =
+pub function_refused : (o : Opened) (b : Base) (item : Item) (s t : Scope) (r : VarRef) (name : List ℕ) (d : Declared) (type : FunctionType) (i : Initialiser) (f : Refusal) → declarator o.scope b (item_form_of item.kind) item.stars (initial_of item.init) ≡ Is d → d ≡ declares.Function type → s ≡ o.scope → t ≡ with_object s name r d → initialiser t (is_array (item_form_of item.kind)) (initial_of item.init) ≡ Is i → name ≡ item.name → is_taken s name ≡ false → Refuses {A = Opened} (breaks (is_some item.init) Mismatch item.at (Broken Misplaced item.at)) f → Refuses (block_item o b (item_of item)) f
+function_refused o b item s t r name d type i f declared function same seen typed named untaken h =
     let here : t ≡ o.scope = seen ∙ ap (with_object s name r) function ∙ same in
     let typed_here : initialiser o.scope (is_array (item_form_of item.kind)) (initial_of item.init) ≡ Is i = ap (λ u. initialiser u (is_array (item_form_of item.kind)) (initial_of item.init)) (sym here) ∙ typed in
     let untaken_here : is_taken o.scope item.name ≡ false = ap (λ u. is_taken u item.name) (sym same) ∙ ap (is_taken s) (sym named) ∙ untaken in
     let declared_here : declarator o.scope b (item_form_of item.kind) item.stars (initial_of item.init) ≡ Is (declares.Function type) = declared ∙ ap Is function in
     let P : Outcome Opened → Type 0 = λ x. Refuses x f in
-    let whole : breaks (is_some item.init) Mismatch item.at (Broken Misplaced item.at) ≡ block_item known o b (item_of item) = rw (declared_here, typed_here, untaken_here, initial_given item.init) in
+    let whole : breaks (is_some item.init) Mismatch item.at (Broken Misplaced item.at) ≡ block_item o b (item_of item) = rw (declared_here, typed_here, untaken_here, initial_given item.init) in
     subst P whole h

@@ -1,5 +1,5 @@
 -- What the tests of calls mean.
-use Rattle.std.proofs.Common.{◌≡◌, ◌<◌, ◌&&◌, ◌++◌, ◌∷◌, [], ℕ, zero, suc, Bool, true, false, List, length, map, ap, ◌∙◌, sym, refl, subst, Some, nat_lt, slice_index, arith}
+use Rattle.std.proofs.Common.{◌≡◌, ◌<◌, ◌≤◌, ◌+◌, ◌&&◌, ◌++◌, ◌∷◌, [], ℕ, zero, suc, Bool, true, false, List, length, map, ap, ◌∙◌, sym, refl, subst, Some, nat_lt, slice_index, arith}
 use borrow.Author.Tests.{ltb-true}
 use Rattle.std.specs.Prelude.{slice_get}
 use Rattle.std.proofs.lemmas.List.{length-map}
@@ -8,6 +8,7 @@ use Rattle.c_types.specs.declared.uses.Use.TheVariants.{Call}
 use Rattle.c_types.specs.Uses.{statement_uses}
 use Rattle.c_types.specs.Units.{TypedFunction}
 use Rattle.c_types.specs.Programs.{Calls, Calling, HasBodies, HasNoCycle}
+use Rattle.c_types.specs.Rounds.{IsWay}
 use Rattle.c_types.specs.Calls.{Falls, call_below, calls_below, all_below}
 
 both_first : (a b : Bool) → (a && b) ≡ true → a ≡ true
@@ -56,7 +57,7 @@ falls_by {lent = lent} lists lending long all =
 abbrev pub uses_in : TypedFunction → List Use
 uses_in f = statement_uses f.body
 
-list_at : (fs : List TypedFunction) (n : ℕ) (f : TypedFunction) → slice_get fs n ≡ Some f → slice_get (map uses_in fs) n ≡ Some (uses_in f)
+pub list_at : (fs : List TypedFunction) (n : ℕ) (f : TypedFunction) → slice_get fs n ≡ Some f → slice_get (map uses_in fs) n ≡ Some (uses_in f)
 list_at [] n f there = absurd (cc there)
 list_at (g ∷ fs) zero f there = let same : g ≡ f = cc there in ap (λ h. Some (uses_in h)) same
 list_at (g ∷ fs) (suc n) f there = list_at fs n f there
@@ -66,8 +67,14 @@ falls_at : (fs : List TypedFunction) (ranks : List ℕ) → Falls ranks (map use
 falls_at _ ranks known _ _ (Calling fs n m f at before behind there called) =
     known.falls n m at before behind (list_at fs n f there ∙ ap Some called)
 
+-- numbers fall along a way
+falls_along : (fs : List TypedFunction) (ranks : List ℕ) → Falls ranks (map uses_in fs) → (n : ℕ) (ms : List ℕ) (z : ℕ) → IsWay (Calls fs) n ms z
+    → slice_index ranks z + length ms ≤ slice_index ranks n
+falls_along fs ranks known n [] z same = omega (arith, ap (slice_index ranks) same)
+falls_along fs ranks known n (m ∷ ms) z way = omega (arith, falls_at fs ranks known n m way.0, falls_along fs ranks known m ms z way.1)
+
 pub no_cycle : (fs : List TypedFunction) (ranks : List ℕ) → Falls ranks (map uses_in fs) → HasNoCycle fs
-no_cycle fs ranks known = record { rank = slice_index ranks; falls = falls_at fs ranks known }
+no_cycle fs ranks known n ms round = omega (arith, round.0, falls_along fs ranks known n ms n round.1)
 
 pub all_have_bodies : (fs : List TypedFunction) (ranks : List ℕ) → Falls ranks (map uses_in fs) → HasBodies fs
 all_have_bodies _ ranks known _ _ (Calling fs n m f at before behind there called) =

@@ -7,13 +7,12 @@ use Rattle.c_tree.specs.declared.typed_statement.Choice.{Choice}
 use Rattle.c_tree.specs.SyntaxTree as tree
 use Rattle.c_tree.specs.SyntaxTree.{Statement}
 use Rattle.c_tree.specs.SyntaxView.{part_before}
-use Rattle.c_tree.specs.TypedTree as typed
 use Rattle.c_tree.specs.TypedTree.{Choices, no_more}
 use Rattle.c_tree.specs.View.{choice_before, choice_list}
 use Rattle.c_types.specs.declared.blocks.Body.{Body}
 use Rattle.c_types.specs.declared.local.Enclosing.{Enclosing}
 use Rattle.c_types.specs.Bodies.{behind_choices, choices_in, joined, parts_of}
-use Rattle.c_types.specs.Outcome.{Outcome, Is, Broken, ◌>>=◌}
+use Rattle.c_types.specs.Outcome.{Outcome, Is, Broken}
 use Rattle.c_types.specs.Statements.{LocalTree, Labelled, Typed, just, typed_choices}
 use Rattle.c_types.specs.Tables.{scope_of, tables_of}
 use Rattle.c_types.specs.View.{locals_of}
@@ -24,7 +23,6 @@ pub record ChoicesSoFar (first now : Body) (c : Enclosing) (all rest : List Swit
   pub typed : choices_in first c (parts_of all) ≡ behind_choices so_far pointer (choices_in now c (parts_of rest))
   pub tables : tables_of now.scopes ≡ tables_of first.scopes
   pub bodies : now.scopes.bodies ≡ first.scopes.bodies
-  pub known : now.known ≡ first.known
   pub returned : now.result ≡ first.result
 
 -- none at first
@@ -55,9 +53,9 @@ one_more there p x q (Broken rule at) = refl
 pub from_here : (list : List SwitchPart) (i : ℕ) (s : SwitchPart) → s ≡ get_or list i s → i < length list → drop i list ≡ s ∷ drop (i + 1) list
 from_here list i s is within = drop_more list i s within ∙ ap (λ x. x ∷ drop (i + 1) list) (sym is)
 
-module _ (b n : Body) (tables : tables_of n.scopes ≡ tables_of b.scopes) (bodies : n.scopes.bodies ≡ b.scopes.bodies) (known : n.known ≡ b.known) (returned : n.result ≡ b.result) where
-  pub choices_kept : (c : Enclosing) (ls : List LocalTree) (cs : tree.Choices) → typed_choices n.known.now n.result (scope_of n.scopes) c ls cs ≡ typed_choices b.known.now b.result (scope_of b.scopes) c ls cs
-  choices_kept c ls cs = λ i. typed_choices (known i).now (returned i) (scope_kept n.scopes b.scopes tables bodies i) c ls cs
+module _ (b n : Body) (tables : tables_of n.scopes ≡ tables_of b.scopes) (bodies : n.scopes.bodies ≡ b.scopes.bodies) (returned : n.result ≡ b.result) where
+  pub choices_kept : (c : Enclosing) (ls : List LocalTree) (cs : tree.Choices) → typed_choices n.result (scope_of n.scopes) c ls cs ≡ typed_choices b.result (scope_of b.scopes) c ls cs
+  choices_kept c ls cs = λ i. typed_choices (returned i) (scope_kept n.scopes b.scopes tables bodies i) c ls cs
 
 -- one choice of a list
 pub turn : (b n : Body) (c : Enclosing) (list : List SwitchPart) (i : ℕ) (s : SwitchPart) (there : List Choice) (p : Bool) (x : Choice) (q : Bool) → s ≡ get_or list i s → i < length list

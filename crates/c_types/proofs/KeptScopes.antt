@@ -1,15 +1,9 @@
 -- What statements leave as it was: the scopes around them, and what is known of the function.
-use Rattle.std.proofs.Common.{◌≡◌, ℕ, List, [], ◌∷◌, is_some, Option, Some, None, refl, ap, ◌∙◌}
-use Rattle.c_tree.specs.SyntaxTree.{Statements}
-use Rattle.c_tree.specs.TypedTree.{Stmts}
-use Rattle.c_types.specs.declared.blocks.Body.{Body}
-use Rattle.c_types.specs.declared.local.Enclosing.{Enclosing}
+use Rattle.std.proofs.Common.{◌≡◌, ℕ, List, [], ◌∷◌, is_some, Option, None}
 use Rattle.c_types.specs.declared.meaning.Meaning.{Meaning}
 use Rattle.c_types.specs.declared.scopes.Scopes.{Scopes}
-use Rattle.c_types.specs.Outcome.{Outcome}
 use Rattle.c_types.specs.Scopes.{Scope}
-use Rattle.c_types.specs.Statements.{LocalTree, Typed, typed_statements}
-use Rattle.c_types.specs.Tables.{Table, in_table, in_tables, names_of, tables_of, around_of, closed, scope_of}
+use Rattle.c_types.specs.Tables.{Table, in_table, in_tables, names_of, tables_of, scope_of}
 
 -- the scope of a list of tables, the innermost one first
 abbrev in_first : List Table → List ℕ → Option Meaning

@@ -5,6 +5,7 @@ pub mod OperandsSoFar
 pub mod CallForms
 pub mod TypeWords
 pub mod OperandLists
+pub mod RenumberLemmas
 pub mod TemporariesLemmas
 pub mod FramesLemmas
 pub mod StorageLemmas
@@ -21,3 +22,15 @@ pub mod LabelLemmas
 pub mod SwitchLemmas
 pub mod UnitLemmas
 pub mod ProgramLemmas
+pub mod WholeLemmas
+pub mod OrderLemmas
+pub mod WayLemmas
+pub mod PlaceLemmas
+pub mod TrailLemmas
+pub mod LinkLemmas
+pub mod FollowLemmas
+pub mod SearchLemmas
+pub mod CalleeLemmas
+pub mod ChainLemmas
+pub mod ChainLaws
+pub mod LawLemmas

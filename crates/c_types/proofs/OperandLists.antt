@@ -12,7 +12,7 @@ use Rattle.c_types.specs.declared.operands.Operand.{Operand}
 use Rattle.c_types.specs.Outcome.{Outcome, Is, Broken, ◌>>=◌}
 use Rattle.c_types.specs.Kinds.{is_void, int}
 use Rattle.c_types.specs.Operands.{any_void, given, passed}
-use Rattle.c_types.specs.View.{operand_of}
+use Rattle.c_types.specs.OperandView.{operand_of}
 
 -- whether one of them is void
 pub any_void_of : (xs : List Operand) → list_any (λ x. is_void x.value.kind) xs ≡ any_void (map operand_of xs)

@@ -6,7 +6,7 @@ use Rattle.c_types.specs.declared.operands.Operand.{Operand}
 use Rattle.c_types.specs.Outcome.{Is, ◌>>=◌}
 use Rattle.c_types.specs.Scopes.{Scope}
 use Rattle.c_types.specs.Typing.{operands}
-use Rattle.c_types.specs.View.{operand_of}
+use Rattle.c_types.specs.OperandView.{operand_of}
 
 -- what was typed of a list, and what is left of it
 abbrev pub OperandsSoFar : Scope → List Expr → List Expr → List Operand → Type 0

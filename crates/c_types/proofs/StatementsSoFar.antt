@@ -29,7 +29,7 @@ use Rattle.c_types.specs.Answers.{Refuses}
 use Rattle.c_types.specs.Bodies.{behind, block_in, statement_in, statements_in}
 use Rattle.c_types.specs.Kinds.{is_void}
 use Rattle.c_types.specs.Outcome.{Outcome, Is, Broken, ◌>>=◌, breaks}
-use Rattle.c_types.specs.Statements.{LocalTree, Opened, Typed, just, before, opened_in, declarations, typed_statement, typed_statements}
+use Rattle.c_types.specs.Statements.{LocalTree, Opened, Typed, just, before, declarations, typed_statement, typed_statements}
 use Rattle.c_types.specs.Tables.{scope_of, tables_of}
 use Rattle.c_types.specs.Typing.{typing}
 use Rattle.c_types.specs.View.{locals_of, opened_of}
@@ -41,7 +41,6 @@ pub record StatementsSoFar (first now : Body) (c : Enclosing) (all rest : List S
   pub typed : behind there (statements_in first c (body_of all)) ≡ behind so_far (statements_in now c (body_of rest))
   pub tables : tables_of now.scopes ≡ tables_of first.scopes
   pub bodies : now.scopes.bodies ≡ first.scopes.bodies
-  pub known : now.known ≡ first.known
   pub returned : now.result ≡ first.result
 
 before_more : (there : List TypedStmt) (t : TypedStmt) (rest : Stmts) → before (map stmt_of there) (both (stmt_of t) rest) ≡ before (map stmt_of (there ++ t ∷ [])) rest
@@ -72,19 +71,19 @@ module _ (b n : Body) (tables : tables_of n.scopes ≡ tables_of b.scopes) (bodi
       (ap (λ o. o >>= λ q. typing (scope_of b.scopes) e >>= λ x. breaks (is_void (kind_of x)) Mismatch at (just (Do_while q.tree x) q.locals)) h
       ∙ (λ i. typing (sym (scope_kept n.scopes b.scopes tables bodies) i) e >>= λ x. breaks (is_void (kind_of x)) Mismatch at (just (Do_while p x) (locals_of n))))
 
-  module _ (known : n.known ≡ b.known) (returned : n.result ≡ b.result) where
-    statements_kept : (c : Enclosing) (ls : List LocalTree) (ss : Statements) → typed_statements n.known.now n.result (scope_of n.scopes) c ls ss ≡ typed_statements b.known.now b.result (scope_of b.scopes) c ls ss
-    statements_kept c ls ss = λ i. typed_statements (known i).now (returned i) (scope_kept n.scopes b.scopes tables bodies i) c ls ss
+  module _ (returned : n.result ≡ b.result) where
+    statements_kept : (c : Enclosing) (ls : List LocalTree) (ss : Statements) → typed_statements n.result (scope_of n.scopes) c ls ss ≡ typed_statements b.result (scope_of b.scopes) c ls ss
+    statements_kept c ls ss = λ i. typed_statements (returned i) (scope_kept n.scopes b.scopes tables bodies i) c ls ss
 
-    statement_kept : (c : Enclosing) (ls : List LocalTree) (s : Statement) → typed_statement n.known.now n.result (scope_of n.scopes) c ls s ≡ typed_statement b.known.now b.result (scope_of b.scopes) c ls s
-    statement_kept c ls s = λ i. typed_statement (known i).now (returned i) (scope_kept n.scopes b.scopes tables bodies i) c ls s
+    statement_kept : (c : Enclosing) (ls : List LocalTree) (s : Statement) → typed_statement n.result (scope_of n.scopes) c ls s ≡ typed_statement b.result (scope_of b.scopes) c ls s
+    statement_kept c ls s = λ i. typed_statement (returned i) (scope_kept n.scopes b.scopes tables bodies i) c ls s
 
     -- the else of an if behind its first arm
     pub else_rest : (c : Enclosing) (e : Expression) (one other : Statement) (at : ℕ) (x : Expr) (p : typed.Stmt) → typing (scope_of b.scopes) e ≡ Is x → statement_in b c one ≡ just p (locals_of n)
         → (statement_in n c other >>= λ q. breaks (is_void (kind_of x)) Mismatch at (just (If x p q.tree) q.locals)) ≡ statement_in b c (tree.IfElse e one other at)
     else_rest c e one other at x p test h = sym
-        (ap (λ o. o >>= λ x. statement_in b c one >>= λ p. typed_statement b.known.now b.result (scope_of b.scopes) c p.locals other >>= λ q. breaks (is_void (kind_of x)) Mismatch at (just (If x p.tree q.tree) q.locals)) test
-        ∙ ap (λ o. o >>= λ p. typed_statement b.known.now b.result (scope_of b.scopes) c p.locals other >>= λ q. breaks (is_void (kind_of x)) Mismatch at (just (If x p.tree q.tree) q.locals)) h
+        (ap (λ o. o >>= λ x. statement_in b c one >>= λ p. typed_statement b.result (scope_of b.scopes) c p.locals other >>= λ q. breaks (is_void (kind_of x)) Mismatch at (just (If x p.tree q.tree) q.locals)) test
+        ∙ ap (λ o. o >>= λ p. typed_statement b.result (scope_of b.scopes) c p.locals other >>= λ q. breaks (is_void (kind_of x)) Mismatch at (just (If x p.tree q.tree) q.locals)) h
         ∙ ap (λ o. o >>= λ q. breaks (is_void (kind_of x)) Mismatch at (just (If x p q.tree) q.locals)) (sym (statement_kept c (locals_of n) other)))
 
     -- one statement of a list
@@ -93,8 +92,8 @@ module _ (b n : Body) (tables : tables_of n.scopes ≡ tables_of b.scopes) (bodi
         → behind there (statements_in b c (body_of (drop i list))) ≡ behind (there ++ t ∷ []) (statements_in n c (body_of (drop (i + 1) list)))
     turn c list i s there t is within h =
         ap (λ l. behind there (statements_in b c (body_of l))) (from_here list i s is within)
-        ∙ ap (λ o. behind there (o >>= λ p. typed_statements b.known.now b.result (scope_of b.scopes) c p.locals (body_of (drop (i + 1) list)) >>= λ r. just (both p.tree r.tree) r.locals)) h
-        ∙ one_more there t (typed_statements b.known.now b.result (scope_of b.scopes) c (locals_of n) (body_of (drop (i + 1) list)))
+        ∙ ap (λ o. behind there (o >>= λ p. typed_statements b.result (scope_of b.scopes) c p.locals (body_of (drop (i + 1) list)) >>= λ r. just (both p.tree r.tree) r.locals)) h
+        ∙ one_more there t (typed_statements b.result (scope_of b.scopes) c (locals_of n) (body_of (drop (i + 1) list)))
         ∙ ap (behind (there ++ t ∷ [])) (sym (statements_kept c (locals_of n) (body_of (drop (i + 1) list))))
 
 -- the end of a list
@@ -111,7 +110,7 @@ refused_here o n c list i s there so_far refusals.NoMemory is within before h = 
 refused_here o n c list i s there so_far (refusals.Broken rule at) is within before h = unbroken there o rule at
     (before
     ∙ ap (λ l. behind so_far (statements_in n c (body_of l))) (from_here list i s is within)
-    ∙ ap (λ o. behind so_far (o >>= λ p. typed_statements n.known.now n.result (scope_of n.scopes) c p.locals (body_of (drop (i + 1) list)) >>= λ r. just (both p.tree r.tree) r.locals)) h)
+    ∙ ap (λ o. behind so_far (o >>= λ p. typed_statements n.result (scope_of n.scopes) c p.locals (body_of (drop (i + 1) list)) >>= λ r. just (both p.tree r.tree) r.locals)) h)
 
 -- statements that are put into a block
 abbrev in_block : List VarRef → Outcome (Typed Stmts) → Outcome (Typed typed.Stmt)
@@ -123,15 +122,15 @@ in_block_behind names there (Broken rule at) = refl
 
 -- a block of declarations and statements
 pub block_typed : (b n m : Body) (start o : Opening) (l : Vec TypedStmt Global) (c : Enclosing) (ds : List DeclarationTree) (ss : Statements)
-    → start.declared.items ≡ [] → start.statements.items ≡ [] → n.known ≡ b.known → n.result ≡ b.result
-    → declarations b.known.now (opened_of b start) ds ≡ Is (opened_of n o)
+    → start.declared.items ≡ [] → start.statements.items ≡ [] → n.result ≡ b.result
+    → declarations (opened_of b start) ds ≡ Is (opened_of n o)
     → behind o.statements.items (statements_in n c ss) ≡ just (statement_list l.items) (locals_of m)
     → block_in b c ds ss ≡ just (stmt_of (memory.Block o.declared l)) (locals_of m)
-block_typed b n m start o l c ds ss no_name no_statement known returned opened listed =
-    let rest = λ (x : Opened). typed_statements b.known.now b.result x.scope c x.locals ss >>= λ r. just (Block x.declared (before x.statements r.tree)) r.locals in
-    (λ i. declarations b.known.now (record { scope = scope_of b.scopes; locals = locals_of b; declared = sym no_name i; statements = map stmt_of (sym no_statement i) }) ds >>= rest)
+block_typed b n m start o l c ds ss no_name no_statement returned opened listed =
+    let rest = λ (x : Opened). typed_statements b.result x.scope c x.locals ss >>= λ r. just (Block x.declared (before x.statements r.tree)) r.locals in
+    (λ i. declarations (record { scope = scope_of b.scopes; locals = locals_of b; declared = sym no_name i; statements = map stmt_of (sym no_statement i) }) ds >>= rest)
     ∙ ap (λ x. x >>= rest) opened
-    ∙ (λ i. typed_statements (sym known i).now (sym returned i) (scope_of n.scopes) c (locals_of n) ss >>= λ r. just (Block o.declared.items (before (map stmt_of o.statements.items) r.tree)) r.locals)
+    ∙ (λ i. typed_statements (sym returned i) (scope_of n.scopes) c (locals_of n) ss >>= λ r. just (Block o.declared.items (before (map stmt_of o.statements.items) r.tree)) r.locals)
     ∙ in_block_behind o.declared.items o.statements.items (statements_in n c ss)
     ∙ ap (in_block o.declared.items) listed
     ∙ ap (λ t. just t (locals_of m)) (sym (block_of_list o.declared l))

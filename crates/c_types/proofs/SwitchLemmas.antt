@@ -1,7 +1,6 @@
 -- Switches, whose labels and statements are a list in memory.
 use Rattle.std.proofs.Common.{◌≡◌, ℕ, ◌+◌, ◌<◌, Bool, true, false, not, List, [], ◌∷◌, drop, get_or, length, refl, ap, sym, ◌∙◌, subst, Vec, Global}
 use Rattle.std.specs.Prelude.{Result, Ok, Err, IfOk, IfErr}
-use Rattle.std.proofs.lemmas.List.{drop_more}
 use Rattle.c_tree.specs.declared.expr.Expr as syntax
 use Rattle.c_tree.specs.declared.stmt.Stmt.{Stmt}
 use Rattle.c_tree.specs.declared.stmt.StmtKind as kind
@@ -20,15 +19,13 @@ use Rattle.c_tree.specs.View.{stmt_of}
 use Rattle.c_types.specs.declared.blocks.Body.{Body}
 use Rattle.c_types.specs.declared.fault.Refusal.{Refusal}
 use Rattle.c_types.specs.declared.fault.Refusal.TheVariants as refusals
-use Rattle.c_types.specs.declared.fault.Rule.{Rule}
 use Rattle.c_types.specs.declared.fault.Rule.TheVariants.{Mismatch, Redeclared}
-use Rattle.c_types.specs.declared.kinds.Class.{Class}
 use Rattle.c_types.specs.declared.local.Enclosing.{Enclosing}
 use Rattle.c_types.specs.Answers.{Refuses}
 use Rattle.c_types.specs.Bodies.{behind_choices, choices_in, parts_of, statement_in, switched}
 use Rattle.c_types.specs.Kinds.{class_of}
 use Rattle.c_types.specs.Operands.{is_integer}
-use Rattle.c_types.specs.Outcome.{Outcome, Is, Broken, ◌>>=◌, breaks}
+use Rattle.c_types.specs.Outcome.{Outcome, Is, ◌>>=◌, breaks}
 use Rattle.c_types.specs.Statements.{LocalTree, Labelled, Typed, just, behind_body, in_switch, repeats_label, typed_choices}
 use Rattle.c_types.specs.Tables.{scope_of, tables_of}
 use Rattle.c_types.specs.Typing.{typing}
@@ -63,13 +60,13 @@ refused_here o n c list i s there p (refusals.Broken rule at) is within before h
     ∙ ap (behind_choices there p) (h (parts_of (drop (i + 1) list)))
 
 -- a statement among the choices
-pub body_typed : (b n : Body) → tables_of n.scopes ≡ tables_of b.scopes → n.scopes.bodies ≡ b.scopes.bodies → n.known ≡ b.known → n.result ≡ b.result
+pub body_typed : (b n : Body) → tables_of n.scopes ≡ tables_of b.scopes → n.scopes.bodies ≡ b.scopes.bodies → n.result ≡ b.result
     → (c : Enclosing) (x : SwitchPart) (s : Stmt) (t : TypedStmt) → x ≡ part.Body s → statement_in b c (statement_of s.kind s.at) ≡ just (stmt_of t) (locals_of n)
     → (rest : tree.Choices) → choices_in b c (part_before x rest) ≡ behind_choices (choice.Body t ∷ []) false (choices_in n c rest)
-body_typed b n tables bodies known returned c x s t is h rest =
+body_typed b n tables bodies returned c x s t is h rest =
     ap (λ p. choices_in b c (part_before p rest)) is
-    ∙ ap (λ o. o >>= λ p. typed_choices b.known.now b.result (scope_of b.scopes) c p.locals rest >>= λ r. Is (behind_body p.tree r)) h
-    ∙ ap (λ o. o >>= λ r. Is (behind_body (stmt_of t) r)) (sym (choices_kept b n tables bodies known returned c (locals_of n) rest))
+    ∙ ap (λ o. o >>= λ p. typed_choices b.result (scope_of b.scopes) c p.locals rest >>= λ r. Is (behind_body p.tree r)) h
+    ∙ ap (λ o. o >>= λ r. Is (behind_body (stmt_of t) r)) (sym (choices_kept b n tables bodies returned c (locals_of n) rest))
 
 -- objects beside what is broken by three rules or none
 beside : (a b d : Bool) (place at : ℕ) (t : typed.Stmt) (ls : List LocalTree)

@@ -1,5 +1,5 @@
 -- Statements of a source whose parts are lists in memory.
-use Rattle.std.proofs.Common.{◌≡◌, List, [], ◌∷◌, ℕ, map, refl, ap, rules}
+use Rattle.std.proofs.Common.{◌≡◌, ℕ, map, refl, ap, rules}
 use Rattle.c_tree.specs.declared.stmt.StmtKind as stmt
 use Rattle.c_tree.specs.declared.stmt.StmtKind.{Row_of-Stmt, end_of-Stmt, more_of-Stmt, items-the_row-Stmt, Row_of-SwitchPart, end_of-SwitchPart, more_of-SwitchPart, items-the_row-SwitchPart, the_lemmas}
 use Rattle.c_tree.specs.SyntaxTree as tree

@@ -13,7 +13,7 @@ use Rattle.c_tree.specs.declared.operator.BinaryOp.{BinaryOp}
 use Rattle.c_tree.specs.TypedTree.{Choices, no_more, Binary}
 use Rattle.c_tree.specs.View.{expr_of, form_of, argument_list, stmt_of, statement_list, choice_list, choice_before}
 use Rattle.c_tree.proofs.Views.{typed_call_form, block_of_list, switch_of_list}
-use Rattle.c_types.specs.Temporaries.{temporaries, form_temporaries, argument_temporaries, statement_temporaries, statements_temporaries, choices_temporaries}
+use Rattle.c_tree.specs.Temporaries.{temporaries, form_temporaries, argument_temporaries, statement_temporaries, statements_temporaries, choices_temporaries}
 
 argument_more : (xs : List TypedExpr) (x : TypedExpr)
     → argument_temporaries (argument_list (xs ++ x ∷ [])) ≡ max (argument_temporaries (argument_list xs)) (length xs + temporaries (expr_of x))

@@ -1,5 +1,5 @@
 -- Turns of the loops over the parts of a source: types, parameters, items and externals.
-use Rattle.std.proofs.Common.{◌≡◌, ◌≢◌, ℕ, zero, suc, ◌+◌, ◌<◌, ◌≤◌, ◌&&◌, ◌||◌, Bool, true, false, if◌then◌else◌, List, [], ◌∷◌, ◌++◌, map, set, drop, get_or, length, Option, Some, None, is_some, is_none, option_map, true≢false, not, Bor, subst, refl, ap, sym, ◌∙◌, append_assoc, arith}
+use Rattle.std.proofs.Common.{◌≡◌, ◌≢◌, ℕ, suc, ◌+◌, ◌<◌, ◌≤◌, ◌&&◌, ◌||◌, Bool, true, false, if◌then◌else◌, List, [], ◌∷◌, ◌++◌, map, set, drop, get_or, length, Option, Some, None, is_some, is_none, option_map, true≢false, not, Bor, subst, refl, ap, sym, ◌∙◌, append-nil, arith}
 use Rattle.std.specs.Str.{bytes_eq}
 use Rattle.std.specs.List.{list_any}
 use Rattle.std.specs.Prelude.{slice_get, slice_set}
@@ -10,7 +10,7 @@ use Rattle.std.proofs.lemmas.Option.{slice_get-map, slice_get_read}
 use Rattle.indexmap.specs.IndexSet.{insert_key}
 use Rattle.c_tree.specs.declared.program.Base.{Base}
 use Rattle.c_tree.specs.declared.program.ScalarType.{ScalarType}
-use Rattle.c_tree.specs.declared.program.VarRef.{VarRef}
+use Rattle.c_tree.specs.declared.program.VarRef.TheVariants as refs
 use Rattle.c_tree.specs.declared.program.Initial.{Initial}
 use Rattle.c_tree.specs.declared.decl.Param.{Param}
 use Rattle.c_tree.specs.declared.decl.Item.{Item}
@@ -38,7 +38,7 @@ use Rattle.c_types.specs.Answers.{Refuses}
 use Rattle.c_types.specs.Outcome.{Outcome, Is, Broken, ◌>>=◌, breaks}
 use Rattle.c_types.specs.Kinds.{same_type}
 use Rattle.c_types.specs.Scopes.{Scope, open_scope, is_in, is_out}
-use Rattle.c_types.specs.Declarations.{reference, with_single}
+use Rattle.c_types.specs.Declarations.{with_single}
 use Rattle.c_types.specs.Statements.{LocalTree, Typed, typed_body}
 use Rattle.c_types.specs.Tables.{names_of}
 use Rattle.c_types.specs.View.{static_tree_of, typed_function_of}
@@ -56,7 +56,7 @@ unlike_lengths (x ∷ xs) [] unlike = refl
 unlike_lengths (x ∷ xs) (y ∷ ys) unlike = ap (λ r. same_type x y && r) (unlike_lengths xs ys (λ e. unlike (ap suc e))) ∙ same_false (same_type x y)
 
 -- the element of a turn is the first of what is left
-first_of : {A : Type 0} (list : List A) (i : ℕ) (x : A) → x ≡ get_or list i x → i < length list → drop i list ≡ x ∷ drop (i + 1) list
+pub first_of : {A : Type 0} (list : List A) (i : ℕ) (x : A) → x ≡ get_or list i x → i < length list → drop i list ≡ x ∷ drop (i + 1) list
 first_of list i x is below = drop_more list i x below ∙ ap (λ e. e ∷ drop (i + 1) list) (sym is)
 
 pub same_turn : (a b : List ScalarType) (i : ℕ) (x y : ScalarType) → x ≡ get_or a i x → i < length a → y ≡ get_or b i y → i < length b → same_types (drop i a) (drop i b) ≡ (same_type x y && same_types (drop (i + 1) a) (drop (i + 1) b))
@@ -79,20 +79,32 @@ module _ (name : Bor (List ℕ)) where
   names_inserted keys = names_chosen (list_any (λ k. bytes_eq name.now k.now) keys) keys ∙ ap (λ b. if b then names_of keys else names_of keys ++ name.now ∷ []) (among_names keys)
 
 -- parameters: one of a turn, and those behind the end of the shorter list
-pub parameter_declared : (s : Scope) (known : List VarRef) (n : ℕ) (list : List Param) (kinds : List ScalarType) (i : ℕ) (p : Param) (kind : ScalarType) → p ≡ get_or list i p → i < length list → kind ≡ get_or kinds i kind → i < length kinds → with_parameters s known n (map parameter_of (drop i list)) (drop i kinds) ≡ with_parameters (with_single s p.name (reference known n) kind) known (n + 1) (map parameter_of (drop (i + 1) list)) (drop (i + 1) kinds)
-parameter_declared s known n list kinds i p kind p_is p_below kind_is kind_below =
-    ap (λ l. with_parameters s known n (map parameter_of l) (drop i kinds)) (first_of list i p p_is p_below)
-    ∙ ap (λ l. with_parameters s known n (map parameter_of (p ∷ drop (i + 1) list)) l) (first_of kinds i kind kind_is kind_below)
-    ∙ ap (λ m. with_parameters (with_single s p.name (reference known n) kind) known m (map parameter_of (drop (i + 1) list)) (drop (i + 1) kinds)) (omega arith)
+pub parameter_declared : (s : Scope) (n : ℕ) (list : List Param) (kinds : List ScalarType) (i : ℕ) (p : Param) (kind : ScalarType) → p ≡ get_or list i p → i < length list → kind ≡ get_or kinds i kind → i < length kinds → with_parameters s n (map parameter_of (drop i list)) (drop i kinds) ≡ with_parameters (with_single s p.name (refs.Local n) kind) (n + 1) (map parameter_of (drop (i + 1) list)) (drop (i + 1) kinds)
+parameter_declared s n list kinds i p kind p_is p_below kind_is kind_below =
+    ap (λ l. with_parameters s n (map parameter_of l) (drop i kinds)) (first_of list i p p_is p_below)
+    ∙ ap (λ l. with_parameters s n (map parameter_of (p ∷ drop (i + 1) list)) l) (first_of kinds i kind kind_is kind_below)
+    ∙ ap (λ m. with_parameters (with_single s p.name (refs.Local n) kind) m (map parameter_of (drop (i + 1) list)) (drop (i + 1) kinds)) (omega arith)
 
 -- where no type is left, no parameter is declared
-none_left : (s : Scope) (known : List VarRef) (n : ℕ) (ps : List ParameterTree) → with_parameters s known n ps [] ≡ s
-none_left s known n [] = refl
-none_left s known n (p ∷ ps) = refl
+none_left : (s : Scope) (n : ℕ) (ps : List ParameterTree) → with_parameters s n ps [] ≡ s
+none_left s n [] = refl
+none_left s n (p ∷ ps) = refl
 
-pub parameters_ended : (s : Scope) (known : List VarRef) (list : List Param) (kinds : List ScalarType) (i : ℕ) → length kinds ≤ i → with_parameters s known i (map parameter_of (drop i list)) (drop i kinds) ≡ s
-parameters_ended s known list kinds i past =
-    ap (with_parameters s known i (map parameter_of (drop i list))) (drop_of_length-le kinds past) ∙ none_left s known i (map parameter_of (drop i list))
+pub parameters_ended : (s : Scope) (list : List Param) (kinds : List ScalarType) (i : ℕ) → length kinds ≤ i → with_parameters s i (map parameter_of (drop i list)) (drop i kinds) ≡ s
+parameters_ended s list kinds i past =
+    ap (with_parameters s i (map parameter_of (drop i list))) (drop_of_length-le kinds past) ∙ none_left s i (map parameter_of (drop i list))
+
+-- parameters as objects: one of a turn, and those behind the end of the types
+none_placed : (ps : List ParameterTree) → parameter_locals ps [] ≡ []
+none_placed [] = refl
+none_placed (p ∷ ps) = refl
+
+pub locals_ended : {made whole : List LocalTree} (list : List Param) (kinds : List ScalarType) (i : ℕ) → length kinds ≤ i
+    → made ++ parameter_locals (map parameter_of (drop i list)) (drop i kinds) ≡ whole → made ≡ whole
+locals_ended {made = made} list kinds i past so_far =
+    sym (append-nil made)
+    ∙ ap (λ l. made ++ l) (sym (ap (parameter_locals (map parameter_of (drop i list))) (drop_of_length-le kinds past) ∙ none_placed (map parameter_of (drop i list))))
+    ∙ so_far
 
 -- items of a declaration
 pub item_typed : (f g : File) (b : Base) (whole : Outcome File) (list : List Item) (i : ℕ) (item : Item) → item ≡ get_or list i item → i < length list → whole ≡ file_items f b (map item_of (drop i list)) → file_item f b (item_of item) ≡ Is g → whole ≡ file_items g b (map item_of (drop (i + 1) list))
@@ -105,14 +117,14 @@ item_refused f b whole list i item (refusals.Broken rule at) is below so_far h =
 item_refused f b whole list i item refusals.NoMemory is below so_far h = tt {0}
 
 -- externals
-pub external_typed : (f g : File) (known : List (List VarRef)) (whole : Outcome File) (list : List External) (i : ℕ) (x : External) → x ≡ get_or list i x → i < length list → whole ≡ externals known f (unit_of (drop i list)) → external known f (external_of x) ≡ Is g → whole ≡ externals known g (unit_of (drop (i + 1) list))
-external_typed f g known whole list i x is below so_far h =
-    so_far ∙ ap (λ l. externals known f (unit_of l)) (first_of list i x is below) ∙ ap (λ o. o >>= λ q. externals known q (unit_of (drop (i + 1) list))) h
+pub external_typed : (f g : File) (whole : Outcome File) (list : List External) (i : ℕ) (x : External) → x ≡ get_or list i x → i < length list → whole ≡ externals f (unit_of (drop i list)) → external f (external_of x) ≡ Is g → whole ≡ externals g (unit_of (drop (i + 1) list))
+external_typed f g whole list i x is below so_far h =
+    so_far ∙ ap (λ l. externals f (unit_of l)) (first_of list i x is below) ∙ ap (λ o. o >>= λ q. externals q (unit_of (drop (i + 1) list))) h
 
-pub external_refused : (f : File) (known : List (List VarRef)) (whole : Outcome File) (list : List External) (i : ℕ) (x : External) (refusal : Refusal) → x ≡ get_or list i x → i < length list → whole ≡ externals known f (unit_of (drop i list)) → Refuses (external known f (external_of x)) refusal → Refuses whole refusal
-external_refused f known whole list i x (refusals.Broken rule at) is below so_far h =
-    so_far ∙ ap (λ l. externals known f (unit_of l)) (first_of list i x is below) ∙ ap (λ o. o >>= λ q. externals known q (unit_of (drop (i + 1) list))) h
-external_refused f known whole list i x refusals.NoMemory is below so_far h = tt {0}
+pub external_refused : (f : File) (whole : Outcome File) (list : List External) (i : ℕ) (x : External) (refusal : Refusal) → x ≡ get_or list i x → i < length list → whole ≡ externals f (unit_of (drop i list)) → Refuses (external f (external_of x)) refusal → Refuses whole refusal
+external_refused f whole list i x (refusals.Broken rule at) is below so_far h =
+    so_far ∙ ap (λ l. externals f (unit_of l)) (first_of list i x is below) ∙ ap (λ o. o >>= λ q. externals q (unit_of (drop (i + 1) list))) h
+external_refused f whole list i x refusals.NoMemory is below so_far h = tt {0}
 
 abbrev broken : Rule → ℕ → Outcome File
 broken rule at = Broken rule at
@@ -205,12 +217,12 @@ refused_first o next refusals.NoMemory h = tt {0}
 list_given : (xs : List StaticTree) (n : ℕ) (x y : StaticTree) (list : Option (List Initial)) → slice_get xs n ≡ Some x → y ≡ with_list x list → slice_set xs n y ≡ set_list xs n (slice_get xs n) list
 list_given xs n x y list there is = ap (slice_set xs n) is ∙ ap (λ o. set_list xs n o list) (sym there)
 
-module _ (items : List memory.Static) (n : ℕ) (number : Option ℕ) (numbered : number ≡ Some n) (below : n < length items) (x : memory.Static) (is : x ≡ get_or items n x) (type : ObjectType) (list : Option (List Initial)) where
-  static_set : (y : memory.Static) → static_tree_of y ≡ with_list (static_tree_of x) list → map static_tree_of (set items n y) ≡ with_static (map static_tree_of items) number type list
+module _ (items : List memory.Static) (n : ℕ) (number : Option ℕ) (numbered : number ≡ Some n) (below : n < length items) (x : memory.Static) (is : x ≡ get_or items n x) (name : List ℕ) (type : ObjectType) (list : Option (List Initial)) where
+  static_set : (y : memory.Static) → static_tree_of y ≡ with_list (static_tree_of x) list → map static_tree_of (set items n y) ≡ with_static (map static_tree_of items) number name type list
   static_set y given =
       map-set static_tree_of items n y
       ∙ list_given (map static_tree_of items) n (static_tree_of x) (static_tree_of y) list (slice_get-map static_tree_of items n ∙ ap (option_map static_tree_of) (slice_get_read items (length items) n x refl below is)) given
-      ∙ ap (λ m. with_static (map static_tree_of items) m type list) (sym numbered)
+      ∙ ap (λ m. with_static (map static_tree_of items) m name type list) (sym numbered)
 
   with_some : (l : Option (List Initial)) → is_some l ≡ true → static_tree_of (record { name = x.name; object_type = x.object_type; initial = l }) ≡ with_list (static_tree_of x) l
   with_some None h = absurd (true≢false (sym h))
@@ -220,21 +232,21 @@ module _ (items : List memory.Static) (n : ℕ) (number : Option ℕ) (numbered 
   with_none None h = refl
   with_none (Some values) h = absurd (true≢false h)
 
-  pub list_set : is_some list ≡ true → map static_tree_of (set items n (record { name = x.name; object_type = x.object_type; initial = list })) ≡ with_static (map static_tree_of items) number type list
+  pub list_set : is_some list ≡ true → map static_tree_of (set items n (record { name = x.name; object_type = x.object_type; initial = list })) ≡ with_static (map static_tree_of items) number name type list
   list_set h = static_set (record { name = x.name; object_type = x.object_type; initial = list }) (with_some list h)
 
-  pub list_kept : is_some list ≡ false → map static_tree_of (set items n x) ≡ with_static (map static_tree_of items) number type list
+  pub list_kept : is_some list ≡ false → map static_tree_of (set items n x) ≡ with_static (map static_tree_of items) number name type list
   list_kept h = static_set x (with_none list h)
 
 -- a function with its body
-module _ (file : File) (known : List VarRef) (f : FunctionSyntax) (result : Kind) (kinds : List ScalarType) where
+module _ (file : File) (f : FunctionSyntax) (result : Kind) (kinds : List ScalarType) where
   abbrev then_pushed : Typed Stmt → Outcome File
   then_pushed r = Is (with_function file f.name result kinds r)
 
-  pub body_typed : (s : Scope) (locals : List LocalTree) (r : Typed Stmt) (g : File) → s ≡ with_parameters (open_scope file.scope) known 0 f.parameters.list kinds → locals ≡ parameter_locals kinds → typed_body known result s locals f.declarations f.statements ≡ Is r → g ≡ with_function file f.name result kinds r → with_body file known f result kinds ≡ Is g
+  pub body_typed : (s : Scope) (locals : List LocalTree) (r : Typed Stmt) (g : File) → s ≡ with_parameters (open_scope file.scope) 0 f.parameters.list kinds → locals ≡ parameter_locals f.parameters.list kinds → typed_body result s locals f.declarations f.statements ≡ Is r → g ≡ with_function file f.name result kinds r → with_body file f result kinds ≡ Is g
   body_typed s locals r g s_is locals_are typed g_is =
-      ap (λ t. typed_body known result t (parameter_locals kinds) f.declarations f.statements >>= then_pushed) (sym s_is)
-      ∙ ap (λ l. typed_body known result s l f.declarations f.statements >>= then_pushed) (sym locals_are)
+      ap (λ t. typed_body result t (parameter_locals f.parameters.list kinds) f.declarations f.statements >>= then_pushed) (sym s_is)
+      ∙ ap (λ l. typed_body result s l f.declarations f.statements >>= then_pushed) (sym locals_are)
       ∙ ap (λ o. o >>= then_pushed) typed
       ∙ ap Is (sym g_is)
 

@@ -16,20 +16,19 @@ use Rattle.c_types.specs.declared.fault.Rule.TheVariants.{Mismatch, Redeclared}
 use Rattle.c_types.specs.Kinds.{class_of, is_void}
 use Rattle.c_types.specs.Operands.{is_integer}
 use Rattle.c_types.specs.Outcome.{Outcome, Is, ◌>>=◌, breaks}
-use Rattle.c_types.specs.Scopes.{Scope}
-use Rattle.c_types.specs.Statements.{LocalTree, Typed, Labelled, just, before, opened_in, declarations, repeats_label, typed_statement, typed_statements, typed_choices}
+use Rattle.c_types.specs.Statements.{Typed, Labelled, just, before, opened_in, declarations, repeats_label, typed_statement, typed_statements, typed_choices}
 use Rattle.c_types.specs.Tables.{scope_of}
 use Rattle.c_types.specs.Typing.{typing}
 use Rattle.c_types.specs.View.{locals_of}
 
 abbrev pub statement_in : Body → Enclosing → Statement → Outcome (Typed Stmt)
-statement_in b c s = typed_statement b.known.now b.result (scope_of b.scopes) c (locals_of b) s
+statement_in b c s = typed_statement b.result (scope_of b.scopes) c (locals_of b) s
 
 abbrev pub statements_in : Body → Enclosing → Statements → Outcome (Typed Stmts)
-statements_in b c ss = typed_statements b.known.now b.result (scope_of b.scopes) c (locals_of b) ss
+statements_in b c ss = typed_statements b.result (scope_of b.scopes) c (locals_of b) ss
 
 abbrev pub choices_in : Body → Enclosing → tree.Choices → Outcome (Typed Labelled)
-choices_in b c cs = typed_choices b.known.now b.result (scope_of b.scopes) c (locals_of b) cs
+choices_in b c cs = typed_choices b.result (scope_of b.scopes) c (locals_of b) cs
 
 -- what stands between the braces of a switch, of a list of it
 abbrev pub parts_of : List SwitchPart → tree.Choices
@@ -56,8 +55,8 @@ behind there rest = rest >>= λ r. just (before (map stmt_of there) r.tree) r.lo
 
 -- a block in the scope that is open
 abbrev pub block_in : Body → Enclosing → List DeclarationTree → Statements → Outcome (Typed Stmt)
-block_in b c ds ss = declarations b.known.now (opened_in (scope_of b.scopes) (locals_of b)) ds >>= λ o.
-    typed_statements b.known.now b.result o.scope c o.locals ss >>= λ r. just (Block o.declared (before o.statements r.tree)) r.locals
+block_in b c ds ss = declarations (opened_in (scope_of b.scopes) (locals_of b)) ds >>= λ o.
+    typed_statements b.result o.scope c o.locals ss >>= λ r. just (Block o.declared (before o.statements r.tree)) r.locals
 
 -- the else of an if with this test and first arm
 abbrev pub else_in : Body → Enclosing → ℕ → Expr → Stmt → Statement → Outcome (Typed Stmt)

@@ -1,5 +1,5 @@
 -- Declarations: ISO 9899:1990 6.5 (docs/LANGUAGE.md, "Types").
-use Rattle.std.specs.Prelude.{ℕ, ◌==◌, ◌||◌, nat_lt, Bool, false, if◌then◌else◌, List, [], ◌∷◌, length, slice_get, is_some, is_none, unwrap_or, Option, Some, None}
+use Rattle.std.specs.Prelude.{ℕ, ◌==◌, ◌||◌, nat_lt, Bool, false, if◌then◌else◌, List, [], ◌∷◌, length, is_some, is_none, Option, Some, None}
 use Rattle.c_tree.specs.declared.program.Base.{Base}
 use Rattle.c_tree.specs.declared.program.ScalarType.{ScalarType}
 use Rattle.c_tree.specs.declared.program.VarRef.{VarRef}
@@ -25,12 +25,7 @@ use Rattle.c_types.specs.Kinds.{starred}
 use Rattle.c_types.specs.Operands.{Operand, given, address_kind}
 use Rattle.c_types.specs.Constants.{constant}
 use Rattle.c_types.specs.Scopes.{Scope, open_scope, declare, is_taken}
-use Rattle.c_types.specs.Typing.{plain, typing, operand, place, word_at}
-
--- the number of local objects and parameters, each by what its name stands for in the end, or as a local object where that
--- isn't known yet
-abbrev pub reference : List VarRef → ℕ → VarRef
-reference known n = unwrap_or (slice_get known n) (refs.Local n)
+use Rattle.c_types.specs.Typing.{plain, typing, operand, place, as_constant, word_at}
 
 -- a length of 1 to 32,767
 abbrev pub length_within : ℕ → Option ℕ
@@ -38,7 +33,7 @@ length_within n = if n == 0 || nat_lt 32767 n then None else Some n
 
 -- a constant length, where it may be one
 abbrev pub typed_length : Scope → Expression → Outcome (Option ℕ)
-typed_length s e = typing s e >>= λ x. word_at e x >>= λ w. Is (length_within w)
+typed_length s e = as_constant e (typing s e) >>= λ x. word_at e x >>= λ w. Is (length_within w)
 
 -- parameters: an array is a pointer, whose length is only looked at: 6.7.1
 abbrev pub parameter_kind : Base → ParameterTree → Kind
@@ -149,7 +144,7 @@ pub record Entry : Type 0 where
   pub initial : Initial
 
 abbrev pub entry : Scope → Expression → Outcome Entry
-entry s e = typing s e >>= λ x. there_or NotConstant (place e) (static_value s e x) >>= λ i.
+entry s e = as_constant e (typing s e) >>= λ x. there_or NotConstant (place e) (static_value s e x) >>= λ i.
     Is (record { operand = operand e x; initial = i })
 
 abbrev pub entries : Scope → List Expression → Outcome (List Entry)

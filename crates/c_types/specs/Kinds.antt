@@ -1,6 +1,6 @@
 -- Types of values: ISO 9899:1990 6.1.2.5, 6.2.1.5 and 6.3.2.2 (docs/LANGUAGE.md, "Types"). A type of a value is none where it
 -- is void.
-use Rattle.std.specs.Prelude.{ℕ, zero, ◌+◌, ◌-◌, ◌==◌, ◌&&◌, ◌||◌, Bool, true, false, if◌then◌else◌, Option, Some, None}
+use Rattle.std.specs.Prelude.{ℕ, zero, ◌+◌, ◌-◌, ◌==◌, ◌&&◌, ◌||◌, Bool, true, false, if◌then◌else◌, Some, None}
 use Rattle.c_tree.specs.declared.program.Base.{Base}
 use Rattle.c_tree.specs.declared.program.Base.TheVariants as base
 use Rattle.c_tree.specs.declared.program.ScalarType.{ScalarType}

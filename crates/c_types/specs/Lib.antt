@@ -2,6 +2,7 @@ pub mod Outcome
 pub mod Answers
 pub mod Kinds
 pub mod Operands
+pub mod OperandView
 pub mod View
 pub mod Constants
 pub mod Scopes
@@ -10,13 +11,17 @@ pub mod Tables
 pub mod Declarations
 pub mod Statements
 pub mod Bodies
+pub mod Renumbering
 pub mod Uses
-pub mod Temporaries
 pub mod OperandForms
 pub mod Units
 pub mod Programs
+pub mod Whole
 pub mod Checked
 pub mod Faults
 pub mod Frames
 pub mod Storage
 pub mod Calls
+pub mod Rounds
+pub mod Trails
+pub mod Chains

@@ -1,12 +1,11 @@
 -- What each operator makes of typed operands: ISO 9899:1990 6.3.2 to 6.3.17, with the conversions of 6.2.1 and 6.2.2
 -- (docs/LANGUAGE.md, "Types"). `at` is the place of the operator's node, of which a rule that is broken is one.
-use Rattle.std.specs.Prelude.{ℕ, ◌==◌, ◌&&◌, ◌||◌, not, nat_lt, Bool, true, false, if◌then◌else◌, List, [], ◌∷◌, Option, Some, None}
+use Rattle.std.specs.Prelude.{ℕ, ◌&&◌, ◌||◌, not, nat_lt, Bool, true, false, if◌then◌else◌, List, [], ◌∷◌, Option, Some, None}
 use Rattle.c_tree.specs.declared.program.ScalarType.{ScalarType}
-use Rattle.c_tree.specs.declared.program.VarRef.{VarRef}
 use Rattle.c_tree.specs.declared.operator.UnaryOp.{UnaryOp}
 use Rattle.c_tree.specs.declared.operator.BinaryOp.{BinaryOp}
 use Rattle.c_tree.specs.declared.operator.BinaryOp.TheVariants as op
-use Rattle.c_tree.specs.TypedTree.{Kind, Expr, Node, Lvalue, Named, At, Form, Const, Read, AddressOf, Load, Unary, Binary, And, Or, Not, Pick, Assign, AssignOp, StepBefore, StepAfter, Call, In, Out, Comma, Convert, Exprs, none, more}
+use Rattle.c_tree.specs.TypedTree.{Kind, Expr, Node, Lvalue, Named, At, Const, Read, AddressOf, Load, Unary, Binary, And, Or, Not, Pick, Assign, AssignOp, StepBefore, StepAfter, In, Out, Comma, Convert, Exprs, none, more}
 use Rattle.c_tree.specs.Eval.{kind_of, place_of}
 use Rattle.c_types.specs.declared.fault.Rule.TheVariants.{Mismatch, NotLvalue, LongConstant, BadPort, ArgCount}
 use Rattle.c_types.specs.declared.kinds.Class.{Class}

@@ -1,23 +1,20 @@
 -- The typed program of a source (docs/LANGUAGE.md, "Types").
-use Rattle.std.specs.Prelude.{◌≡◌, ◌<◌, ◌≤◌, ℕ, suc, ◌+◌, ◌==◌, ◌&&◌, ◌||◌, not, nat_lt, Bool, true, false, if◌then◌else◌, List, [], ◌∷◌, ◌++◌, map, take, length, codes, slice_get, is_some, is_none, unwrap_or, Option, Some, None}
+use Rattle.std.specs.Prelude.{◌≡◌, ◌<◌, ℕ, suc, ◌==◌, ◌&&◌, ◌||◌, not, Bool, true, false, if◌then◌else◌, List, [], ◌∷◌, ◌++◌, map, take, length, codes, slice_get, unwrap_or, Some}
 use Rattle.std.specs.Str.{bytes_eq}
 use Rattle.c_tree.specs.declared.program.ScalarType.{ScalarType}
 use Rattle.c_tree.specs.declared.program.VarRef.{VarRef}
 use Rattle.c_tree.specs.declared.program.VarRef.TheVariants as refs
-use Rattle.c_tree.specs.declared.program.Initial.{Initial}
-use Rattle.c_tree.specs.SyntaxTree.{UnitTree}
-use Rattle.c_tree.specs.TypedTree as tree
-use Rattle.c_tree.specs.TypedTree.{Kind, Stmt, Stmts, Choices, ObjectTree, FunctionTree, ProgramTree}
+use Rattle.c_tree.specs.TypedTree.{ObjectTree, FunctionTree, ProgramTree}
 use Rattle.c_types.specs.declared.uses.Use.{Use}
 use Rattle.c_types.specs.declared.uses.Use.TheVariants.{Address, Call, Cases}
 use Rattle.c_types.specs.declared.meaning.ObjectType.{ObjectType}
 use Rattle.c_types.specs.declared.meaning.ObjectType.TheVariants.{Single, Array}
-use Rattle.c_types.specs.Outcome.{Outcome, Is, Broken, ◌>>=◌}
 use Rattle.c_types.specs.Kinds.{int, same_kind}
+use Rattle.c_types.specs.Rounds.{HasNoRound}
 use Rattle.c_types.specs.Statements.{LocalTree}
 use Rattle.c_types.specs.Uses.{statement_uses}
-use Rattle.c_types.specs.Temporaries.{statement_temporaries}
-use Rattle.c_types.specs.Units.{StaticTree, TypedFunction, File, typed_unit}
+use Rattle.c_types.specs.Renumbering as renumbering
+use Rattle.c_types.specs.Units.{StaticTree, TypedFunction, File}
 
 -- frame scalars: the parameters and objects of one cell whose address isn't taken. Each object is numbered among its own kind, in
 -- order of declaration.
@@ -65,7 +62,7 @@ scalars_in (refs.Static n ∷ rs) (l ∷ ls) = scalars_in rs ls
 scalars_in rs ls = []
 
 abbrev pub local_object : LocalTree → ObjectTree
-local_object l = record { length = cell_count l.object_type; kind = cell_kind l.object_type; initial = l.values }
+local_object l = record { name = l.name; length = cell_count l.object_type; kind = cell_kind l.object_type; initial = l.values }
 
 abbrev pub objects_in : List VarRef → List LocalTree → List ObjectTree
 objects_in (refs.Scalar n ∷ rs) (l ∷ ls) = objects_in rs ls
@@ -73,28 +70,28 @@ objects_in (refs.Local n ∷ rs) (l ∷ ls) = local_object l ∷ objects_in rs l
 objects_in (refs.Static n ∷ rs) (l ∷ ls) = objects_in rs ls
 objects_in rs ls = []
 
-abbrev pub function_tree : List VarRef → TypedFunction → FunctionTree
-function_tree known f = record {
+abbrev pub function_with : List VarRef → TypedFunction → FunctionTree
+function_with numbers f = record {
   name = f.name;
   result = f.result;
-  params = take f.parameters known;
-  scalars = scalars_in known f.locals;
-  locals = objects_in known f.locals;
-  body = f.body;
+  params = take f.parameters numbers;
+  scalars = scalars_in numbers f.locals;
+  locals = objects_in numbers f.locals;
+  body = renumbering.statement numbers f.body;
 }
 
-abbrev pub function_trees : List (List VarRef) → List TypedFunction → List FunctionTree
-function_trees (known ∷ rest) (f ∷ fs) = function_tree known f ∷ function_trees rest fs
-function_trees known fs = []
+abbrev pub function_tree : TypedFunction → FunctionTree
+function_tree f = function_with (frame f) f
+
+abbrev pub functions_with : List (List VarRef) → List TypedFunction → List FunctionTree
+functions_with (numbers ∷ rest) (f ∷ fs) = function_with numbers f ∷ functions_with rest fs
+functions_with numbers fs = []
 
 abbrev pub static_object : StaticTree → ObjectTree
-static_object s = record { length = cell_count s.object_type; kind = cell_kind s.object_type; initial = unwrap_or s.initial [] }
+static_object s = record { name = s.name; length = cell_count s.object_type; kind = cell_kind s.object_type; initial = unwrap_or s.initial [] }
 
-abbrev pub program_tree : List (List VarRef) → File → ProgramTree
-program_tree known file = record { statics = map static_object file.statics; functions = function_trees known file.functions }
-
-abbrev pub frames : File → List (List VarRef)
-frames file = map frame file.functions
+abbrev pub program_tree : File → ProgramTree
+program_tree file = record { statics = map static_object file.statics; functions = map function_tree file.functions }
 
 -- `int main(void)` is defined
 abbrev pub is_main : TypedFunction → Bool
@@ -113,7 +110,6 @@ pub data Calls : List TypedFunction → ℕ → ℕ → Type 0 where
 abbrev pub HasBodies : List TypedFunction → Type 0
 HasBodies fs = (n m : ℕ) → Calls fs n m → m < length fs
 
--- no function reaches itself by calls: one can stand behind all that it calls
-pub record HasNoCycle (fs : List TypedFunction) : Type 0 where
-  pub rank : ℕ → ℕ
-  pub falls : (n m : ℕ) → Calls fs n m → rank m < rank n
+-- no function reaches itself by calls
+abbrev pub HasNoCycle : List TypedFunction → Type 0
+HasNoCycle fs = HasNoRound (Calls fs)

@@ -1,9 +1,8 @@
 -- Scopes: ISO 9899:1990 6.1.2.1 (docs/LANGUAGE.md, "Types"). A scope is a function from names to what they stand for.
-use Rattle.std.specs.Prelude.{ℕ, ◌||◌, not, Bool, true, false, if◌then◌else◌, List, [], ◌∷◌, codes, Option, Some, None}
+use Rattle.std.specs.Prelude.{ℕ, ◌||◌, Bool, false, if◌then◌else◌, List, codes, Option, Some, None}
 use Rattle.std.specs.Str.{bytes_eq}
 use Rattle.c_types.specs.declared.meaning.Meaning.{Meaning}
-use Rattle.c_types.specs.declared.meaning.ObjectType.{ObjectType}
-use Rattle.c_types.specs.declared.meaning.ObjectType.TheVariants.{Single, Array}
+use Rattle.c_types.specs.declared.meaning.ObjectType.TheVariants.{Array}
 use Rattle.c_types.specs.declared.meaning.Meaning.TheVariants as meanings
 
 pub record Scope : Type 0 where

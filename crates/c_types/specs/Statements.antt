@@ -1,5 +1,5 @@
 -- Statements and the bodies of functions: ISO 9899:1990 6.6 and 6.5.7 (docs/LANGUAGE.md, "Types"). The objects of a function
--- are numbered in order of declaration. `known` has what each stands for in the end, where that is known.
+-- are numbered in order of declaration.
 use Rattle.std.specs.Prelude.{ℕ, ◌==◌, ◌||◌, not, Bool, true, false, if◌then◌else◌, List, [], ◌∷◌, ◌++◌, length, is_some, Option, Some, None}
 use Rattle.c_tree.specs.declared.program.Base.{Base}
 use Rattle.c_tree.specs.declared.program.VarRef.{VarRef}
@@ -20,12 +20,14 @@ use Rattle.c_types.specs.declared.meaning.ObjectType.TheVariants.{Single, Array}
 use Rattle.c_types.specs.Outcome.{Outcome, Is, Broken, ◌>>=◌, breaks}
 use Rattle.c_types.specs.Kinds.{class_of, is_void}
 use Rattle.c_types.specs.Operands.{Operand, given, is_integer}
+use Rattle.c_types.specs.Renumbering.{number_in}
 use Rattle.c_types.specs.Scopes.{Scope, open_scope, declare, is_taken}
-use Rattle.c_types.specs.Typing.{plain, typing, operand, word_at}
-use Rattle.c_types.specs.Declarations.{reference, declarator, Entry, entries, listed}
+use Rattle.c_types.specs.Typing.{plain, typing, operand, as_constant, word_at}
+use Rattle.c_types.specs.Declarations.{declarator, Entry, entries, listed}
 
--- an object of a function: its type, and the list of an initialised array
+-- an object of a function: its name, its type, and the list of an initialised array
 pub record LocalTree : Type 0 where
+  pub name : List ℕ
   pub object_type : ObjectType
   pub values : List Initial
 
@@ -57,11 +59,6 @@ pub record Start : Type 0 where
   pub values : List Initial
   pub statements : List Stmt
 
-abbrev pub number_in : VarRef → ℕ
-number_in (refs.Scalar n) = n
-number_in (refs.Local n) = n
-number_in (refs.Static n) = n
-
 -- the start of an object: a scalar is assigned to, an array is filled
 abbrev pub started : VarRef → ObjectType → ℕ → Initialiser → Outcome Start
 started r type at Absent = Is (record { values = []; statements = [] })
@@ -87,10 +84,10 @@ with_object s name r (declares.Object type) = if is_taken s name then s else dec
 with_object s name r d = s
 
 -- the object that is declared, with its start
-abbrev pub placed : Opened → Scope → VarRef → ObjectType → Start → Opened
-placed o s r type start = record {
+abbrev pub placed : Opened → Scope → List ℕ → VarRef → ObjectType → Start → Opened
+placed o s name r type start = record {
   scope = s;
-  locals = o.locals ++ record { object_type = type; values = start.values } ∷ [];
+  locals = o.locals ++ record { name = name; object_type = type; values = start.values } ∷ [];
   declared = o.declared ++ r ∷ [];
   statements = o.statements ++ start.statements;
 }
@@ -99,7 +96,7 @@ placed o s r type start = record {
 abbrev pub declared_as : Opened → Scope → VarRef → Declared → ItemTree → Initialiser → Outcome Opened
 declared_as o s r declares.Untyped item i = Broken Mismatch item.at
 declared_as o s r (declares.Function type) item i = breaks (is_some item.initial) Mismatch item.at (Broken Misplaced item.at)
-declared_as o s r (declares.Object type) item i = started r type item.at i >>= λ start. Is (placed o s r type start)
+declared_as o s r (declares.Object type) item i = started r type item.at i >>= λ start. Is (placed o s item.name r type start)
 
 -- one that stands for this
 abbrev pub item_as : Opened → VarRef → Base → ItemTree → Outcome Opened
@@ -108,17 +105,16 @@ item_as o r b item = declarator o.scope b item.form item.stars item.initial >>= 
     breaks (is_taken o.scope item.name) Redeclared item.at
     (declared_as o (with_object o.scope item.name r d) r d item i)
 
-module _ (known : List VarRef) where
-  abbrev pub block_item : Opened → Base → ItemTree → Outcome Opened
-  block_item o b item = item_as o (reference known (length o.locals)) b item
+abbrev pub block_item : Opened → Base → ItemTree → Outcome Opened
+block_item o b item = item_as o (refs.Local (length o.locals)) b item
 
-  abbrev pub block_items : Opened → Base → List ItemTree → Outcome Opened
-  block_items o b [] = Is o
-  block_items o b (item ∷ items) = block_item o b item >>= λ p. block_items p b items
+abbrev pub block_items : Opened → Base → List ItemTree → Outcome Opened
+block_items o b [] = Is o
+block_items o b (item ∷ items) = block_item o b item >>= λ p. block_items p b items
 
-  abbrev pub declarations : Opened → List DeclarationTree → Outcome Opened
-  declarations o [] = Is o
-  declarations o (d ∷ ds) = plain d.specs >>= λ b. block_items o b d.items >>= λ p. declarations p ds
+abbrev pub declarations : Opened → List DeclarationTree → Outcome Opened
+declarations o [] = Is o
+declarations o (d ∷ ds) = plain d.specs >>= λ b. block_items o b d.items >>= λ p. declarations p ds
 
 -- what break and continue may leave
 abbrev pub may_break : Enclosing → Bool
@@ -204,13 +200,13 @@ abbrev pub opened_in : Scope → List LocalTree → Opened
 opened_in s locals = record { scope = s; locals = locals; declared = []; statements = [] }
 
 -- the statements of a function with a result of this type
-module _ (known : List VarRef) (result : Kind) where
+module _ (result : Kind) where
   abbrev mutual
     pub typed_statement : Scope → Enclosing → List LocalTree → Statement → Outcome (Typed Stmt)
     -- expressions and blocks: 6.6.2 and 6.6.3
     typed_statement s c ls (tree.Empty at) = just (Block [] done) ls
     typed_statement s c ls (tree.Evaluate e at) = typing s e >>= λ x. just (Do_expr x) ls
-    typed_statement s c ls (tree.Block ds ss at) = declarations known (opened_in (open_scope s) ls) ds >>= λ o.
+    typed_statement s c ls (tree.Block ds ss at) = declarations (opened_in (open_scope s) ls) ds >>= λ o.
         typed_statements o.scope c o.locals ss >>= λ r. just (Block o.declared (before o.statements r.tree)) r.locals
     -- jumps: 6.6.6
     typed_statement s c ls (tree.Break at) = breaks (not (may_break c)) Misplaced at (just Break ls)
@@ -241,7 +237,7 @@ module _ (known : List VarRef) (result : Kind) where
 
     pub typed_choices : Scope → Enclosing → List LocalTree → tree.Choices → Outcome (Typed Labelled)
     typed_choices s c ls no_choice = just (record { choices = no_more; pointer = false }) ls
-    typed_choices s c ls (case_label e rest) = typing s e >>= λ x. word_at e x >>= λ w. typed_choices s c ls rest >>= λ r.
+    typed_choices s c ls (case_label e rest) = as_constant e (typing s e) >>= λ x. word_at e x >>= λ w. typed_choices s c ls rest >>= λ r.
         Is (behind_case w (points (kind_of x)) r)
     typed_choices s c ls (default_label rest) = typed_choices s c ls rest >>= λ r. Is (behind_default r)
     typed_choices s c ls (chosen a rest) = typed_statement s c ls a >>= λ p. typed_choices s c p.locals rest >>= λ r.
@@ -249,5 +245,5 @@ module _ (known : List VarRef) (result : Kind) where
 
   -- a body, in the scope of the parameters: its declarations stand in that scope
   abbrev pub typed_body : Scope → List LocalTree → List DeclarationTree → Statements → Outcome (Typed Stmt)
-  typed_body s ls ds ss = declarations known (opened_in s ls) ds >>= λ o.
+  typed_body s ls ds ss = declarations (opened_in s ls) ds >>= λ o.
       typed_statements o.scope around.Body o.locals ss >>= λ r. just (Block o.declared (before o.statements r.tree)) r.locals

@@ -1,5 +1,5 @@
 -- The typed tree of an expression: ISO 9899:1990 6.3 (docs/LANGUAGE.md, "Types").
-use Rattle.std.specs.Prelude.{ℕ, ◌==◌, ◌&&◌, ◌||◌, not, nat_lt, Bool, true, false, if◌then◌else◌, List, [], ◌∷◌, is_some, Option, Some, None}
+use Rattle.std.specs.Prelude.{ℕ, ◌==◌, ◌&&◌, ◌||◌, not, Bool, true, false, if◌then◌else◌, List, [], ◌∷◌, is_some, Option, Some, None}
 use Rattle.std.specs.List.{position_or_len}
 use Rattle.std.specs.Str.{bytes_eq}
 use Rattle.c_tree.specs.declared.program.Base.{Base}
@@ -13,10 +13,10 @@ use Rattle.c_tree.specs.SyntaxTree as tree
 use Rattle.c_tree.specs.SyntaxTree.{SpecsTree, TypeTree, Expression, ExpressionForm, Expressions, no_argument, argument}
 use Rattle.c_tree.specs.TypedTree.{Kind, Expr, Node, Const, Read, AddressOf, Call}
 use Rattle.c_tree.specs.Eval.{kind_of}
-use Rattle.c_types.specs.declared.fault.Rule.TheVariants.{Undeclared, Mismatch, NotConstant, Misplaced, ArgCount}
+use Rattle.c_types.specs.declared.fault.Rule.{Rule}
+use Rattle.c_types.specs.declared.fault.Rule.TheVariants.{Undeclared, Redeclared, Mismatch, NotLvalue, NotConstant, LongConstant, BadPort, ArgCount, Misplaced}
 use Rattle.c_types.specs.declared.meaning.Meaning.{Meaning}
 use Rattle.c_types.specs.declared.meaning.Meaning.TheVariants as meanings
-use Rattle.c_types.specs.declared.meaning.ObjectType.{ObjectType}
 use Rattle.c_types.specs.declared.meaning.ObjectType.TheVariants.{Single, Array}
 use Rattle.c_types.specs.Outcome.{Outcome, Is, Broken, ◌>>=◌, breaks, there_or}
 use Rattle.c_types.specs.Kinds.{int, unsigned, is_void, starred, class_of, pointer_to}
@@ -119,6 +119,42 @@ prefixed prefix.Not is_array at x = negated at x
 abbrev pub place : Expression → ℕ
 place (tree.Node form at) = at
 
+-- an operand that is written, or whose address is taken, isn't an address by its text: the tree of `&*e` is that of `e`
+abbrev pub is_address : Expression → Bool
+is_address (tree.Node (tree.Prefix prefix.Address e) at) = true
+is_address e = false
+
+abbrev pub takes_address : PrefixOp → Bool
+takes_address prefix.Address = true
+takes_address prefix.Pointed = false
+takes_address prefix.Plus = false
+takes_address prefix.Minus = false
+takes_address prefix.Complement = false
+takes_address prefix.Not = false
+
+abbrev pub of_object : Bool → ℕ → Expr → Outcome Expr
+of_object no_object at x = breaks no_object NotLvalue at (Is x)
+
+-- a call isn't constant, which comes before its own port and the number of its arguments
+abbrev pub is_call : Expression → Bool
+is_call (tree.Node (tree.Call name es) at) = true
+is_call e = false
+
+abbrev pub is_of_calls : Rule → Bool
+is_of_calls Undeclared = false
+is_of_calls Redeclared = false
+is_of_calls Mismatch = false
+is_of_calls NotLvalue = false
+is_of_calls NotConstant = false
+is_of_calls LongConstant = false
+is_of_calls BadPort = true
+is_of_calls ArgCount = true
+is_of_calls Misplaced = false
+
+abbrev pub as_constant : Expression → Outcome Expr → Outcome Expr
+as_constant e (Is x) = Is x
+as_constant e (Broken rule at) = if is_call e && at == place e && is_of_calls rule then Broken NotConstant at else Broken rule at
+
 -- the word of an expression that has to be constant
 abbrev pub word_at : Expression → Expr → Outcome ℕ
 word_at e x = there_or NotConstant (place e) (constant e x)
@@ -143,10 +179,10 @@ module _ (s : Scope) where
         if is_in name then typing_input arguments at
         else if is_out name then typing_output arguments at
         else (operands arguments >>= λ xs. called (number_of s name) (s.meaning name) at xs)
-    typing_form (tree.StepAfter up a) at = typing a >>= λ x. stepped_after up at x
+    typing_form (tree.StepAfter up a) at = typing a >>= λ x. stepped_after up at x >>= λ y. of_object (is_address a) at y
     -- before an operand
-    typing_form (tree.StepBefore up a) at = typing a >>= λ x. stepped_before up at x
-    typing_form (tree.Prefix o a) at = typing a >>= λ x. prefixed o (is_some (array_length s a)) at x
+    typing_form (tree.StepBefore up a) at = typing a >>= λ x. stepped_before up at x >>= λ y. of_object (is_address a) at y
+    typing_form (tree.Prefix o a) at = typing a >>= λ x. prefixed o (is_some (array_length s a)) at x >>= λ y. of_object (takes_address o && is_address a) at y
     typing_form (tree.SizeofValue a) at = typing a >>= λ x. sized (array_length s a) at x
     typing_form (tree.SizeofType t) at = type_named t >>= λ kind. breaks (is_void kind) Mismatch t.specs.at (Is (Node (Const 1) (Some unsigned) at))
     typing_form (tree.Cast t a) at = type_named t >>= λ kind. typing a >>= λ x. cast kind at (operand a x)
@@ -155,8 +191,8 @@ module _ (s : Scope) where
     typing_form (tree.And a b) at = typing a >>= λ x. typing b >>= λ y. both_true at x y
     typing_form (tree.Or a b) at = typing a >>= λ x. typing b >>= λ y. either_true at x y
     typing_form (tree.Conditional c a b) at = typing c >>= λ t. typing a >>= λ x. typing b >>= λ y. picked at t (operand a x) (operand b y)
-    typing_form (tree.Assign a b) at = typing a >>= λ x. typing b >>= λ y. assigned at x (operand b y)
-    typing_form (tree.AssignOp o a b) at = typing a >>= λ x. typing b >>= λ y. assigned_by o at x y
+    typing_form (tree.Assign a b) at = typing a >>= λ x. typing b >>= λ y. assigned at x (operand b y) >>= λ z. of_object (is_address a) at z
+    typing_form (tree.AssignOp o a b) at = typing a >>= λ x. typing b >>= λ y. assigned_by o at x y >>= λ z. of_object (is_address a) at z
     typing_form (tree.Comma a b) at = typing a >>= λ x. typing b >>= λ y. Is (behind at x y)
 
     -- arguments, from left to right
@@ -167,8 +203,8 @@ module _ (s : Scope) where
     -- ports, which have to be constant
     pub typing_input : Expressions → ℕ → Outcome Expr
     typing_input no_argument at = Broken ArgCount at
-    typing_input (argument e rest) at = typing e >>= λ x. word_at e x >>= λ port. operands rest >>= λ xs. input at (class_of (kind_of x)) port xs
+    typing_input (argument e rest) at = as_constant e (typing e) >>= λ x. word_at e x >>= λ port. operands rest >>= λ xs. input at (class_of (kind_of x)) port xs
 
     pub typing_output : Expressions → ℕ → Outcome Expr
     typing_output no_argument at = Broken ArgCount at
-    typing_output (argument e rest) at = typing e >>= λ x. word_at e x >>= λ port. operands rest >>= λ xs. output at (class_of (kind_of x)) port xs
+    typing_output (argument e rest) at = as_constant e (typing e) >>= λ x. word_at e x >>= λ port. operands rest >>= λ xs. output at (class_of (kind_of x)) port xs

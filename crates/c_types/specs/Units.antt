@@ -1,9 +1,8 @@
 -- Whole sources: ISO 9899:1990 6.7 (docs/LANGUAGE.md, "Types").
-use Rattle.std.specs.Prelude.{ℕ, suc, ◌+◌, ◌==◌, ◌&&◌, ◌||◌, not, nat_lt, Bool, true, false, if◌then◌else◌, List, [], ◌∷◌, ◌++◌, map, length, slice_get, slice_set, is_some, is_none, unwrap_or, Option, Some, None}
+use Rattle.std.specs.Prelude.{ℕ, suc, ◌==◌, ◌&&◌, ◌||◌, not, nat_lt, Bool, true, false, if◌then◌else◌, List, [], ◌∷◌, ◌++◌, length, slice_get, slice_set, is_some, is_none, unwrap_or, Option, Some, None}
 use Rattle.std.specs.Str.{bytes_eq}
 use Rattle.c_tree.specs.declared.program.Base.{Base}
 use Rattle.c_tree.specs.declared.program.ScalarType.{ScalarType}
-use Rattle.c_tree.specs.declared.program.VarRef.{VarRef}
 use Rattle.c_tree.specs.declared.program.VarRef.TheVariants as refs
 use Rattle.c_tree.specs.declared.program.Initial.{Initial}
 use Rattle.c_tree.specs.SyntaxTree as tree
@@ -20,14 +19,15 @@ use Rattle.c_types.specs.declared.meaning.ObjectType.TheVariants.{Single, Array}
 use Rattle.c_types.specs.declared.declarations.Declared.{Declared}
 use Rattle.c_types.specs.declared.declarations.Declared.TheVariants as declares
 use Rattle.c_types.specs.Outcome.{Outcome, Is, Broken, ◌>>=◌, breaks}
-use Rattle.c_types.specs.Kinds.{starred, same_type, same_kind, is_void}
+use Rattle.c_types.specs.Kinds.{starred, same_type, same_kind}
 use Rattle.c_types.specs.Scopes.{Scope, no_names, open_scope, declare, is_in, is_out}
 use Rattle.c_types.specs.Typing.{spelled, number_of}
-use Rattle.c_types.specs.Declarations.{reference, with_single, parameters, declarator, Entry, entry, entries, cell, listed}
+use Rattle.c_types.specs.Declarations.{with_single, parameters, declarator, Entry, entry, entries, cell, listed}
 use Rattle.c_types.specs.Statements.{LocalTree, Typed, typed_body}
 
--- an object of file scope, with its list where it is initialised
+-- an object of file scope: its name, its type, and its list where it is initialised
 pub record StaticTree : Type 0 where
+  pub name : List ℕ
   pub object_type : ObjectType
   pub initial : Option (List Initial)
 
@@ -121,15 +121,15 @@ is_initialised statics (Some n) = has_list (slice_get statics n)
 -- the objects with one more, or with the list of one that had none
 abbrev pub with_list : StaticTree → Option (List Initial) → StaticTree
 with_list object None = object
-with_list object (Some is) = record { object_type = object.object_type; initial = Some is }
+with_list object (Some is) = record { name = object.name; object_type = object.object_type; initial = Some is }
 
 abbrev pub set_list : List StaticTree → ℕ → Option StaticTree → Option (List Initial) → List StaticTree
 set_list statics n None is = statics
 set_list statics n (Some object) is = slice_set statics n (with_list object is)
 
-abbrev pub with_static : List StaticTree → Option ℕ → ObjectType → Option (List Initial) → List StaticTree
-with_static statics None type is = statics ++ record { object_type = type; initial = is } ∷ []
-with_static statics (Some n) type is = set_list statics n (slice_get statics n) is
+abbrev pub with_static : List StaticTree → Option ℕ → List ℕ → ObjectType → Option (List Initial) → List StaticTree
+with_static statics None name type is = statics ++ record { name = name; object_type = type; initial = is } ∷ []
+with_static statics (Some n) name type is = set_list statics n (slice_get statics n) is
 
 -- an item of file scope: 6.7.2
 abbrev pub declared_as : File → Scope → Declared → ItemTree → Starts → Outcome File
@@ -137,7 +137,7 @@ declared_as f s declares.Untyped item i = Broken Mismatch item.at
 declared_as f s (declares.Function type) item i = breaks (is_some item.initial) Mismatch item.at
     (Is (record { scope = s; statics = f.statics; functions = f.functions }))
 declared_as f s (declares.Object type) item i = static_list type item.at i >>= λ is.
-    Is (record { scope = s; statics = with_static f.statics (static_number (f.scope.meaning item.name)) type is; functions = f.functions })
+    Is (record { scope = s; statics = with_static f.statics (static_number (f.scope.meaning item.name)) item.name type is; functions = f.functions })
 
 abbrev pub is_twice : File → ItemTree → Bool
 is_twice f item = is_some item.initial && is_initialised f.statics (static_number (f.scope.meaning item.name))
@@ -160,13 +160,13 @@ file_items f b [] = Is f
 file_items f b (item ∷ items) = file_item f b item >>= λ g. file_items g b items
 
 -- the parameters of a function in the scope of its body, the first with this number
-abbrev pub with_parameters : Scope → List VarRef → ℕ → List ParameterTree → List ScalarType → Scope
-with_parameters s known n (p ∷ ps) (kind ∷ kinds) =
-    with_parameters (with_single s p.name (reference known n) kind) known (suc n) ps kinds
-with_parameters s known n ps kinds = s
+abbrev pub with_parameters : Scope → ℕ → List ParameterTree → List ScalarType → Scope
+with_parameters s n (p ∷ ps) (kind ∷ kinds) = with_parameters (with_single s p.name (refs.Local n) kind) (suc n) ps kinds
+with_parameters s n ps kinds = s
 
-abbrev pub parameter_locals : List ScalarType → List LocalTree
-parameter_locals kinds = map (λ kind. record { object_type = Single kind; values = [] }) kinds
+abbrev pub parameter_locals : List ParameterTree → List ScalarType → List LocalTree
+parameter_locals (p ∷ ps) (kind ∷ kinds) = record { name = unwrap_or p.name []; object_type = Single kind; values = [] } ∷ parameter_locals ps kinds
+parameter_locals ps kinds = []
 
 -- a body, behind the name of its function and its parameters
 abbrev pub with_function : File → List ℕ → Kind → List ScalarType → Typed Stmt → File
@@ -176,9 +176,9 @@ with_function file name result kinds r = record {
   functions = file.functions ++ record { name = name; result = result; parameters = length kinds; locals = r.locals; body = r.tree } ∷ [];
 }
 
-abbrev pub with_body : File → List VarRef → FunctionSyntax → Kind → List ScalarType → Outcome File
-with_body file known f result kinds =
-    typed_body known result (with_parameters (open_scope file.scope) known 0 f.parameters.list kinds) (parameter_locals kinds) f.declarations f.statements
+abbrev pub with_body : File → FunctionSyntax → Kind → List ScalarType → Outcome File
+with_body file f result kinds =
+    typed_body result (with_parameters (open_scope file.scope) 0 f.parameters.list kinds) (parameter_locals f.parameters.list kinds) f.declarations f.statements
     >>= λ r. Is (with_function file f.name result kinds r)
 
 -- a function with its body: 6.7.1
@@ -192,25 +192,21 @@ behind_name file name type = record {
   functions = file.functions;
 }
 
-abbrev pub function_as : File → List VarRef → FunctionSyntax → FunctionType → Outcome File
-function_as file known f type = with_body (behind_name file f.name type) known f type.result type.parameters >>= λ g.
+abbrev pub function_as : File → FunctionSyntax → FunctionType → Outcome File
+function_as file f type = with_body (behind_name file f.name type) f type.result type.parameters >>= λ g.
     breaks (not (may_declare file.scope f.name (declares.Function type)) || is_defined file f.name) Redeclared f.at (Is g)
 
-abbrev pub file_function : File → List VarRef → FunctionSyntax → Outcome File
-file_function file known f = spelled f.specs >>= λ b. parameters (open_scope file.scope) Needed f.parameters.list >>= λ kinds.
-    function_as file known f (record { result = starred b f.stars; parameters = kinds })
+abbrev pub file_function : File → FunctionSyntax → Outcome File
+file_function file f = spelled f.specs >>= λ b. parameters (open_scope file.scope) Needed f.parameters.list >>= λ kinds.
+    function_as file f (record { result = starred b f.stars; parameters = kinds })
 
--- what the objects of each function stand for, as far as that is known
-abbrev pub known_of : List (List VarRef) → ℕ → List VarRef
-known_of known n = unwrap_or (slice_get known n) []
+abbrev pub external : File → ExternalTree → Outcome File
+external file (Defined f) = file_function file f
+external file (tree.Declared d) = spelled d.specs >>= λ b. file_items file b d.items
 
-abbrev pub external : List (List VarRef) → File → ExternalTree → Outcome File
-external known file (Defined f) = file_function file (known_of known (length file.functions)) f
-external known file (tree.Declared d) = spelled d.specs >>= λ b. file_items file b d.items
-
-abbrev pub externals : List (List VarRef) → File → UnitTree → Outcome File
-externals known file [] = Is file
-externals known file (x ∷ xs) = external known file x >>= λ g. externals known g xs
+abbrev pub externals : File → UnitTree → Outcome File
+externals file [] = Is file
+externals file (x ∷ xs) = external file x >>= λ g. externals g xs
 
 -- the names of the functions with bodies, each where it stands first
 abbrev pub is_among : List ℕ → List (List ℕ) → Bool
@@ -226,5 +222,5 @@ abbrev pub empty_file : UnitTree → File
 empty_file unit = record { scope = no_names (bodies_behind [] unit); statics = []; functions = [] }
 
 -- a whole source
-abbrev pub typed_unit : List (List VarRef) → UnitTree → Outcome File
-typed_unit known unit = externals known (empty_file unit) unit
+abbrev pub typed_unit : UnitTree → Outcome File
+typed_unit unit = externals (empty_file unit) unit

@@ -1,13 +1,11 @@
--- The pure operands, declarations, bodies and functions that the checker's stand for.
+-- The pure declarations, bodies and functions that the checker's stand for.
 use Rattle.std.specs.Prelude.{List, [], ◌∷◌, map, Option, Some, None, Vec}
 use Rattle.c_tree.specs.declared.typed_statement.TypedStmt.{TypedStmt}
 use Rattle.std.specs.Global.{Global}
 use Rattle.c_tree.specs.declared.program.VarRef.{VarRef}
 use Rattle.c_tree.specs.TypedTree.{Stmt}
-use Rattle.c_tree.specs.View.{expr_of, stmt_of}
+use Rattle.c_tree.specs.View.{stmt_of}
 use Rattle.c_types.specs.declared.functions.TypedFunction as functions
-use Rattle.c_types.specs.declared.operands.Operand as memory
-use Rattle.c_types.specs.declared.operands.Pair as pairs
 use Rattle.c_types.specs.declared.initialisers.Entry as listed
 use Rattle.c_types.specs.declared.initialisers.Initialiser as initialisers
 use Rattle.c_types.specs.declared.initialisers.Initialiser.TheVariants as initial
@@ -19,17 +17,11 @@ use Rattle.c_types.specs.declared.units.Static as statics
 use Rattle.c_types.specs.declared.units.Starts as given
 use Rattle.c_types.specs.declared.units.Starts.TheVariants as first
 use Rattle.c_types.specs.declared.units.File as files
-use Rattle.c_types.specs.Operands.{Operand, Pair}
+use Rattle.c_types.specs.OperandView.{operand_of}
 use Rattle.c_types.specs.Tables.{scope_of}
 use Rattle.c_types.specs.Declarations.{Entry}
 use Rattle.c_types.specs.Units.{TypedFunction, StaticTree, Starts, NoStart, One, Braced, File}
 use Rattle.c_types.specs.Statements.{LocalTree, Initialiser, Absent, Value, Listed, Misbraced, Start, Opened}
-
-abbrev pub operand_of : memory.Operand → Operand
-operand_of x = record { value = expr_of x.value; null = x.null }
-
-abbrev pub pair_of : pairs.Pair → Pair
-pair_of p = record { left = expr_of p.left; right = expr_of p.right }
 
 abbrev pub entry_of : listed.Entry → Entry
 entry_of e = record { operand = operand_of e.operand; initial = e.initial }
@@ -49,7 +41,7 @@ abbrev pub start_of : starts.Start → Start
 start_of s = record { values = s.values; statements = first_value s.statement }
 
 abbrev pub local_tree_of : locals.Local → LocalTree
-local_tree_of l = record { object_type = l.object_type; values = l.values }
+local_tree_of l = record { name = l.name; object_type = l.object_type; values = l.values }
 
 -- the objects of a function so far
 abbrev pub locals_of : bodies.Body → List LocalTree
@@ -75,7 +67,7 @@ typed_function_of f = record {
 
 -- a file
 abbrev pub static_tree_of : statics.Static → StaticTree
-static_tree_of s = record { object_type = s.object_type; initial = s.initial }
+static_tree_of s = record { name = s.name; object_type = s.object_type; initial = s.initial }
 
 abbrev pub starts_of : given.Starts → Starts
 starts_of first.Absent = NoStart
@@ -90,5 +82,5 @@ file_of f = record {
 }
 
 -- what the objects of each function stand for
-abbrev pub known_lists : List (Vec VarRef Global) → List (List VarRef)
-known_lists known = map (λ v. v.items) known
+abbrev pub frame_lists : List (Vec VarRef Global) → List (List VarRef)
+frame_lists frames = map (λ v. v.items) frames

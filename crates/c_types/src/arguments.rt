@@ -8,7 +8,7 @@ ghost use Rattle.c_types.specs.Kinds.{is_void, int};
 ghost use Rattle.c_types.specs.Outcome.{Is};
 ghost use Rattle.c_types.specs.Answers.{Refuses};
 ghost use Rattle.c_types.specs.Operands as rules;
-ghost use Rattle.c_types.specs.View.{operand_of};
+ghost use Rattle.c_types.specs.OperandView.{operand_of};
 ghost use Rattle.c_types.specs.declared.fault.Refusal.TheVariants as refusals;
 ghost use Rattle.c_types.specs.declared.fault.Rule.TheVariants as rule;
 

@@ -4,7 +4,6 @@ ghost use Rattle.c_tree.specs.SyntaxView.{item_of, declaration_of};
 ghost use Rattle.c_types.specs.declared.fault.Refusal.TheVariants as refusals;
 ghost use Rattle.c_types.specs.declared.fault.Rule.TheVariants as rule;
 ghost use Rattle.c_types.specs.Answers.{Refuses};
-ghost use Rattle.c_types.specs.Declarations as names;
 ghost use Rattle.c_types.specs.Outcome.{Is, Broken, breaks};
 ghost use Rattle.c_types.specs.Statements as rules;
 ghost use Rattle.c_types.specs.Tables.{scope_of, around_of};
@@ -24,8 +23,6 @@ use word_base::Text;
 #[derive(Drop)]
 pub(crate) struct Body<'a> {
     pub(crate) scopes: Scopes<'a>,
-    /// What the objects of the function stand for in the end, where that is known.
-    pub(crate) known: &'a [VarRef],
     pub(crate) locals: Vec<Local>,
     /// The type of the function's value, or `None` where it is void.
     pub(crate) result: Option<ScalarType>,
@@ -36,16 +33,6 @@ pub(crate) struct Body<'a> {
 pub(crate) struct Opening {
     pub(crate) declared: Vec<VarRef>,
     pub(crate) statements: Vec<TypedStmt>,
-}
-
-/// What an object of this number stands for: a local object where it isn't known yet.
-pub(crate) fn reference_in(known: &[VarRef], number: u32) -> VarRef
-    ensures { result ≡ names.reference known.now number }
-{
-    match known.get(number as usize) {
-        Some(reference) => *reference,
-        None => VarRef::Local(number),
-    }
 }
 
 // A function can't be declared in a block, and has no initialiser anywhere.
@@ -95,18 +82,17 @@ impl<'a> Body<'a> {
         base: Base,
         item: &'a Item,
     ) -> Result<Opening, Refusal>
-        ensures typed { IfOk result (λ o. rules.block_item self.old.known.now (opened_of self.old opening) base (item_of item.now) ≡ Is (opened_of self.new o)) }
-        ensures refused { IfErr result (Refuses (rules.block_item self.old.known.now (opened_of self.old opening) base (item_of item.now))) }
+        ensures typed { IfOk result (λ o. rules.block_item (opened_of self.old opening) base (item_of item.now) ≡ Is (opened_of self.new o)) }
+        ensures refused { IfErr result (Refuses (rules.block_item (opened_of self.old opening) base (item_of item.now))) }
         ensures around { OnOk result (around_of self.new.scopes ≡ around_of self.old.scopes) }
         ensures bodies { self.new.scopes.bodies ≡ self.old.scopes.bodies }
-        ensures known { self.new.known ≡ self.old.known }
         ensures returned { self.new.result ≡ self.old.result }
     {
         // No source that the parser gives has more objects than can be counted.
         let Ok(number) = u32::try_from(self.locals.len()) else {
             return Err(Refusal::NoMemory);
         };
-        let reference = reference_in(self.known, number);
+        let reference = VarRef::Local(number);
         let name = item.name.as_str();
         let declared = self.scopes.declarator(base, item)?;
         let is_taken = self.scopes.is_taken(name);
@@ -136,7 +122,6 @@ impl<'a> Body<'a> {
         ensures typed { IfOk result (λ o. rules.declared_as (opened_of self.old opening) (scope_of self.old.scopes) reference (Declared.Object object_type) (item_of item.now) (initialiser_of initialiser) ≡ Is (opened_of self.new o)) }
         ensures refused { IfErr result (Refuses (rules.declared_as (opened_of self.old opening) (scope_of self.old.scopes) reference (Declared.Object object_type) (item_of item.now) (initialiser_of initialiser))) }
         ensures scopes { self.new.scopes ≡ self.old.scopes }
-        ensures known { self.new.known ≡ self.old.known }
         ensures returned { self.new.result ≡ self.old.result }
     {
         let alloc = self.scopes.alloc;
@@ -160,11 +145,10 @@ impl<'a> Body<'a> {
         base: Base,
         list: &'a [Item],
     ) -> Result<Opening, Refusal>
-        ensures typed { IfOk result (λ o. rules.block_items self.old.known.now (opened_of self.old opening) base (map item_of list.now) ≡ Is (opened_of self.new o)) }
-        ensures refused { IfErr result (Refuses (rules.block_items self.old.known.now (opened_of self.old opening) base (map item_of list.now))) }
+        ensures typed { IfOk result (λ o. rules.block_items (opened_of self.old opening) base (map item_of list.now) ≡ Is (opened_of self.new o)) }
+        ensures refused { IfErr result (Refuses (rules.block_items (opened_of self.old opening) base (map item_of list.now))) }
         ensures around { OnOk result (around_of self.new.scopes ≡ around_of self.old.scopes) }
         ensures bodies { self.new.scopes.bodies ≡ self.old.scopes.bodies }
-        ensures known { self.new.known ≡ self.old.known }
         ensures returned { self.new.result ≡ self.old.result }
     {
         for item in list {
@@ -179,11 +163,10 @@ impl<'a> Body<'a> {
         mut opening: Opening,
         list: &'a [Decl],
     ) -> Result<Opening, Refusal>
-        ensures typed { IfOk result (λ o. rules.declarations self.old.known.now (opened_of self.old opening) (map declaration_of list.now) ≡ Is (opened_of self.new o)) }
-        ensures refused { IfErr result (Refuses (rules.declarations self.old.known.now (opened_of self.old opening) (map declaration_of list.now))) }
+        ensures typed { IfOk result (λ o. rules.declarations (opened_of self.old opening) (map declaration_of list.now) ≡ Is (opened_of self.new o)) }
+        ensures refused { IfErr result (Refuses (rules.declarations (opened_of self.old opening) (map declaration_of list.now))) }
         ensures around { OnOk result (around_of self.new.scopes ≡ around_of self.old.scopes) }
         ensures bodies { self.new.scopes.bodies ≡ self.old.scopes.bodies }
-        ensures known { self.new.known ≡ self.old.known }
         ensures returned { self.new.result ≡ self.old.result }
     {
         for declaration in list {

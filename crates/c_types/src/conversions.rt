@@ -6,7 +6,7 @@ ghost use Rattle.c_types.specs.declared.fault.Refusal.TheVariants as refusals;
 ghost use Rattle.c_types.specs.Outcome.{Is};
 ghost use Rattle.c_types.specs.Answers.{Refuses};
 ghost use Rattle.c_types.specs.Operands as rules;
-ghost use Rattle.c_types.specs.View.{operand_of, pair_of};
+ghost use Rattle.c_types.specs.OperandView.{operand_of, pair_of};
 
 use crate::fault::{Refusal, mismatch};
 use crate::kinds::{

@@ -107,7 +107,7 @@ impl<'a> Scopes<'a> {
         ensures typed { IfOk result (λ n. rules.typed_length (scope_of self.now) (expression_of e.now) ≡ Is n) }
         ensures refused { IfErr result (Refuses (rules.typed_length (scope_of self.now) (expression_of e.now))) }
     {
-        let value = self.expression(e)?;
+        let value = self.constant_tree(e)?;
         let word = word_at(e, &value)?;
         Ok(length_within(word))
     }

@@ -1,17 +1,18 @@
 //! The typed tree of an expression: ISO 9899:1990 6.3.
 ghost use Rattle.std.specs.Prelude.{◌≡◌, IfOk, IfErr, map, Some};
 ghost use Rattle.c_tree.specs.View.{expr_of};
+ghost use Rattle.c_tree.specs.TypedTree as typed;
 ghost use Rattle.c_tree.specs.TypedTree.{Node, Const};
 ghost use Rattle.c_tree.specs.SyntaxTree as tree;
 ghost use Rattle.c_tree.specs.SyntaxView.{expression_of, trees_of, type_of};
 ghost use Rattle.c_types.specs.declared.fault.Rule.TheVariants as rule;
-ghost use Rattle.c_types.specs.Outcome.{Is, breaks};
+ghost use Rattle.c_types.specs.Outcome.{Outcome, Is, breaks};
 ghost use Rattle.c_types.specs.Answers.{Refuses};
 ghost use Rattle.c_types.specs.Kinds.{int, is_void, unsigned};
 ghost use Rattle.c_types.specs.Operands as operators;
 ghost use Rattle.c_types.specs.Tables.{scope_of};
 ghost use Rattle.c_types.specs.Typing as rules;
-ghost use Rattle.c_types.specs.View.{operand_of};
+ghost use Rattle.c_types.specs.OperandView.{operand_of};
 
 use crate::arguments::{input, output};
 use crate::constants::constant;
@@ -24,7 +25,7 @@ use crate::operands::{
 use crate::scopes::{Scopes, is_in, is_out};
 use crate::type_words::{is_null, type_named};
 use crate::writes::{
-    address, assigned, assigned_by, indexed, loaded, stepped_after, stepped_before,
+    address, assigned, assigned_by, indexed, loaded, not_lvalue, stepped_after, stepped_before,
 };
 use c_tree::{
     BinaryOp, Expr, ExprForm, ExprKind, PrefixOp, ScalarType, TypeName, TypedExpr, UnaryOp,
@@ -100,7 +101,8 @@ impl<'a> Scopes<'a> {
         ensures typed { IfOk result (λ x. rules.typing_form (scope_of self.now) (tree.StepAfter up (expression_of operand.now)) at ≡ Is (expr_of x)) }
         ensures refused { IfErr result (Refuses (rules.typing_form (scope_of self.now) (tree.StepAfter up (expression_of operand.now)) at)) }
     {
-        stepped_after(up, at, self.expression(operand)?)
+        let stepped = stepped_after(up, at, self.expression(operand)?)?;
+        of_object(is_address(operand), at, stepped)
     }
 
     #[cycle(expressions)]
@@ -108,7 +110,8 @@ impl<'a> Scopes<'a> {
         ensures typed { IfOk result (λ x. rules.typing_form (scope_of self.now) (tree.StepBefore up (expression_of operand.now)) at ≡ Is (expr_of x)) }
         ensures refused { IfErr result (Refuses (rules.typing_form (scope_of self.now) (tree.StepBefore up (expression_of operand.now)) at)) }
     {
-        stepped_before(up, at, self.expression(operand)?)
+        let stepped = stepped_before(up, at, self.expression(operand)?)?;
+        of_object(is_address(operand), at, stepped)
     }
 
     #[cycle(expressions)]
@@ -118,7 +121,8 @@ impl<'a> Scopes<'a> {
     {
         let value = self.expression(operand)?;
         let is_array = self.array_length(operand).is_some();
-        prefixed(self.alloc, op, is_array, at, value)
+        let typed = prefixed(self.alloc, op, is_array, at, value)?;
+        of_object(takes_address(op) && is_address(operand), at, typed)
     }
 
     #[cycle(expressions)]
@@ -188,7 +192,8 @@ impl<'a> Scopes<'a> {
     {
         let to = self.expression(left)?;
         let value = self.operand(right)?;
-        assigned(self.alloc, at, to, value)
+        let written = assigned(self.alloc, at, to, value)?;
+        of_object(is_address(left), at, written)
     }
 
     #[cycle(expressions)]
@@ -204,7 +209,8 @@ impl<'a> Scopes<'a> {
     {
         let to = self.expression(left)?;
         let value = self.expression(right)?;
-        assigned_by(self.alloc, op, at, to, value)
+        let written = assigned_by(self.alloc, op, at, to, value)?;
+        of_object(is_address(left), at, written)
     }
 
     #[cycle(expressions)]
@@ -248,7 +254,10 @@ impl<'a> Scopes<'a> {
                 at,
             });
         };
-        let value = self.expression(first)?;
+        let value = match self.expression(first) {
+            Ok(value) => value,
+            Err(refusal) => return Err(self.refused_as_constant(first, refusal)),
+        };
         let port = word_at(first, &value)?;
         Ok(PortCall {
             class: class_of(value.kind),
@@ -268,6 +277,25 @@ impl<'a> Scopes<'a> {
             operands.push(self.operand(e)?)?;
         }
         Ok(operands)
+    }
+
+    // How an expression that has to be constant is refused, where its tree is refused as this.
+    fn refused_as_constant(&self, e: &Expr, refusal: Refusal) -> Refusal
+        requires { Refuses (rules.typing (scope_of self.now) (expression_of e.now)) refusal }
+        ensures { Refuses (rules.as_constant (expression_of e.now) (rules.typing (scope_of self.now) (expression_of e.now))) result }
+    {
+        as_constant(e, refusal)
+    }
+
+    /// The typed tree of an expression that has to be constant.
+    pub(crate) fn constant_tree(&self, e: &Expr) -> Result<TypedExpr, Refusal>
+        ensures typed { IfOk result (λ x. rules.as_constant (expression_of e.now) (rules.typing (scope_of self.now) (expression_of e.now)) ≡ Is (expr_of x)) }
+        ensures refused { IfErr result (Refuses (rules.as_constant (expression_of e.now) (rules.typing (scope_of self.now) (expression_of e.now)))) }
+    {
+        match self.expression(e) {
+            Ok(value) => Ok(value),
+            Err(refusal) => Err(self.refused_as_constant(e, refusal)),
+        }
     }
 }
 
@@ -319,6 +347,81 @@ fn size_of_type(kind: Option<ScalarType>, words_at: u32, at: u32) -> Result<Type
         kind: Some(UNSIGNED),
         at,
     })
+}
+
+// Whether an expression is an address by its text.
+fn is_address(e: &Expr) -> bool
+    ensures { result ≡ rules.is_address (expression_of e.now) }
+{
+    match &e.kind {
+        ExprKind::Prefix { op, .. } => takes_address(*op),
+        _ => false,
+    }
+}
+
+fn takes_address(op: PrefixOp) -> bool
+    ensures { result ≡ rules.takes_address op }
+{
+    match op {
+        PrefixOp::Address => true,
+        PrefixOp::Pointed
+        | PrefixOp::Plus
+        | PrefixOp::Minus
+        | PrefixOp::Complement
+        | PrefixOp::Not => false,
+    }
+}
+
+// What writes to an operand or takes its address, unless the operand is no object by its text: the tree of `&*e` is that of `e`.
+fn of_object(no_object: bool, at: u32, typed: TypedExpr) -> Result<TypedExpr, Refusal>
+    ensures typed { IfOk result (λ x. rules.of_object no_object at (expr_of typed) ≡ Is (expr_of x)) }
+    ensures refused { IfErr result (Refuses (rules.of_object no_object at (expr_of typed))) }
+{
+    if no_object {
+        return Err(not_lvalue(at));
+    }
+    Ok(typed)
+}
+
+// What a refusal becomes where an expression has to be constant: a call isn't, whatever its port and the number of its arguments.
+fn as_constant(e: &Expr, refusal: Refusal) -> Refusal
+    ensures { (o : Outcome typed.Expr) → Refuses o refusal → Refuses (rules.as_constant (expression_of e.now) o) result }
+{
+    let Refusal::Broken { rule, at } = refusal else {
+        return refusal;
+    };
+    if is_call(e) && at == e.at && is_of_calls(rule) {
+        return Refusal::Broken {
+            rule: Rule::NotConstant,
+            at,
+        };
+    }
+    refusal
+}
+
+fn is_call(e: &Expr) -> bool
+    ensures { result ≡ rules.is_call (expression_of e.now) }
+{
+    match &e.kind {
+        ExprKind::Call { .. } => true,
+        _ => false,
+    }
+}
+
+// The rules that calls alone break.
+fn is_of_calls(rule: Rule) -> bool
+    ensures { result ≡ rules.is_of_calls rule }
+{
+    match rule {
+        Rule::BadPort | Rule::ArgCount => true,
+        Rule::Undeclared
+        | Rule::Redeclared
+        | Rule::Mismatch
+        | Rule::NotLvalue
+        | Rule::NotConstant
+        | Rule::LongConstant
+        | Rule::Misplaced => false,
+    }
 }
 
 /// The word of an expression that has to be constant, which is typed as this.

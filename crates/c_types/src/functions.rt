@@ -2,13 +2,14 @@
 ghost use Rattle.std.specs.Prelude.{◌≡◌, ◌∷◌, List, IfOk, map};
 ghost use Rattle.c_tree.specs.View.{function_of as tree_of, object_of};
 ghost use Rattle.c_types.specs.Programs as programs;
-ghost use Rattle.c_types.specs.Programs.{function_tree, scalars_in, objects_in, local_object};
+ghost use Rattle.c_types.specs.Programs.{function_with, scalars_in, objects_in, local_object};
 ghost use Rattle.c_types.specs.Statements.{LocalTree};
 ghost use Rattle.c_types.specs.Storage.{with_scalars, with_objects};
 ghost use Rattle.c_types.specs.View.{local_tree_of, typed_function_of};
 
 use crate::local::Local;
 use crate::meaning::ObjectType;
+use crate::renumber::renumber;
 use c_tree::{Function, Object, ScalarType, TypedStmt, VarRef};
 use std::alloc::Global;
 use word_base::{Items, NoMemory, Text};
@@ -29,11 +30,12 @@ pub(crate) struct TypedFunction {
 pub(crate) fn function_of(
     alloc: Global,
     mut references: Vec<VarRef>,
-    f: TypedFunction,
+    mut f: TypedFunction,
 ) -> Result<Function, NoMemory>
-    ensures { IfOk result (λ made. tree_of made ≡ function_tree references.items (typed_function_of f)) }
+    ensures { IfOk result (λ made. tree_of made ≡ function_with references.items (typed_function_of f)) }
 {
     let storage = split(alloc, &references, f.locals)?;
+    renumber(&references, &mut f.body);
     references.truncate(f.parameters);
     Ok(Function {
         name: f.name,

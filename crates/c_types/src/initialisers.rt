@@ -8,13 +8,15 @@ ghost use Rattle.c_types.specs.Declarations as rules;
 ghost use Rattle.c_types.specs.Outcome.{Is};
 ghost use Rattle.c_types.specs.Statements as blocks;
 ghost use Rattle.c_types.specs.Tables.{scope_of};
-ghost use Rattle.c_types.specs.View.{operand_of, entry_of, initialiser_of, start_of};
+ghost use Rattle.c_types.specs.OperandView.{operand_of};
+ghost use Rattle.c_types.specs.View.{entry_of, initialiser_of, start_of};
 
 use crate::constants::constant;
 use crate::conversions::given;
 use crate::fault::{Refusal, Rule, mismatch};
 use crate::meaning::{Meaning, ObjectType};
 use crate::operands::Operand;
+use crate::renumber::number_in;
 use crate::scopes::Scopes;
 use crate::type_words::is_null;
 use c_tree::{
@@ -163,7 +165,7 @@ impl<'a> Scopes<'a> {
         ensures typed { IfOk result (λ x. rules.entry (scope_of self.now) (expression_of e.now) ≡ Is (entry_of x)) }
         ensures refused { IfErr result (Refuses (rules.entry (scope_of self.now) (expression_of e.now))) }
     {
-        let value = self.expression(e)?;
+        let value = self.constant_tree(e)?;
         let initial = self.static_value(e, &value).ok_or(Refusal::Broken {
             rule: Rule::NotConstant,
             at: e.at,
@@ -282,15 +284,6 @@ pub(crate) fn listed(
     }
     let values = cells(alloc, kind, at, entries)?;
     Ok(Items::new(values))
-}
-
-fn number_in(reference: VarRef) -> u32
-    ensures { result ≡ blocks.number_in reference }
-{
-    match reference {
-        VarRef::Scalar(number) => u32::from(number),
-        VarRef::Local(number) | VarRef::Static(number) => number,
-    }
 }
 
 // The start of a scalar, which is assigned to.

@@ -8,7 +8,7 @@ ghost use Rattle.c_types.specs.Outcome.{Is};
 ghost use Rattle.c_types.specs.Answers.{Refuses};
 ghost use Rattle.c_types.specs.Tables.{scope_of};
 ghost use Rattle.c_types.specs.Typing as rules;
-ghost use Rattle.c_types.specs.View.{operand_of};
+ghost use Rattle.c_types.specs.OperandView.{operand_of};
 
 use crate::arguments::passed;
 use crate::fault::{Refusal, Rule, mismatch};

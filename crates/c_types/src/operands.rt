@@ -9,7 +9,7 @@ ghost use Rattle.c_types.specs.Kinds.{class_of};
 ghost use Rattle.c_types.specs.Outcome.{Is};
 ghost use Rattle.c_types.specs.Answers.{Refuses};
 ghost use Rattle.c_types.specs.Operands as rules;
-ghost use Rattle.c_types.specs.View.{operand_of, pair_of};
+ghost use Rattle.c_types.specs.OperandView.{operand_of, pair_of};
 
 use crate::conversions::{balanced, met};
 use crate::fault::{Refusal, Rule, mismatch};

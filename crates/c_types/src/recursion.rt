@@ -1,193 +1,183 @@
-//! The chain of calls by which a function reaches itself.
+//! The first function that reaches itself by calls, and the first of its ways round.
+ghost use Rattle.std.specs.Prelude.{◌≡◌, ◌<◌, ◌≤◌, ◌+◌, ◌∷◌, [], ℕ, map, length, replicate, false, ◌≢◌, slice_get, vec_items, IfOk, MatchOption};
+ghost use Rattle.std.specs.List.{All, AllZip};
+ghost use Rattle.c_types.specs.Calls.{called, CallsAmong, IsOrdered, AreOrdered};
+ghost use Rattle.c_types.specs.Chains.{name_of};
+ghost use Rattle.c_types.specs.Rounds.{IsRound, IsFirstChain, HasNoRound, NoneBelow};
+ghost use Rattle.c_types.specs.Trails.{Reached, IsLinked, HasSearched, trail_of, way_at};
+ghost use Rattle.c_types.specs.View.{typed_function_of};
+
 use crate::functions::TypedFunction;
 use crate::uses::Use;
 use std::alloc::Global;
 use word_base::{Items, NoMemory, Text};
 
-/// The numbers of the functions that each function calls, in rising order.
-#[derive(Drop)]
-struct Callees {
-    alloc: Global,
-    lists: Vec<Vec<u16>>,
+/// A function that a search has reached, and the place of the one whose call it was reached by. The search starts at the one
+/// that has none.
+#[derive(Clone, Copy)]
+struct Step {
+    function: usize,
+    from: Option<usize>,
 }
 
-/// The functions that are reached by calls from one, the nearest first and, of equally near ones, in the order of the shortest
-/// ways to them.
+/// A search for the first way by which a function reaches itself. It goes by the number of calls, and then by the order of
+/// definition.
 #[derive(Drop)]
-struct Reached {
-    order: Vec<u16>,
-    // For each function, the one before it on the way. Only those that are reached have one.
-    before: Vec<Option<u16>>,
+struct Search {
+    /// The functions that are reached, in the order of the ways to them.
+    steps: Vec<Step>,
+    /// Which functions are reached by a call.
+    entered: Vec<bool>,
 }
 
-/// The names of the first function that reaches itself, of those on the shortest way round, and of the first again. Of the
-/// shortest ways it is the least by the numbers of the functions. There is none where no function reaches itself.
-pub(crate) fn chain_of(
+/// The numbers of the first function that reaches itself by calls, of those on the first of its ways round, and of itself again.
+/// None, where no function reaches itself. Each function that is called is among those whose uses are given.
+pub(crate) fn first_round(alloc: Global, uses: &[Vec<Use>]) -> Result<Option<Vec<usize>>, NoMemory>
+    requires { (n m : ℕ) → CallsAmong (map called (map vec_items uses.now)) n m → m < length uses.now }
+    ensures { IfOk result (λ found. MatchOption found (HasNoRound (CallsAmong (map called (map vec_items uses.now)))) (λ numbers. IsFirstChain (CallsAmong (map called (map vec_items uses.now))) numbers.items)) }
+{
+    let callees = all_callees(alloc, uses)?;
+    let mut search = Search {
+        steps: Vec::new(alloc),
+        entered: vec![in alloc; false; uses.len()]?,
+    };
+    for first in 0..uses.len() {
+        if let Some(round) = search.round(alloc, first, &callees)? {
+            return Ok(Some(round));
+        }
+    }
+    Ok(None)
+}
+
+/// The names of functions, by their numbers. Each number is that of a function.
+pub(crate) fn names_of(
     alloc: Global,
     functions: &[TypedFunction],
-    uses: &[Vec<Use>],
-) -> Result<Items<Text>, NoMemory> {
-    let callees = Callees::of(alloc, uses)?;
+    numbers: &[usize],
+) -> Result<Items<Text>, NoMemory>
+    requires { All (λ n. n < length functions.now) numbers.now }
+    ensures { IfOk result (λ names. map Some names ≡ map (name_of (map typed_function_of functions.now)) numbers.now) }
+{
     let mut names = Vec::new(alloc);
-    for number in callees.first_way_round()? {
-        if let Some(f) = functions.get(usize::from(number)) {
-            names.push(Text::copy_of(alloc, f.name.as_str())?)?;
-        }
+    for number in numbers {
+        let function = &functions[*number];
+        names.push(Text::copy_of(alloc, function.name.as_str())?)?;
     }
     Ok(Items::new(names))
 }
 
-impl Callees {
-    fn of(alloc: Global, uses: &[Vec<Use>]) -> Result<Self, NoMemory> {
-        let mut lists = Vec::new(alloc);
-        for list in uses {
-            lists.push(called_by(alloc, list)?)?;
-        }
-        Ok(Callees { alloc, lists })
-    }
-
-    fn of_one(&self, number: u16) -> &[u16] {
-        match self.lists.get(usize::from(number)) {
-            Some(list) => list,
-            None => &[],
-        }
-    }
-
-    // The way of the first function that reaches itself.
-    fn first_way_round(&self) -> Result<Vec<u16>, NoMemory> {
-        let callers = self.callers_on_rounds()?;
-        for (number, count) in callers.iter().enumerate() {
-            if *count > 0 {
-                let way = self.way_round(number_of(number))?;
-                if !way.is_empty() {
-                    return Ok(way);
-                }
-            }
-        }
-        Ok(Vec::new(self.alloc))
-    }
-
-    // How often each function is called, where calls by functions that nobody calls are left out again and again. What isn't
-    // called then reaches itself by no way.
-    fn callers_on_rounds(&self) -> Result<Vec<u32>, NoMemory> {
-        let mut callers = self.callers()?;
-        let mut idle = uncalled(self.alloc, &callers)?;
-        for _ in 0..self.lists.len() {
-            let Some(number) = idle.pop() else {
-                break;
+impl Search {
+    // The first way round of a function, with it at both ends, where none before it reaches itself.
+    fn round(
+        &mut self,
+        alloc: Global,
+        first: usize,
+        callees: &[Vec<u16>],
+    ) -> Result<Option<Vec<usize>>, NoMemory>
+        requires ordered { AreOrdered (map vec_items callees.now) }
+        requires size { length self.old.entered.items ≡ length callees.now }
+        requires first { first < length callees.now }
+        requires earlier { NoneBelow (CallsAmong (map vec_items callees.now)) first }
+        ensures size { IfOk result (λ _. length self.new.entered.items ≡ length self.old.entered.items) }
+        ensures found { IfOk result (λ found. MatchOption found (NoneBelow (CallsAmong (map vec_items callees.now)) (first + 1)) (λ numbers. IsFirstChain (CallsAmong (map vec_items callees.now)) numbers.items)) }
+    {
+        self.start(first)?;
+        // The places end before the numbers do, so this only ends inside.
+        for place in 0..usize::MAX {
+            let Some(step) = self.steps.get(place) else {
+                return Ok(None);
             };
-            self.leave_out(number, &mut callers, &mut idle)?;
+            if place > 0 && step.function == first {
+                return Ok(Some(self.way_to(alloc, first, place)?));
+            }
+            self.follow(first, place, callees)?;
         }
-        Ok(callers)
+        Ok(None)
     }
 
-    fn callers(&self) -> Result<Vec<u32>, NoMemory> {
-        let mut callers = vec![in self.alloc; 0; self.lists.len()]?;
-        for list in &self.lists {
-            count_calls(list, &mut callers);
-        }
-        Ok(callers)
+    fn start(&mut self, first: usize) -> Result<(), NoMemory>
+        ensures steps { IfOk result (λ _. self.new.steps.items ≡ record { function = first; from = None } ∷ []) }
+        ensures entered { IfOk result (λ _. self.new.entered.items ≡ replicate (length self.old.entered.items) false) }
+    {
+        self.steps.clear();
+        self.entered.fill(false);
+        self.steps.push(Step {
+            function: first,
+            from: None,
+        })?;
+        Ok(())
     }
 
-    // Leaves out the calls of a function, and notes the functions that nobody calls then.
-    fn leave_out(
-        &self,
-        number: u16,
-        callers: &mut Vec<u32>,
-        idle: &mut Vec<u16>,
-    ) -> Result<(), NoMemory> {
-        for callee in self.of_one(number) {
-            if let Some(count) = callers.get_mut(usize::from(*callee)) {
-                *count = count.saturating_sub(1);
-                if *count == 0 {
-                    idle.push(*callee)?;
-                }
+    // Enters the functions that the one at a place calls. No way round goes through one before the first, since that one would
+    // reach itself too.
+    fn follow(&mut self, first: usize, place: usize, callees: &[Vec<u16>]) -> Result<(), NoMemory>
+        requires ordered { AreOrdered (map vec_items callees.now) }
+        requires first { first < length callees.now }
+        requires place { place < length self.old.steps.items }
+        requires apart { 0 < place → (r : Reached) → slice_get (trail_of self.old.steps.items) place ≡ Some r → r.function ≢ first }
+        requires searched { HasSearched (map vec_items callees.now) first self.old place }
+        ensures { IfOk result (λ _. HasSearched (map vec_items callees.now) first self.new (place + 1)) }
+    {
+        let caller = self.steps[place].function;
+        for callee in &callees[caller] {
+            let function = usize::from(*callee);
+            if function >= first && !self.entered[function] {
+                self.entered[function] = true;
+                self.steps.push(Step {
+                    function,
+                    from: Some(place),
+                })?;
             }
         }
         Ok(())
     }
 
-    // The shortest way from a function back to itself, with it at both ends. It is empty where there is none.
-    fn way_round(&self, first: u16) -> Result<Vec<u16>, NoMemory> {
-        let mut reached = Reached {
-            order: Vec::new(self.alloc),
-            before: vec![in self.alloc; None; self.lists.len()]?,
-        };
-        reached.add_all(first, self.of_one(first))?;
-        for place in 0..self.lists.len() {
-            let Some(number) = reached.order.get(place).copied() else {
-                break;
-            };
-            if number == first {
-                return reached.way_to(self.alloc, first);
-            }
-            reached.add_all(number, self.of_one(number))?;
-        }
-        Ok(Vec::new(self.alloc))
-    }
-}
-
-impl Reached {
-    fn add_all(&mut self, before: u16, callees: &[u16]) -> Result<(), NoMemory> {
-        for callee in callees {
-            if let Some(link @ None) = self.before.get_mut(usize::from(*callee)) {
-                *link = Some(before);
-                self.order.push(*callee)?;
-            }
-        }
-        Ok(())
-    }
-
-    // The way round from a function that was reached, and whose way began at it.
-    fn way_to(&self, alloc: Global, first: u16) -> Result<Vec<u16>, NoMemory> {
+    // The way to a place, with the function where the search starts before it.
+    fn way_to(&self, alloc: Global, first: usize, place: usize) -> Result<Vec<usize>, NoMemory>
+        requires linked { IsLinked first self.now.steps.items }
+        requires place { place < length self.now.steps.items }
+        ensures { IfOk result (λ way. way.items ≡ first ∷ way_at (trail_of self.now.steps.items) place) }
+    {
         let mut way = Vec::new(alloc);
-        way.push(first)?;
-        let mut number = first;
-        for _ in 0..self.before.len() {
-            let Some(Some(before)) = self.before.get(usize::from(number)) else {
-                break;
-            };
-            number = *before;
-            way.push(number)?;
-            if number == first {
-                break;
-            }
+        let mut next = Some(place);
+        while let Some(place) = next {
+            let step = self.steps[place];
+            way.push(step.function)?;
+            next = step.from;
         }
         way.reverse();
         Ok(way)
     }
 }
 
-fn called_by(alloc: Global, uses: &[Use]) -> Result<Vec<u16>, NoMemory> {
+// The functions that each function calls, in rising order.
+fn all_callees(alloc: Global, uses: &[Vec<Use>]) -> Result<Vec<Vec<u16>>, NoMemory>
+    ensures { IfOk result (λ lists. AllZip IsOrdered (map vec_items lists.items) (map called (map vec_items uses.now))) }
+{
+    let mut lists = Vec::new(alloc);
+    for list in uses {
+        lists.push(callees_of(alloc, list)?)?;
+    }
+    Ok(lists)
+}
+
+fn callees_of(alloc: Global, uses: &[Use]) -> Result<Vec<u16>, NoMemory>
+    ensures { IfOk result (λ list. IsOrdered list.items (called uses.now)) }
+{
+    let mut callees = called(alloc, uses)?;
+    callees.sort_unstable();
+    Ok(callees)
+}
+
+// The functions that are called, in order of their calls.
+fn called(alloc: Global, uses: &[Use]) -> Result<Vec<u16>, NoMemory>
+    ensures { IfOk result (λ list. list.items ≡ called uses.now) }
+{
     let mut callees = Vec::new(alloc);
     for found in uses {
         if let Use::Call { function, .. } = found {
             callees.push(*function)?;
         }
     }
-    callees.sort_unstable();
     Ok(callees)
-}
-
-fn count_calls(callees: &[u16], callers: &mut Vec<u32>) {
-    for callee in callees {
-        if let Some(count) = callers.get_mut(usize::from(*callee)) {
-            *count = count.saturating_add(1);
-        }
-    }
-}
-
-fn uncalled(alloc: Global, callers: &[u32]) -> Result<Vec<u16>, NoMemory> {
-    let mut idle = Vec::new(alloc);
-    for (number, count) in callers.iter().enumerate() {
-        if *count == 0 {
-            idle.push(number_of(number))?;
-        }
-    }
-    Ok(idle)
-}
-
-// The number of a function, of which calls have 16 bits.
-fn number_of(number: usize) -> u16 {
-    u16::try_from(number).unwrap_or(u16::MAX)
 }

@@ -15,7 +15,8 @@ ghost use Rattle.c_types.specs.Outcome.{Is};
 ghost use Rattle.c_types.specs.Statements as rules;
 ghost use Rattle.c_types.specs.Statements.{just};
 ghost use Rattle.c_types.specs.Tables.{around_of, scope_of, tables_of};
-ghost use Rattle.c_types.specs.View.{locals_of, operand_of};
+ghost use Rattle.c_types.specs.OperandView.{operand_of};
+ghost use Rattle.c_types.specs.View.{locals_of};
 
 use crate::blocks::{Body, Opening};
 use crate::constants::points;
@@ -48,7 +49,6 @@ impl<'a> Body<'a> {
         ensures refused { IfErr result (Refuses (statement_in self.old enclosing (statement_of s.now.kind s.now.at))) }
         ensures tables { OnOk result (tables_of self.new.scopes ≡ tables_of self.old.scopes) }
         ensures bodies { self.new.scopes.bodies ≡ self.old.scopes.bodies }
-        ensures known { self.new.known ≡ self.old.known }
         ensures returned { self.new.result ≡ self.old.result }
     {
         let at = s.at;
@@ -94,7 +94,6 @@ impl<'a> Body<'a> {
         ensures refused { IfErr result (Refuses (statement_in self.old enclosing (tree.Block (map declaration_of declarations.now) (body_of statements.now) at))) }
         ensures tables { OnOk result (tables_of self.new.scopes ≡ tables_of self.old.scopes) }
         ensures bodies { self.new.scopes.bodies ≡ self.old.scopes.bodies }
-        ensures known { self.new.known ≡ self.old.known }
         ensures returned { self.new.result ≡ self.old.result }
     {
         self.scopes.open()?;
@@ -109,8 +108,8 @@ impl<'a> Body<'a> {
         declarations: &'a [Decl],
         statements: &'a [Stmt],
     ) -> Result<TypedStmt, Refusal>
-        ensures typed { IfOk result (λ t. rules.typed_body self.old.known.now self.old.result (scope_of self.old.scopes) (locals_of self.old) (map declaration_of declarations.now) (body_of statements.now) ≡ just (stmt_of t) (locals_of self.new)) }
-        ensures refused { IfErr result (Refuses (rules.typed_body self.old.known.now self.old.result (scope_of self.old.scopes) (locals_of self.old) (map declaration_of declarations.now) (body_of statements.now))) }
+        ensures typed { IfOk result (λ t. rules.typed_body self.old.result (scope_of self.old.scopes) (locals_of self.old) (map declaration_of declarations.now) (body_of statements.now) ≡ just (stmt_of t) (locals_of self.new)) }
+        ensures refused { IfErr result (Refuses (rules.typed_body self.old.result (scope_of self.old.scopes) (locals_of self.old) (map declaration_of declarations.now) (body_of statements.now))) }
         ensures around { OnOk result (around_of self.new.scopes ≡ around_of self.old.scopes) }
         ensures bodies { self.new.scopes.bodies ≡ self.old.scopes.bodies }
     {
@@ -129,7 +128,6 @@ impl<'a> Body<'a> {
         ensures refused { IfErr result (Refuses (block_in self.old enclosing (map declaration_of declarations.now) (body_of statements.now))) }
         ensures around { OnOk result (around_of self.new.scopes ≡ around_of self.old.scopes) }
         ensures bodies { self.new.scopes.bodies ≡ self.old.scopes.bodies }
-        ensures known { self.new.known ≡ self.old.known }
         ensures returned { self.new.result ≡ self.old.result }
     {
         let alloc = self.scopes.alloc;
@@ -157,7 +155,6 @@ impl<'a> Body<'a> {
         ensures refused { IfErr result (Refuses (statements_in self.old enclosing (body_of list.now))) }
         ensures tables { OnOk result (tables_of self.new.scopes ≡ tables_of self.old.scopes) }
         ensures bodies { self.new.scopes.bodies ≡ self.old.scopes.bodies }
-        ensures known { self.new.known ≡ self.old.known }
         ensures returned { self.new.result ≡ self.old.result }
     {
         for s in list {
@@ -200,7 +197,6 @@ impl<'a> Body<'a> {
         ensures refused { IfErr result (Refuses (statement_in self.old enclosing (tree.If (expression_of test.now) (statement_of yes.now.kind yes.now.at) at))) }
         ensures tables { OnOk result (tables_of self.new.scopes ≡ tables_of self.old.scopes) }
         ensures bodies { self.new.scopes.bodies ≡ self.old.scopes.bodies }
-        ensures known { self.new.known ≡ self.old.known }
         ensures returned { self.new.result ≡ self.old.result }
     {
         let test = self.scopes.expression(test)?;
@@ -227,7 +223,6 @@ impl<'a> Body<'a> {
         ensures refused { IfErr result (Refuses (statement_in self.old enclosing (tree.IfElse (expression_of test.now) (statement_of yes.now.kind yes.now.at) (statement_of no.now.kind no.now.at) at))) }
         ensures tables { OnOk result (tables_of self.new.scopes ≡ tables_of self.old.scopes) }
         ensures bodies { self.new.scopes.bodies ≡ self.old.scopes.bodies }
-        ensures known { self.new.known ≡ self.old.known }
         ensures returned { self.new.result ≡ self.old.result }
     {
         let test = self.scopes.expression(test)?;
@@ -249,7 +244,6 @@ impl<'a> Body<'a> {
         ensures refused { IfErr result (Refuses (else_in self.old enclosing at (expr_of test) (stmt_of yes) (statement_of no.now.kind no.now.at))) }
         ensures tables { OnOk result (tables_of self.new.scopes ≡ tables_of self.old.scopes) }
         ensures bodies { self.new.scopes.bodies ≡ self.old.scopes.bodies }
-        ensures known { self.new.known ≡ self.old.known }
         ensures returned { self.new.result ≡ self.old.result }
     {
         let alloc = self.scopes.alloc;
@@ -276,7 +270,6 @@ impl<'a> Body<'a> {
         ensures refused { IfErr result (Refuses (statement_in self.old enclosing (tree.Switch (expression_of value.now) (parts_of parts.now) place at))) }
         ensures tables { OnOk result (tables_of self.new.scopes ≡ tables_of self.old.scopes) }
         ensures bodies { self.new.scopes.bodies ≡ self.old.scopes.bodies }
-        ensures known { self.new.known ≡ self.old.known }
         ensures returned { self.new.result ≡ self.old.result }
     {
         let value = self.scopes.expression(value)?;
@@ -295,7 +288,6 @@ impl<'a> Body<'a> {
         ensures refused { IfErr result (Refuses (choices_in self.old enclosing (parts_of parts.now))) }
         ensures tables { OnOk result (tables_of self.new.scopes ≡ tables_of self.old.scopes) }
         ensures bodies { self.new.scopes.bodies ≡ self.old.scopes.bodies }
-        ensures known { self.new.known ≡ self.old.known }
         ensures returned { self.new.result ≡ self.old.result }
     {
         let mut labelled = Labelled {
@@ -321,12 +313,11 @@ impl<'a> Body<'a> {
         ensures refused { IfErr result (λ f. (rest : tree.Choices) → Refuses (choices_in self.old enclosing (part_before part.now rest)) f) }
         ensures tables { OnOk result (tables_of self.new.scopes ≡ tables_of self.old.scopes) }
         ensures bodies { self.new.scopes.bodies ≡ self.old.scopes.bodies }
-        ensures known { self.new.known ≡ self.old.known }
         ensures returned { self.new.result ≡ self.old.result }
     {
         match part {
             SwitchPart::Case(label) => {
-                let value = self.scopes.expression(label)?;
+                let value = self.scopes.constant_tree(label)?;
                 let word = word_at(label, &value)?;
                 Ok(LabelOrBody {
                     choice: Choice::Case(word),
@@ -351,7 +342,6 @@ impl<'a> Body<'a> {
         ensures refused { IfErr result (Refuses (statement_in self.old enclosings.Loop (tree.While (expression_of test.now) (statement_of body.now.kind body.now.at) at))) }
         ensures tables { OnOk result (tables_of self.new.scopes ≡ tables_of self.old.scopes) }
         ensures bodies { self.new.scopes.bodies ≡ self.old.scopes.bodies }
-        ensures known { self.new.known ≡ self.old.known }
         ensures returned { self.new.result ≡ self.old.result }
     {
         let test = self.scopes.expression(test)?;
@@ -370,7 +360,6 @@ impl<'a> Body<'a> {
         ensures refused { IfErr result (Refuses (statement_in self.old enclosings.Loop (tree.DoWhile (statement_of body.now.kind body.now.at) (expression_of test.now) at))) }
         ensures tables { OnOk result (tables_of self.new.scopes ≡ tables_of self.old.scopes) }
         ensures bodies { self.new.scopes.bodies ≡ self.old.scopes.bodies }
-        ensures known { self.new.known ≡ self.old.known }
         ensures returned { self.new.result ≡ self.old.result }
     {
         let body = self.statement(body, Enclosing::Loop)?;
@@ -404,7 +393,6 @@ impl<'a> Body<'a> {
         ensures refused { IfErr result (Refuses (statement_in self.old enclosings.Loop (tree.For (optional_of first.now) (optional_of test.now) (optional_of third.now) (statement_of body.now.kind body.now.at) at))) }
         ensures tables { OnOk result (tables_of self.new.scopes ≡ tables_of self.old.scopes) }
         ensures bodies { self.new.scopes.bodies ≡ self.old.scopes.bodies }
-        ensures known { self.new.known ≡ self.old.known }
         ensures returned { self.new.result ≡ self.old.result }
     {
         let first = self.optional(first)?;

@@ -6,7 +6,7 @@ ghost use Rattle.c_tree.specs.TypedTree.{no_more, Binary, Assign, AssignOp};
 ghost use Rattle.c_tree.specs.declared.operator.BinaryOp.{BinaryOp};
 ghost use Rattle.c_tree.specs.View.{expr_of, lvalue_of, argument_list, option_expr_of, stmt_of, statement_list, choice_list, choice_before};
 ghost use Rattle.c_types.specs.OperandForms.{constant_form, simple_form};
-ghost use Rattle.c_types.specs.Temporaries as counts;
+ghost use Rattle.c_tree.specs.Temporaries as counts;
 
 use c_tree::{Choice, ExprForm, Target, TargetForm, TypedExpr, TypedStmt, UnaryOp};
 use word_base::NoMemory;

@@ -1,5 +1,5 @@
 //! Whole sources: ISO 9899:1990 6.7.
-ghost use Rattle.std.specs.Prelude.{◌≡◌, ◌&&◌, ◌||◌, not, ℕ, List, map, length, is_none, is_some, option_copied, IfOk, IfErr, OnOk, []};
+ghost use Rattle.std.specs.Prelude.{◌≡◌, ◌&&◌, ◌||◌, not, ℕ, List, map, length, is_none, is_some, option_copied, IfOk, IfErr, OnOk, unwrap_or, []};
 ghost use Rattle.c_tree.specs.declared.program.VarRef.{VarRef};
 ghost use Rattle.c_tree.specs.SyntaxView.{item_of, function_of, external_of, initial_of, parameter_of, declaration_of, specs_of, unit_of};
 ghost use Rattle.c_types.specs.Answers.{Refuses};
@@ -7,15 +7,16 @@ ghost use Rattle.c_types.specs.Outcome.{Is, Broken, breaks};
 ghost use Rattle.c_types.specs.declared.fault.Rule.TheVariants as rule;
 ghost use Rattle.c_types.specs.Tables.{scope_of, tables_of, around_of, names_of};
 ghost use Rattle.c_types.specs.Units as rules;
-ghost use Rattle.c_types.specs.View.{local_tree_of, starts_of, static_tree_of, file_of, known_lists};
+ghost use Rattle.c_types.specs.View.{local_tree_of, starts_of, static_tree_of, file_of};
 ghost use Rattle.c_types.specs.declared.declarations.Declared.TheVariants as declares;
+ghost use Rattle.c_types.specs.declared.meaning.ObjectType.TheVariants as objects;
 ghost use Rattle.c_types.specs.declared.fault.Refusal.TheVariants as refusals;
 ghost use Rattle.c_types.specs.declared.local.Naming.TheVariants.{Needed};
 ghost use Rattle.c_types.specs.Declarations.{parameters};
 ghost use Rattle.c_types.specs.Scopes as scope_names;
 ghost use Rattle.c_types.specs.Scopes.{open_scope};
 
-use crate::blocks::{Body, reference_in};
+use crate::blocks::Body;
 use crate::declarations::{Declared, redeclared};
 use crate::fault::{Refusal, mismatch};
 use crate::functions::TypedFunction;
@@ -164,30 +165,41 @@ fn static_list(
     }
 }
 
+// The name of a parameter of a function with a body, which has one.
+fn name_of(parameter: &Param) -> &str
+    ensures { result.now ≡ unwrap_or (parameter_of parameter.now).name [] }
+{
+    match &parameter.name {
+        Some(name) => name.as_str(),
+        None => "",
+    }
+}
+
+// A parameter as an object.
+fn parameter_local(alloc: Global, parameter: &Param, kind: ScalarType) -> Result<Local, NoMemory>
+    ensures { IfOk result (λ local. local_tree_of local ≡ record { name = unwrap_or (parameter_of parameter.now).name []; object_type = objects.Single kind; values = [] }) }
+{
+    Ok(Local {
+        name: Text::copy_of(alloc, name_of(parameter))?,
+        object_type: ObjectType::Single(kind),
+        values: Items::new(Vec::new(alloc)),
+    })
+}
+
 // The parameters of a function as its first objects.
 fn parameter_locals(
     alloc: Global,
     list: &[Param],
     kinds: &[ScalarType],
 ) -> Result<Vec<Local>, NoMemory>
-    ensures { IfOk result (λ locals. map local_tree_of locals.items ≡ rules.parameter_locals kinds.now) }
+    ensures { IfOk result (λ locals. map local_tree_of locals.items ≡ rules.parameter_locals (map parameter_of list.now) kinds.now) }
 {
     let mut locals = Vec::new(alloc);
     for (n, kind) in kinds.iter().enumerate() {
-        let name = match list.get(n) {
-            Some(
-                Param {
-                    name: Some(name),
-                    ..
-                },
-            ) => name.as_str(),
-            _ => "",
+        let Some(parameter) = list.get(n) else {
+            return Ok(locals);
         };
-        locals.push(Local {
-            name: Text::copy_of(alloc, name)?,
-            object_type: ObjectType::Single(*kind),
-            values: Items::new(Vec::new(alloc)),
-        })?;
+        locals.push(parameter_local(alloc, parameter, *kind)?)?;
     }
     Ok(locals)
 }
@@ -198,16 +210,6 @@ fn copy_of(alloc: Global, kinds: &[ScalarType]) -> Result<Vec<ScalarType>, NoMem
     let mut copy = Vec::new(alloc);
     copy.extend_from_slice(kinds)?;
     Ok(copy)
-}
-
-// What the objects of the function of this number stand for, as far as that is known.
-fn known_of<'a>(known: &'a [Vec<VarRef>], number: usize) -> &'a [VarRef]
-    ensures { result.now ≡ rules.known_of (known_lists known.now) number }
-{
-    match known.get(number) {
-        Some(references) => references,
-        None => &[],
-    }
 }
 
 // The names of the functions with bodies, in order.
@@ -267,13 +269,8 @@ impl<'a> Scopes<'a> {
     }
 
     // Declares the parameters of a function in the scope of its body.
-    fn declare_parameters(
-        &mut self,
-        known: &[VarRef],
-        list: &'a [Param],
-        kinds: &[ScalarType],
-    ) -> Result<(), Refusal>
-        ensures declared { OnOk result (scope_of self.new ≡ rules.with_parameters (scope_of self.old) known.now 0 (map parameter_of list.now) kinds.now) }
+    fn declare_parameters(&mut self, list: &'a [Param], kinds: &[ScalarType]) -> Result<(), Refusal>
+        ensures declared { OnOk result (scope_of self.new ≡ rules.with_parameters (scope_of self.old) 0 (map parameter_of list.now) kinds.now) }
         ensures around { around_of self.new ≡ around_of self.old }
         ensures bodies { self.new.bodies ≡ self.old.bodies }
         ensures memory { IfErr result (λ f. f ≡ refusals.NoMemory) }
@@ -281,7 +278,7 @@ impl<'a> Scopes<'a> {
         for (n, kind) in kinds.iter().enumerate() {
             let number = u32::try_from(n).map_err(|_| Refusal::NoMemory)?;
             if let Some(parameter) = list.get(n) {
-                self.declare_single(&parameter.name, reference_in(known, number), *kind)?;
+                self.declare_single(&parameter.name, VarRef::Local(number), *kind)?;
             }
         }
         Ok(())
@@ -404,7 +401,7 @@ impl<'a> File<'a> {
         list: Option<Items<Initial>>,
         name: &str,
     ) -> Result<(), NoMemory>
-        ensures statics { OnOk result (map static_tree_of self.new.statics.items ≡ rules.with_static (map static_tree_of self.old.statics.items) number object_type list) }
+        ensures statics { OnOk result (map static_tree_of self.new.statics.items ≡ rules.with_static (map static_tree_of self.old.statics.items) number name.now object_type list) }
         ensures scopes { self.new.scopes ≡ self.old.scopes }
         ensures functions { self.new.functions ≡ self.old.functions }
     {
@@ -452,10 +449,10 @@ impl<'a> File<'a> {
         Ok(file)
     }
 
-    // A function with its body, of whose objects it may be known what they stand for.
-    fn function(mut self, known: &'a [VarRef], f: &'a FunctionDef) -> Result<Self, Refusal>
-        ensures typed { IfOk result (λ g. rules.file_function (file_of self.entry) known.now (function_of f.now) ≡ Is (file_of g)) }
-        ensures refused { IfErr result (Refuses (rules.file_function (file_of self.entry) known.now (function_of f.now))) }
+    // A function with its body.
+    fn function(mut self, f: &'a FunctionDef) -> Result<Self, Refusal>
+        ensures typed { IfOk result (λ g. rules.file_function (file_of self.entry) (function_of f.now) ≡ Is (file_of g)) }
+        ensures refused { IfErr result (Refuses (rules.file_function (file_of self.entry) (function_of f.now))) }
     {
         let base = spelled(&f.specs)?;
         let name = f.name.as_str();
@@ -469,7 +466,7 @@ impl<'a> File<'a> {
         };
         let allowed = self.scopes.declare_function(name, function)?;
         let is_defined = self.scopes.number_of(name) < self.functions.len();
-        let typed = self.body(known, result, kinds, f)?;
+        let typed = self.body(result, kinds, f)?;
         if !allowed || is_defined {
             return Err(redeclared(f.at));
         }
@@ -479,23 +476,21 @@ impl<'a> File<'a> {
     // The body of a function behind its name, with parameters of these types.
     fn body(
         mut self,
-        known: &'a [VarRef],
         kind: Option<ScalarType>,
         kinds: Vec<ScalarType>,
         f: &'a FunctionDef,
     ) -> Result<Self, Refusal>
-        ensures typed { IfOk result (λ g. rules.with_body (file_of self.entry) known.now (function_of f.now) kind kinds.items ≡ Is (file_of g)) }
-        ensures refused { IfErr result (Refuses (rules.with_body (file_of self.entry) known.now (function_of f.now) kind kinds.items)) }
+        ensures typed { IfOk result (λ g. rules.with_body (file_of self.entry) (function_of f.now) kind kinds.items ≡ Is (file_of g)) }
+        ensures refused { IfErr result (Refuses (rules.with_body (file_of self.entry) (function_of f.now) kind kinds.items)) }
     {
         let alloc = self.scopes.alloc;
         let name = Text::copy_of(alloc, f.name.as_str())?;
         let list = f.params.list.as_slice();
         let locals = parameter_locals(alloc, list, &kinds)?;
         self.scopes.open()?;
-        self.scopes.declare_parameters(known, list, &kinds)?;
+        self.scopes.declare_parameters(list, &kinds)?;
         let mut body = Body {
             scopes: self.scopes,
-            known,
             locals,
             result: kind,
         };
@@ -515,15 +510,12 @@ impl<'a> File<'a> {
         })
     }
 
-    fn external(self, known: &'a [Vec<VarRef>], external: &'a External) -> Result<Self, Refusal>
-        ensures typed { IfOk result (λ f. rules.external (known_lists known.now) (file_of self.entry) (external_of external.now) ≡ Is (file_of f)) }
-        ensures refused { IfErr result (Refuses (rules.external (known_lists known.now) (file_of self.entry) (external_of external.now))) }
+    fn external(self, external: &'a External) -> Result<Self, Refusal>
+        ensures typed { IfOk result (λ f. rules.external (file_of self.entry) (external_of external.now) ≡ Is (file_of f)) }
+        ensures refused { IfErr result (Refuses (rules.external (file_of self.entry) (external_of external.now))) }
     {
         match external {
-            External::Function(f) => {
-                let own = known_of(known, self.functions.len());
-                self.function(own, f)
-            }
+            External::Function(f) => self.function(f),
             External::Declaration(d) => {
                 let base = spelled(&d.specs)?;
                 self.items(base, d.items.as_slice())
@@ -541,14 +533,10 @@ impl<'a> File<'a> {
         }
     }
 
-    /// A whole source, of whose functions it may be known what each object stands for.
-    pub(crate) fn of(
-        alloc: Global,
-        known: &'a [Vec<VarRef>],
-        externals: &'a [External],
-    ) -> Result<Self, Refusal>
-        ensures typed { IfOk result (λ f. rules.typed_unit (known_lists known.now) (unit_of externals.now) ≡ Is (file_of f)) }
-        ensures refused { IfErr result (Refuses (rules.typed_unit (known_lists known.now) (unit_of externals.now))) }
+    /// A whole source.
+    pub(crate) fn of(alloc: Global, externals: &'a [External]) -> Result<Self, Refusal>
+        ensures typed { IfOk result (λ f. rules.typed_unit (unit_of externals.now) ≡ Is (file_of f)) }
+        ensures refused { IfErr result (Refuses (rules.typed_unit (unit_of externals.now))) }
     {
         let mut file = File {
             scopes: Scopes::new(alloc, bodies_of(alloc, externals)?),
@@ -556,7 +544,7 @@ impl<'a> File<'a> {
             functions: Vec::new(alloc),
         };
         for external in externals {
-            file = file.external(known, external)?;
+            file = file.external(external)?;
         }
         Ok(file)
     }

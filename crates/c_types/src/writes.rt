@@ -4,7 +4,7 @@ ghost use Rattle.c_tree.specs.View.{expr_of, lvalue_of};
 ghost use Rattle.c_types.specs.Outcome.{Is};
 ghost use Rattle.c_types.specs.Answers.{Refuses};
 ghost use Rattle.c_types.specs.Operands as rules;
-ghost use Rattle.c_types.specs.View.{operand_of};
+ghost use Rattle.c_types.specs.OperandView.{operand_of};
 ghost use Rattle.c_types.specs.declared.fault.Refusal.TheVariants as refusals;
 ghost use Rattle.c_types.specs.declared.fault.Rule.TheVariants as rule;
 
@@ -15,7 +15,8 @@ use crate::operands::{Operand, sum};
 use c_tree::{BinaryOp, ExprForm, Target, TargetForm, TypedExpr};
 use std::alloc::Global;
 
-fn not_lvalue(at: u32) -> Refusal
+/// No object stands where one is written, at the node that writes.
+pub(crate) fn not_lvalue(at: u32) -> Refusal
     ensures { result ≡ refusals.Broken rule.NotLvalue at }
 {
     Refusal::Broken {

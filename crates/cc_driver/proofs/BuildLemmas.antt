@@ -3,13 +3,14 @@ use Rattle.std.proofs.Common.{◌≡◌, ◌≢◌, ◌∙◌, ℕ, Bool, List, 
 use Rattle.std.specs.Prelude.{◌⊎◌}
 use Rattle.word_base.specs.Counts.{Counts, FetchFailed, StoreFailed}
 use Rattle.word_base.specs.Files.{Files}
-use Rattle.cc_driver.specs.Build.{IsTooLong, IsAccepted, IsRefusedFor, IsToldWith, ReadCause, TooLongCause, BuildRefused, Builds, build_status}
+use Rattle.cc_driver.specs.Build.{IsTooLong, IsAccepted, IsWithoutTypes, IsRefusedFor, IsToldWith, ReadCause, TooLongCause, BuildRefused, Builds, build_status}
 use Rattle.cc_driver.specs.BuildAnswer.{PutsFault, SourceRefused, RefusesFor}
 use Rattle.cc_driver.specs.Line.{Puts, Sinks, build_line}
 use Rattle.cc_driver.specs.declared.fault.SourceFault.{SourceFault}
 use Rattle.cc_driver.specs.declared.fault.BuildFault.{BuildFault}
 use Rattle.cc_driver.specs.declared.fault.BuildFault.TheVariants.{Read, TooLong, Source, Write, NoMemory}
-use Rattle.cc_driver.proofs.SourceFaultLemmas.{one_fault, accepted_no_fault}
+use Rattle.cc_driver.specs.SourceFaults.{IsOfTypes, IsSameFault}
+use Rattle.cc_driver.proofs.SourceFaultLemmas.{one_fault, accepted_no_fault, untyped_fault, untyped_not_accepted}
 
 -- of one file one text is told
 same_told : (o : Option (List ℕ)) (a b : List ℕ) → o ≡ Some a → o ≡ Some b → a ≡ b
@@ -27,10 +28,22 @@ not_faulty old source fault t u =
     let b = told_both old source IsAccepted (IsRefusedFor fault) t u in
     accepted_no_fault b.0 fault b.1 b.2.1
 
-pub built_not_faulty : (old new : Files) (source image : List ℕ) (fault : SourceFault) → Builds old new source image → IsToldWith old source (IsRefusedFor fault) → ⊥
-built_not_faulty old new source image fault b t =
+-- nor is it one without a typed program
+not_untyped : (old : Files) (source : List ℕ) → IsToldWith old source IsAccepted → IsToldWith old source IsWithoutTypes → ⊥
+not_untyped old source t u =
+    let b = told_both old source IsAccepted IsWithoutTypes t u in
+    untyped_not_accepted b.0 b.1 b.2
+
+built_accepted : (old new : Files) (source image : List ℕ) → Builds old new source image → IsToldWith old source IsAccepted
+built_accepted old new source image b =
     let c = b.compiles in
-    not_faulty old source fault (b.bytes, b.told, (b.fits, (c.tokens, c.source, c.lexes, c.is_source, (c.at, c.port, c.word, c.answer, c.thin)))) t
+    (b.bytes, b.told, (b.fits, (c.tokens, c.source, c.lexes, c.is_source, (c.program, c.typed, c.thin))))
+
+pub built_not_faulty : (old new : Files) (source image : List ℕ) (fault : SourceFault) → Builds old new source image → IsToldWith old source (IsRefusedFor fault) → ⊥
+built_not_faulty old new source image fault b t = not_faulty old source fault (built_accepted old new source image b) t
+
+pub built_not_untyped : (old new : Files) (source image : List ℕ) → Builds old new source image → IsToldWith old source IsWithoutTypes → ⊥
+built_not_untyped old new source image b t = not_untyped old source (built_accepted old new source image b) t
 
 module _ (tells : Bool) (old new : Files) (source : List ℕ) (before now : Counts) where
   -- a cause that isn't there for told bytes of a source
@@ -50,15 +63,33 @@ module _ (tells : Bool) (old new : Files) (source : List ℕ) (before now : Coun
   of_thin Write r tell t fetch store = absurd (store r.1)
   of_thin NoMemory r tell t fetch store = inr refl
 
-  -- a source with a fault is refused for it
-  pub of_other : (sinks : Sinks) (fault : SourceFault) (f : BuildFault) → BuildRefused tells old new source before now f → Puts sinks.tells (build_line source f) sinks.before sinks.now sinks.faults_before sinks.faults_now → IsTrue tells → IsToldWith old source (IsRefusedFor fault) → ¬ FetchFailed before now → RefusesFor fault sinks (build_status f)
-  of_other sinks fault Read r line tell t fetch = absurd (not_read (IsRefusedFor fault) t fetch r.0)
-  of_other sinks fault TooLong r line tell t fetch = absurd (not_long _ tell t r.0)
-  of_other sinks fault (Source why) r line tell t fetch =
-      let b = told_both old source (IsRefusedFor why) (IsRefusedFor fault) (r.0 tell) t in
-      inl (refl, (why, one_fault b.0 fault why b.2.1 b.1.1, line))
-  of_other sinks fault Write r line tell t fetch = absurd (not_faulty old source fault (r.0 tell) t)
-  of_other sinks fault NoMemory r line tell t fetch = inr refl
+  module _ (sinks : Sinks) where
+    abbrev LinePut : BuildFault → Type 0
+    LinePut f = Puts sinks.tells (build_line source f) sinks.before sinks.now sinks.faults_before sinks.faults_now
+
+    -- a fault that a source has is put, where it is one that was to be put
+    put_for : (Is : SourceFault → Type 0) (why : SourceFault) → Is why → IsToldWith old source (IsRefusedFor why) → LinePut (Source why) → RefusesFor Is old source sinks 1
+    put_for Is why is has line = inl (refl, (why, is, has, line))
+
+    -- a source without a typed program is refused for a fault of types
+    pub of_untyped : (f : BuildFault) → BuildRefused tells old new source before now f → LinePut f → IsTrue tells → IsToldWith old source IsWithoutTypes → ¬ FetchFailed before now → RefusesFor IsOfTypes old source sinks (build_status f)
+    of_untyped Read r line tell t fetch = absurd (not_read IsWithoutTypes t fetch r.0)
+    of_untyped TooLong r line tell t fetch = absurd (not_long _ tell t r.0)
+    of_untyped (Source why) r line tell t fetch =
+        let b = told_both old source IsWithoutTypes (IsRefusedFor why) t (r.0 tell) in
+        put_for IsOfTypes why (untyped_fault b.0 why b.1 b.2.1) (r.0 tell) line
+    of_untyped Write r line tell t fetch = absurd (not_untyped old source (r.0 tell) t)
+    of_untyped NoMemory r line tell t fetch = inr refl
+
+    -- a source with a fault is refused for it
+    pub of_other : (fault : SourceFault) (f : BuildFault) → BuildRefused tells old new source before now f → LinePut f → IsTrue tells → IsToldWith old source (IsRefusedFor fault) → ¬ FetchFailed before now → RefusesFor (IsSameFault fault) old source sinks (build_status f)
+    of_other fault Read r line tell t fetch = absurd (not_read (IsRefusedFor fault) t fetch r.0)
+    of_other fault TooLong r line tell t fetch = absurd (not_long _ tell t r.0)
+    of_other fault (Source why) r line tell t fetch =
+        let b = told_both old source (IsRefusedFor why) (IsRefusedFor fault) (r.0 tell) t in
+        put_for (IsSameFault fault) why (one_fault b.0 fault why b.2.1 b.1.1) (r.0 tell) line
+    of_other fault Write r line tell t fetch = absurd (not_faulty old source fault (r.0 tell) t)
+    of_other fault NoMemory r line tell t fetch = inr refl
 
   -- status 1 is that of a source's fault
   pub source_refused : (sinks : Sinks) (f : BuildFault) → BuildRefused tells old new source before now f → Puts sinks.tells (build_line source f) sinks.before sinks.now sinks.faults_before sinks.faults_now → build_status f ≡ 1 → SourceRefused tells old source sinks

@@ -1,67 +1,105 @@
--- What the code finds in a tree, and whether it is that of a thin source.
-use Rattle.std.proofs.Common.{◌≡◌, ◌≢◌, ◌∙◌, ◌<◌, ◌≤◌, ℕ, List, [], ◌∷◌, length, Option, Some, None, refl, sym, ap, subst, arith}
-use Rattle.std.specs.Prelude.{codes, MatchOption}
-use Rattle.c_tree.specs.declared.expr.Expr.{Expr}
-use Rattle.c_tree.specs.declared.stmt.Stmt.{Stmt}
-use Rattle.c_tree.specs.SyntaxTree.{Expression, Expressions, argument, no_argument, Call, Statement, statement, no_statement, Evaluate, Return, FunctionSyntax, Defined, UnitTree}
-use Rattle.c_tree.specs.SyntaxTree as tree
-use Rattle.c_tree.specs.SyntaxView.{trees_of, body_of}
-use Rattle.cc_driver.specs.Thin.{Places, IsThinNumbers, IsPlain, IsOutput, IsAnswer, IsMain, IsThin, IsThinTree}
+-- What the code finds in a typed program, and whether it is thin.
+use Rattle.std.proofs.Common.{◌≡◌, ◌≢◌, ◌∙◌, ◌<◌, ℕ, List, [], ◌∷◌, length, Option, Some, None, sym, ap, arith}
+use Rattle.std.specs.Prelude.{MatchOption}
+use Rattle.c_tree.specs.declared.typed_statement.TypedStmt.{TypedStmt}
+use Rattle.c_tree.specs.declared.program.Base.{Base}
+use Rattle.c_tree.specs.declared.program.ScalarType.{ScalarType}
+use Rattle.c_tree.specs.declared.program.VarRef.{VarRef}
+use Rattle.c_tree.specs.TypedTree.{Kind, Expr, Node, Out, Stmt, Stmts, Block, Do_expr, Return, done, both, ObjectTree, FunctionTree, ProgramTree}
+use Rattle.c_tree.specs.SourceRun.{main_name}
+use Rattle.c_tree.specs.View.{stmt_of, statement_list}
+use Rattle.cc_driver.specs.Thin.{Shape, IsThinNumbers, IsThin, IsThinProgram, IsThinMain, constant, thin_output, thin_return, thin_function, thin_program}
 
 -- a list of three or more isn't one of two
-pub three_arguments : (l : List Expr) (x y : Expr) (more : List Expr) → l ≡ x ∷ y ∷ more → 0 < length more → (a b : Expression) → trees_of l ≡ argument a (argument b no_argument) → ⊥
-three_arguments l x y [] e some a b h = omega (arith, some)
-three_arguments l x y (z ∷ more) e some a b h = let both = sym (ap trees_of e) ∙ h in cc
-
-pub three_statements : (l : List Stmt) (x y : Stmt) (more : List Stmt) → l ≡ x ∷ y ∷ more → 0 < length more → (a b : Statement) → body_of l ≡ statement a (statement b no_statement) → ⊥
+pub three_statements : (l : List TypedStmt) (x y : TypedStmt) (rest : List TypedStmt) → l ≡ x ∷ y ∷ rest → 0 < length rest → (a b : Stmt) → statement_list l ≡ both a (both b done) → ⊥
 three_statements l x y [] e some a b h = omega (arith, some)
-three_statements l x y (z ∷ more) e some a b h = let both = sym (ap body_of e) ∙ h in cc
+three_statements l x y (z ∷ rest) e some a b h = let both = sym (ap statement_list e) ∙ h in cc
 
--- ---- the word returned
+-- the constant that is returned
+pub answer_found : (r : Option ℕ) (s : Stmt) (e : Expr) (place : ℕ) → s ≡ Return (Some e)
+    → MatchOption r ((word at : ℕ) (base : Base) → e ≢ constant word base at) (λ word. (word < 65536) × ((base : Base) × (e ≡ constant word base place)))
+    → MatchOption r ((shape : Shape) (answer : ℕ) → s ≢ thin_return shape answer) (λ answer. (answer < 65536) × ((at : ℕ) × (base : Base) × (s ≡ Return (Some (constant answer base at)))))
+answer_found (Some word) s e place is found = (found.0, (place, found.1.0, is ∙ ap (λ e. Return (Some e)) found.1.1))
+answer_found None s e place is none = λ shape answer h.
+    let same : Return (Some e) ≡ thin_return shape answer = sym is ∙ h in
+    none answer shape.answer_at shape.answer_base (cc)
 
-pub answer_found : (r : Option ℕ) (e : Expression) (e_at at : ℕ) (s : Statement) → s ≡ Return (Some e) at
-    → MatchOption r ((value at : ℕ) → value ≤ 32767 → ¬ IsPlain value at e) (λ value. (value ≤ 32767) × IsPlain value e_at e)
-    → MatchOption r ((at answer : ℕ) → answer < 32768 → ¬ IsAnswer s at answer) (λ answer. (at : ℕ) × IsAnswer s at answer × (answer < 32768))
-answer_found (Some value) e e_at at s is found = (e_at, record { answer_tree = e; at = at; is = is; answer_is = found.1 }, omega (arith, found.0))
-answer_found None e e_at at s is none = λ answer_at answer low a.
-    let same : e ≡ a.answer_tree = cc (is, a.is) in
-    none answer answer_at (omega (arith, low)) (subst (IsPlain answer answer_at) (sym same) a.answer_is)
+-- the program of one function
+abbrev pub alone : FunctionTree → ProgramTree
+alone f = record { statics = []; functions = f ∷ [] }
 
--- ---- the port and the word put
+-- the function of a thin program
+of_function : (p : ProgramTree) (f : FunctionTree) → p ≡ alone f → (shape : Shape) (port word answer : ℕ) → IsThin p shape port word answer → f ≡ thin_function shape port word answer
+of_function p f is shape port word answer t =
+    let same : f ∷ [] ≡ thin_function shape port word answer ∷ [] = ap (λ (p : ProgramTree). p.functions) (sym is ∙ t.is) in
+    cc
 
-abbrev pub IsPut : Statement → Expression → Expression → ℕ → ℕ → Type 0
-IsPut s port word output at = s ≡ Evaluate (tree.Node (Call (codes "__out") (argument port (argument word no_argument))) output) at
+body_of : (f : FunctionTree) (shape : Shape) (port word answer : ℕ) → f ≡ thin_function shape port word answer → f.body ≡ Block [] (both (thin_output shape port word) (both (thin_return shape answer) done))
+body_of f shape port word answer e = ap (λ (f : FunctionTree). f.body) e
 
-pub no_port : (s : Statement) (e f : Expression) (output at : ℕ) → IsPut s e f output at → ((value at : ℕ) → value ≤ 15 → ¬ IsPlain value at e)
-    → (o w port word : ℕ) → port < 16 → word < 32768 → ¬ IsOutput s o w port word
-no_port s e f output at is none o w port word low also p =
-    let same : e ≡ p.port_tree = cc (is, p.is) in
-    none port p.port_is.0 (omega (arith, low)) (subst (IsPlain port p.port_is.0) (sym same) p.port_is.1)
+pub no_function : (p : ProgramTree) → ((f : FunctionTree) → p ≢ alone f) → ¬ IsThinProgram p
+no_function p none (shape, port, word, answer, t) = none (thin_function shape port word answer) t.is
 
-pub no_word : (s : Statement) (e f : Expression) (output at : ℕ) → IsPut s e f output at → ((value at : ℕ) → value ≤ 32767 → ¬ IsPlain value at f)
-    → (o w port word : ℕ) → port < 16 → word < 32768 → ¬ IsOutput s o w port word
-no_word s e f output at is none o w port word low also p =
-    let same : f ≡ p.word_tree = cc (is, p.is) in
-    none word w (omega (arith, also)) (subst (IsPlain word w) (sym same) p.word_is)
+pub no_main : (p : ProgramTree) (f : FunctionTree) → p ≡ alone f → ¬ IsThinMain f → ¬ IsThinProgram p
+no_main p f is none (shape, port, word, answer, t) =
+    let e = of_function p f is shape port word answer t in
+    none (record {
+      name = ap (λ (f : FunctionTree). f.name) e;
+      no_parameters = ap (λ (f : FunctionTree). f.params) e;
+      no_scalars = ap (λ (f : FunctionTree). f.scalars) e;
+      no_locals = ap (λ (f : FunctionTree). f.locals) e;
+    })
 
-pub put_found : (s : Statement) (e f : Expression) (output at e_at f_at port word : ℕ) → IsPut s e f output at → IsPlain port e_at e → IsPlain word f_at f → IsOutput s output f_at port word
-put_found s e f output at e_at f_at port word is p w = record { port_tree = e; word_tree = f; at = at; is = is; port_is = (e_at, p); word_is = w }
+pub no_block : (p : ProgramTree) (f : FunctionTree) → p ≡ alone f → ((all : Stmts) → f.body ≢ Block [] all) → ¬ IsThinProgram p
+no_block p f is none (shape, port, word, answer, t) = none _ (body_of f shape port word answer (of_function p f is shape port word answer t))
 
--- ---- the whole
+-- the statements of a thin program's function
+two_of : (p : ProgramTree) (f : FunctionTree) (all : Stmts) → p ≡ alone f → f.body ≡ Block [] all → (shape : Shape) (port word answer : ℕ) → IsThin p shape port word answer
+    → all ≡ both (thin_output shape port word) (both (thin_return shape answer) done)
+two_of p f all is body shape port word answer t =
+    let both : Block [] all ≡ _ = sym body ∙ body_of f shape port word answer (of_function p f is shape port word answer t) in
+    cc
 
-pub of_function : (source : UnitTree) (function : FunctionSyntax) → source ≡ Defined function ∷ [] → (at : Places) (port word answer : ℕ) (t : IsThin source at port word answer) → function ≡ t.function
-of_function source function is at port word answer t = cc (is, t.alone)
+pub no_two : (p : ProgramTree) (f : FunctionTree) (all : Stmts) → p ≡ alone f → f.body ≡ Block [] all → ((a b : Stmt) → all ≢ both a (both b done)) → ¬ IsThinProgram p
+no_two p f all is body none (shape, port, word, answer, t) = none _ _ (two_of p f all is body shape port word answer t)
 
-pub no_output : (source : UnitTree) (function : FunctionSyntax) (first second : Statement) → source ≡ Defined function ∷ [] → function.statements ≡ statement first (statement second no_statement)
-    → ((o w port word : ℕ) → port < 16 → word < 32768 → ¬ IsOutput first o w port word) → ¬ IsThinTree source
-no_output source function first second is body none (at, port, word, answer, t) =
-    let same = of_function source function is at port word answer t in
-    let both : first ≡ t.first = cc (body, t.body, ap (λ (f : FunctionSyntax). f.statements) same) in
-    none at.output at.word port word t.numbers.port_fits t.numbers.word_fits (subst (λ s. IsOutput s at.output at.word port word) (sym both) t.output)
+pub no_output : (p : ProgramTree) (f : FunctionTree) (all : Stmts) (first second : Stmt) → p ≡ alone f → f.body ≡ Block [] all → all ≡ both first (both second done)
+    → ((shape : Shape) (port word : ℕ) → port < 16 → first ≢ thin_output shape port word) → ¬ IsThinProgram p
+no_output p f all first second is body pair none (shape, port, word, answer, t) =
+    let these = sym pair ∙ two_of p f all is body shape port word answer t in
+    none shape port word t.numbers.port_fits (cc)
 
-pub no_answer : (source : UnitTree) (function : FunctionSyntax) (first second : Statement) → source ≡ Defined function ∷ [] → function.statements ≡ statement first (statement second no_statement)
-    → ((at answer : ℕ) → answer < 32768 → ¬ IsAnswer second at answer) → ¬ IsThinTree source
-no_answer source function first second is body none (at, port, word, answer, t) =
-    let same = of_function source function is at port word answer t in
-    let both : second ≡ t.second = cc (body, t.body, ap (λ (f : FunctionSyntax). f.statements) same) in
-    none at.answer answer t.numbers.answer_fits (subst (λ s. IsAnswer s at.answer answer) (sym both) t.result)
+pub no_return : (p : ProgramTree) (f : FunctionTree) (all : Stmts) (first second : Stmt) → p ≡ alone f → f.body ≡ Block [] all → all ≡ both first (both second done)
+    → ((shape : Shape) (answer : ℕ) → second ≢ thin_return shape answer) → ¬ IsThinProgram p
+no_return p f all first second is body pair none (shape, port, word, answer, t) =
+    let these = sym pair ∙ two_of p f all is body shape port word answer t in
+    none shape answer (cc)
+
+-- a function with these parts is a thin one
+abbrev made : List ℕ → Kind → List VarRef → List ScalarType → List ObjectTree → Stmt → FunctionTree
+made name result params scalars locals body = record { name = name; result = result; params = params; scalars = scalars; locals = locals; body = body }
+
+rebuilt : (name : List ℕ) (result : Kind) (params : List VarRef) (scalars : List ScalarType) (locals : List ObjectTree) (body block : Stmt) → name ≡ main_name → params ≡ [] → scalars ≡ [] → locals ≡ [] → body ≡ block
+    → made name result params scalars locals body ≡ made main_name result [] [] [] block
+rebuilt name result params scalars locals body block a b c d e = cc
+
+thin_main : (f : FunctionTree) (all : Stmts) (first second : Stmt) (shape : Shape) (port word answer : ℕ) → IsThinMain f → f.body ≡ Block [] all → all ≡ both first (both second done)
+    → first ≡ thin_output shape port word → second ≡ thin_return shape answer → f ≡ record (thin_function shape port word answer) { result = f.result }
+thin_main f all first second shape port word answer main body pair put back =
+    let e : f.body ≡ Block [] (both (thin_output shape port word) (both (thin_return shape answer) done)) = cc (body, pair, put, back) in
+    rebuilt f.name f.result f.params f.scalars f.locals f.body _ main.name main.no_parameters main.no_scalars main.no_locals e
+
+pub thin_found : (p : ProgramTree) (f : FunctionTree) (all : Stmts) (first second : Stmt) (port word answer : ℕ) → p ≡ alone f → IsThinMain f → f.body ≡ Block [] all → all ≡ both first (both second done)
+    → (kind : Kind) (at word_at answer_at : ℕ) (base answer_base : Base) → first ≡ Do_expr (Node (Out port (constant word base word_at)) kind at) → second ≡ Return (Some (constant answer answer_base answer_at))
+    → IsThinNumbers port word answer → (shape : Shape) × IsThin p shape port word answer
+thin_found p f all first second port word answer is main body pair kind at word_at answer_at base answer_base put back numbers =
+    let shape : Shape = record {
+      result = f.result;
+      output_kind = kind;
+      word_base = base;
+      answer_base = answer_base;
+      output_at = at;
+      word_at = word_at;
+      answer_at = answer_at;
+    } in
+    (shape, record { numbers = numbers; is = is ∙ ap alone (thin_main f all first second shape port word answer main body pair put back) })

@@ -2,7 +2,7 @@
 use Rattle.std.specs.Prelude.{◌≡◌, ◌⊎◌, ℕ, Bool, IsTrue, List, Some}
 use Rattle.word_base.specs.Files.{Files}
 use Rattle.cc_driver.specs.declared.fault.SourceFault.{SourceFault}
-use Rattle.cc_driver.specs.SourceFaults.{source_line, IsSameFault}
+use Rattle.cc_driver.specs.SourceFaults.{source_line}
 use Rattle.cc_driver.specs.Line.{Puts, Sinks}
 use Rattle.cc_driver.specs.Build.{IsToldWith, IsRefusedFor}
 
@@ -16,6 +16,7 @@ pub record SourceRefused (tells : Bool) (files : Files) (source : List ℕ) (sin
   pub has : IsTrue tells → IsToldWith files source (IsRefusedFor fault)
   pub line : PutsFault sinks fault
 
--- the status of a source with this fault, and its line, unless memory was wanting
-abbrev pub RefusesFor : SourceFault → Sinks → ℕ → Type 0
-RefusesFor fault sinks status = ((status ≡ 1) × ((put : SourceFault) × IsSameFault fault put × PutsFault sinks put)) ⊎ (status ≡ 5)
+-- the source is refused for a fault with a property, which it has, and the line of that fault is put; or memory was wanting
+abbrev pub RefusesFor : (SourceFault → Type 0) → Files → List ℕ → Sinks → ℕ → Type 0
+RefusesFor Is files source sinks status =
+    ((status ≡ 1) × ((put : SourceFault) × Is put × IsToldWith files source (IsRefusedFor put) × PutsFault sinks put)) ⊎ (status ≡ 5)

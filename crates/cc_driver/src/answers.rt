@@ -3,9 +3,10 @@ ghost use Rattle.std.specs.Prelude.{◌≡◌, ◌≢◌, ◌⊎◌, ◌++◌, [
 ghost use Rattle.word_base.specs.Counts.{FetchFailed, StoreFailed};
 ghost use Rattle.word_base.specs.Files.{Unchanged};
 ghost use Rattle.word_base.specs.SinkAnswers.{PutRefused};
-ghost use Rattle.cc_driver.specs.Build.{Builds, IsToldWith, IsAccepted, IsRefusedFor, IsTooLong, ReadCause, TooLongCause, build_status};
+ghost use Rattle.cc_driver.specs.Build.{Builds, IsToldWith, IsAccepted, IsWithoutTypes, IsRefusedFor, IsTooLong, ReadCause, TooLongCause, build_status};
 ghost use Rattle.cc_driver.specs.BuildAnswer.{SourceRefused, RefusesFor};
 ghost use Rattle.cc_driver.specs.Line.{Puts, status_line};
+ghost use Rattle.cc_driver.specs.SourceFaults.{IsOfTypes, IsSameFault};
 ghost use Rattle.cc_driver.specs.RunAnswer.{RunAnswers};
 ghost use Rattle.cc_driver.specs.declared.fault.SourceFault.{SourceFault};
 ghost use Rattle.cc_driver.specs.RunText.{answer_text, stop_status, file_status, fault_status};
@@ -20,8 +21,8 @@ use std::alloc::Global;
 use word_base::{Shelf, Sink, SinkFault};
 
 // The status of a refused build.
-fn build_status(fault: BuildFault) -> u8
-    ensures { result ≡ build_status fault }
+fn build_status(fault: &BuildFault) -> u8
+    ensures { result ≡ build_status fault.now }
 {
     match fault {
         BuildFault::Source(_) => 1,
@@ -59,9 +60,20 @@ pub fn answer_build<F: Shelf, K: Sink>(
         → ¬ FetchFailed (F.counts shelf.old) (F.counts shelf.new)
         → ¬ StoreFailed (F.counts shelf.old) (F.counts shelf.new)
         → (result ≡ 0) ⊎ (result ≡ 5) }
+    ensures of_untyped { IsTrue F.tells → IsToldWith (F.file shelf.old) source.now IsWithoutTypes
+        → ¬ FetchFailed (F.counts shelf.old) (F.counts shelf.new)
+        → RefusesFor IsOfTypes (F.file shelf.old) source.now
+        (record {
+          tells = K.tells;
+          before = K.bytes out.old;
+          now = K.bytes out.new;
+          faults_before = K.faults out.old;
+          faults_now = K.faults out.new;
+        }) result }
     ensures of_other { (fault : SourceFault) → IsTrue F.tells → IsToldWith (F.file shelf.old) source.now (IsRefusedFor fault)
         → ¬ FetchFailed (F.counts shelf.old) (F.counts shelf.new)
-        → RefusesFor fault (record {
+        → RefusesFor (IsSameFault fault) (F.file shelf.old) source.now
+        (record {
           tells = K.tells;
           before = K.bytes out.old;
           now = K.bytes out.new;
@@ -82,8 +94,8 @@ pub fn answer_build<F: Shelf, K: Sink>(
     match build(alloc, source, image, shelf) {
         Ok(()) => 0,
         Err(fault) => {
-            report(alloc, out, fault, source);
-            build_status(fault)
+            report(alloc, out, &fault, source);
+            build_status(&fault)
         }
     }
 }

@@ -3,11 +3,12 @@ ghost use Rattle.std.specs.Prelude.{◌≡◌};
 
 use c_lexer::LexFault;
 use c_parser::ParseFault;
+use c_types::TypeFault;
 use c25_image::{ImageFault, PortFault};
 use word_base::NoMemory;
 
 /// Why a source is refused. A place is a byte offset in the source.
-#[derive(Clone, Copy, Debug, PartialEq, Eq)]
+#[derive(Debug, Drop)]
 pub enum SourceFault {
     /// A byte with which no blank and no token begins.
     BadByte { at: u32 },
@@ -22,12 +23,14 @@ pub enum SourceFault {
     /// Its tokens have no tree of height at most 200. The place is that of the first token with which none can go on, or the
     /// end of the last token, 0 where there is none.
     Syntax { at: u32 },
+    /// Its tree breaks a rule of names and types, or one of the whole source. Want of memory isn't among these.
+    Types(TypeFault),
     /// It isn't one that is compiled so far.
     NotYet,
 }
 
 /// Why a build is refused.
-#[derive(Clone, Copy, Debug, PartialEq, Eq)]
+#[derive(Debug, Drop)]
 pub enum BuildFault {
     /// The source couldn't be read, or there is none.
     Read,
@@ -77,6 +80,19 @@ impl From<ParseFault> for BuildFault {
         match fault {
             ParseFault::Syntax { at } => BuildFault::Source(SourceFault::Syntax { at }),
             ParseFault::NoMemory => BuildFault::NoMemory,
+        }
+    }
+}
+
+impl From<TypeFault> for BuildFault {
+    ghost use Rattle.cc_driver.specs.SourceFaults.{of_type_fault};
+
+    ghost from_gives = { λ given e. e ≡ of_type_fault given };
+
+    fn from(fault: TypeFault) -> Self {
+        match fault {
+            TypeFault::NoMemory => BuildFault::NoMemory,
+            why => BuildFault::Source(SourceFault::Types(why)),
         }
     }
 }

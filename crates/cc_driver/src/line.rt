@@ -1,12 +1,13 @@
 //! The lines that the commands put.
-ghost use Rattle.std.specs.Prelude.{◌≡◌, ◌++◌, Some, IfOk, string_bytes};
-ghost use Rattle.cc_driver.specs.SourceFaults.{source_line};
+ghost use Rattle.std.specs.Prelude.{◌≡◌, ◌++◌, Some, IfOk, string_bytes, codes};
+ghost use Rattle.cc_driver.specs.SourceFaults.{source_line, type_line, place_line, limit_name, spaced};
 ghost use Rattle.cc_driver.specs.Line.{Puts, build_line};
 ghost use Rattle.cc_driver.specs.RunText.{file_line, fault_line};
 
 use crate::fault::{BuildFault, FileFault, RunFault, SourceFault};
+use c_types::{LimitName, TypeFault};
 use std::alloc::Global;
-use word_base::{NoMemory, Sink};
+use word_base::{NoMemory, Sink, Text};
 
 /// Puts a line. A failure changes no status.
 pub fn say<K: Sink>(alloc: Global, out: &mut K, line: &[u8])
@@ -16,9 +17,65 @@ pub fn say<K: Sink>(alloc: Global, out: &mut K, line: &[u8])
     let _ = out.put(alloc, line);
 }
 
+// The line of a fault at a place.
+fn place_line(alloc: Global, what: &str, at: u32) -> Result<String, NoMemory>
+    ensures { IfOk result (λ line. string_bytes line ≡ place_line what.now at) }
+{
+    Ok(format!(in alloc; "source refused: {what} at byte {at}\n")?)
+}
+
+// The line of functions that call one another in a circle.
+fn chain_line(alloc: Global, chain: &[Text]) -> Result<String, NoMemory>
+    ensures { IfOk result (λ line. string_bytes line ≡ codes "source refused: recursion" ++ (spaced chain.now ++ codes "\n")) }
+{
+    let mut line = String::from_str(alloc, "source refused: recursion")?;
+    for name in chain {
+        line.push_str(" ")?;
+        line.push_str(name.as_str())?;
+    }
+    line.push_str("\n")?;
+    Ok(line)
+}
+
+fn limit_name(which: LimitName) -> &'static str
+    ensures { result.now ≡ limit_name which }
+{
+    match which {
+        LimitName::Functions => "functions",
+        LimitName::Parameters => "parameters",
+        LimitName::Scalars => "scalars",
+        LimitName::Cases => "cases",
+    }
+}
+
+// The line of a fault of types.
+fn type_line(alloc: Global, fault: &TypeFault) -> Result<String, NoMemory>
+    ensures { IfOk result (λ line. string_bytes line ≡ type_line fault.now) }
+{
+    match fault {
+        TypeFault::Undeclared { at } => place_line(alloc, "undeclared", *at),
+        TypeFault::Redeclared { at } => place_line(alloc, "redeclared", *at),
+        TypeFault::Mismatch { at } => place_line(alloc, "mismatch", *at),
+        TypeFault::NotLvalue { at } => place_line(alloc, "not an lvalue", *at),
+        TypeFault::NotConstant { at } => place_line(alloc, "not constant", *at),
+        TypeFault::LongConstant { at } => place_line(alloc, "long constant", *at),
+        TypeFault::BadPort { at } => place_line(alloc, "bad port", *at),
+        TypeFault::ArgCount { at } => place_line(alloc, "argument count", *at),
+        TypeFault::MissingMain { at } => place_line(alloc, "missing main", *at),
+        TypeFault::MissingBody { at } => place_line(alloc, "missing body", *at),
+        TypeFault::Misplaced { at } => place_line(alloc, "misplaced", *at),
+        TypeFault::Recursion { chain } => chain_line(alloc, chain.as_slice()),
+        TypeFault::Limit { which, count } => {
+            let name = limit_name(*which);
+            Ok(format!(in alloc; "source refused: limit {name} {count}\n")?)
+        }
+        TypeFault::NoMemory => Err(NoMemory),
+    }
+}
+
 // The line that refuses a source.
-fn source_line(alloc: Global, fault: SourceFault) -> Result<String, NoMemory>
-    ensures { IfOk result (λ line. string_bytes line ≡ source_line fault) }
+fn source_line(alloc: Global, fault: &SourceFault) -> Result<String, NoMemory>
+    ensures { IfOk result (λ line. string_bytes line ≡ source_line fault.now) }
 {
     let line = match fault {
         SourceFault::BadByte { at } => {
@@ -39,14 +96,15 @@ fn source_line(alloc: Global, fault: SourceFault) -> Result<String, NoMemory>
         SourceFault::Syntax { at } => {
             format!(in alloc; "source refused: syntax at byte {at}\n")?
         }
+        SourceFault::Types(why) => type_line(alloc, why)?,
         SourceFault::NotYet => format!(in alloc; "source refused: not yet\n")?,
     };
     Ok(line)
 }
 
 // Puts the line that refuses a source.
-fn report_source<K: Sink>(alloc: Global, out: &mut K, fault: SourceFault)
-    ensures { Puts K.tells (Some (source_line fault))
+fn report_source<K: Sink>(alloc: Global, out: &mut K, fault: &SourceFault)
+    ensures { Puts K.tells (Some (source_line fault.now))
         (K.bytes out.old) (K.bytes out.new) (K.faults out.old) (K.faults out.new) }
 {
     if let Ok(line) = source_line(alloc, fault) {
@@ -55,8 +113,8 @@ fn report_source<K: Sink>(alloc: Global, out: &mut K, fault: SourceFault)
 }
 
 /// Puts the line of a refused build, where it has one.
-pub fn report<K: Sink>(alloc: Global, out: &mut K, fault: BuildFault, source: &str)
-    ensures { Puts K.tells (build_line source.now fault)
+pub fn report<K: Sink>(alloc: Global, out: &mut K, fault: &BuildFault, source: &str)
+    ensures { Puts K.tells (build_line source.now fault.now)
         (K.bytes out.old) (K.bytes out.new) (K.faults out.old) (K.faults out.new) }
 {
     match fault {

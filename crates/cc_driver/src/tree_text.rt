@@ -461,7 +461,7 @@ fn prefix_text(op: PrefixOp) -> &'static str {
     }
 }
 
-fn binary_text(op: BinaryOp) -> &'static str {
+pub(crate) fn binary_text(op: BinaryOp) -> &'static str {
     match op {
         BinaryOp::Add => "+",
         BinaryOp::Sub => "-",
@@ -482,7 +482,7 @@ fn binary_text(op: BinaryOp) -> &'static str {
     }
 }
 
-fn assignment_text(op: BinaryOp) -> &'static str {
+pub(crate) fn assignment_text(op: BinaryOp) -> &'static str {
     match op {
         BinaryOp::Add => "+=",
         BinaryOp::Sub => "-=",

@@ -47,9 +47,9 @@ void_at place form = Node form None place
 abbrev pub words : List ℕ → List Initial
 words ws = map (λ w. initial.Word w) ws
 
--- an object of some cells of a type, with its list
+-- an object without a name, of some cells of a type, with its list
 abbrev pub object : ℕ → ScalarType → List Initial → ObjectTree
-object length kind list = record { length = length; kind = kind; initial = list }
+object length kind list = record { name = []; length = length; kind = kind; initial = list }
 
 -- a function by its name, type, parameters, scalars, local objects and body
 abbrev pub function : List ℕ → Kind → List VarRef → List ScalarType → List ObjectTree → Stmt → FunctionTree

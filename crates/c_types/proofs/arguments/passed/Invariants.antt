@@ -1,7 +1,7 @@
 use Rattle.std.proofs.Common.{◌≡◌, map, drop}
 use Rattle.std.specs.Vec.Iter.{into_iter_items}
 use Rattle.c_types.specs.Operands as rules
-use Rattle.c_types.specs.View.{operand_of}
+use Rattle.c_types.specs.OperandView.{operand_of}
 use Rattle.c_types.proofs.OperandLists.{passed_after}
 use Rattle.c_types.proofs.arguments.passed.Given as goal
 

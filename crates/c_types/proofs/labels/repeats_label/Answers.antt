@@ -1,4 +1,4 @@
-use Rattle.std.proofs.Common.{◌≡◌, ◌==◌, ℕ, ap, refl, ◌∙◌}
+use Rattle.std.proofs.Common.{◌==◌, ℕ, ap, refl, ◌∙◌}
 use Rattle.std.specs.HashSet.{contains}
 use Rattle.c_types.proofs.LabelLemmas.{at_first, not_there, after_case, after_default, after_body}
 use Rattle.c_types.proofs.labels.repeats_label.Goals as goal

@@ -1,23 +1,17 @@
 use Rattle.c_tree.specs.SyntaxView.{unit_of}
 use Rattle.c_tree.specs.View.{program_of}
-use Rattle.c_types.specs.Faults.{Says, fault_of}
-use Rattle.c_types.proofs.ProgramLemmas.{says_source, refused_source, typed_source, fault_says}
+use Rattle.c_types.specs.Faults.{Says}
+use Rattle.c_types.proofs.ProgramLemmas.{says_source, typed_source, fault_says}
 use Rattle.c_types.proofs.program.check.Goals as goal
 
 pub returns-in_err-frames-clause-refused : goal.returns-in_err-frames-clause-refused
 returns-in_err-frames-clause-refused c =
-    let known = says_source c.args.unit.now c.in_ok-first.first c.in_err-frames.field-0.0 c.externals-externals.ensures.externals c.in_ok-first.ensures.typed c.deref.ensures.value
+    let known = says_source c.args.unit.now c.in_ok-file.file c.in_err-frames.field-0.0 c.externals.ensures.externals c.in_ok-file.ensures.typed c.deref.ensures.value
     c.in_err-frames.ensures.refused
     in fault_says (Says (unit_of c.args.unit.now)) c.in_err-frames.field-0.0 c.from_residual-in_err-frames.result c.from_residual-in_err-frames.ensures.1 known
 
-pub returns-in_err-of-clause-refused : goal.returns-in_err-of-clause-refused
-returns-in_err-of-clause-refused c =
-    let known = refused_source c.args.unit.now c.in_ok-first.first c.in_ok-frames.frames.items c.in_err-of.field-0.0 c.externals-externals.ensures.externals
-    c.in_ok-first.ensures.typed c.deref.ensures.value c.in_ok-frames.ensures.frames c.deref-2.ensures.value c.in_err-of.ensures.refused
-    in fault_says (Says (unit_of c.args.unit.now)) (fault_of c.in_err-of.field-0.0) c.from_residual-in_err-of.result c.from_residual-in_err-of.ensures.1 known
-
 pub returns-clause-typed : goal.returns-clause-typed
 returns-clause-typed c =
-    typed_source c.args.unit.now c.in_ok-first.first c.in_ok-of.field-0 c.in_ok-frames.frames.items (program_of c.in_ok-program.field-0)
-    c.externals-externals.ensures.externals c.in_ok-first.ensures.typed c.deref.ensures.value c.in_ok-frames.ensures.whole c.in_ok-frames.ensures.frames
-    c.deref-2.ensures.value c.in_ok-of.ensures.typed c.contents-second.ensures c.in_ok-program.ensures
+    typed_source c.args.unit.now c.in_ok-file.file c.in_ok-frames.frames.items (program_of c.in_ok-program.field-0)
+    c.externals.ensures.externals c.in_ok-file.ensures.typed c.deref.ensures.value c.in_ok-frames.ensures.whole c.in_ok-frames.ensures.frames
+    c.contents.ensures c.in_ok-program.ensures

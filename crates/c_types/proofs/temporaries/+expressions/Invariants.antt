@@ -1,6 +1,6 @@
 use Rattle.std.proofs.Common.{◌≡◌, take}
 use Rattle.c_tree.specs.View.{argument_list}
-use Rattle.c_types.specs.Temporaries.{argument_temporaries}
+use Rattle.c_tree.specs.Temporaries.{argument_temporaries}
 use Rattle.c_types.proofs.temporaries.+expressions.Given as goal
 
 abbrev pub invariant-arguments-loop-e : goal.invariant-arguments-loop-e

@@ -1,6 +1,6 @@
 use Rattle.std.proofs.Common.{◌≡◌, take}
 use Rattle.c_tree.specs.View.{statement_list, choice_list}
-use Rattle.c_types.specs.Temporaries.{statements_temporaries, choices_temporaries}
+use Rattle.c_tree.specs.Temporaries.{statements_temporaries, choices_temporaries}
 use Rattle.c_types.proofs.temporaries.+statements.Given as goal
 
 abbrev pub invariant-statements-loop-s : goal.invariant-statements-loop-s

@@ -1,4 +1,4 @@
-use Rattle.std.proofs.Common.{◌≡◌, ◌+◌, ◌||◌, ◌∙◌, false, ap, sym, refl, drop, rules}
+use Rattle.std.proofs.Common.{◌+◌, ◌||◌, ◌∙◌, false, ap, sym, refl, drop, rules}
 use Rattle.c_tree.specs.SyntaxView.{body_of, declaration_of, expression_of, statement_of}
 use Rattle.c_tree.specs.View.{expr_of, stmt_of}
 use Rattle.std.specs.Prelude.{map}
@@ -13,7 +13,7 @@ use Rattle.c_types.proofs.blocks.Body.+statements.Goals as goal
 pub block_here-returns-clause-typed : goal.block_here-returns-clause-typed
 block_here-returns-clause-typed t c =
     block_typed c.args.self.now c.declarations.new.self c.statements.new.self (record { declared = c.new.result; statements = c.new-2.result }) c.in_ok-opening.opening c.in_ok-body.body c.args.enclosing (map declaration_of c.args.declarations.now) (body_of c.args.statements.now)
-    c.new.ensures.items c.new-2.ensures.items c.in_ok-opening.ensures.known c.in_ok-opening.ensures.returned c.in_ok-opening.ensures.typed c.in_ok-body.ensures.typed
+    c.new.ensures.items c.new-2.ensures.items c.in_ok-opening.ensures.returned c.in_ok-opening.ensures.typed c.in_ok-body.ensures.typed
 
 pub statement-returns-in-Block-clause-typed : goal.statement-returns-in-Block-clause-typed
 statement-returns-in-Block-clause-typed t c =
@@ -26,12 +26,11 @@ statement-returns-in-Block-clause-refused t c =
 pub statements-loop-s-preserved : goal.statements-loop-s-preserved
 statements-loop-s-preserved t c = record {
   typed = c.loop-s.invariant.typed
-      ∙ turn c.loop-s.self c.statement.new.self c.in_ok-statement.ensures.tables c.in_ok-statement.ensures.bodies c.in_ok-statement.ensures.known c.in_ok-statement.ensures.returned
+      ∙ turn c.loop-s.self c.statement.new.self c.in_ok-statement.ensures.tables c.in_ok-statement.ensures.bodies c.in_ok-statement.ensures.returned
       c.args.enclosing c.args.list.now c.loop-s.s-index c.s-item.result c.loop-s.into.items c.in_ok-statement.field-0 c.s-item.is c.loop-s-test.true c.in_ok-statement.ensures.typed
       ∙ ap (λ l. behind l (statements_in c.statement.new.self c.args.enclosing (body_of (drop (c.loop-s.s-index + 1) c.args.list.now)))) (sym c.in_ok-push.ensures.items);
   tables = c.in_ok-statement.ensures.tables ∙ c.loop-s.invariant.tables;
   bodies = c.in_ok-statement.ensures.bodies ∙ c.loop-s.invariant.bodies;
-  known = c.in_ok-statement.ensures.known ∙ c.loop-s.invariant.known;
   returned = c.in_ok-statement.ensures.returned ∙ c.loop-s.invariant.returned;
 }
 
@@ -60,13 +59,13 @@ do_loop-returns-clause-refused t c =
 pub either-returns-clause-typed : goal.either-returns-clause-typed
 either-returns-clause-typed t c =
     same_typed _ _ c.otherwise.new.self c.otherwise.result
-    (else_rest c.args.self.now c.statement.new.self c.in_ok-yes.ensures.tables c.in_ok-yes.ensures.bodies c.in_ok-yes.ensures.known c.in_ok-yes.ensures.returned c.args.enclosing (expression_of c.args.test.now) (statement_of c.args.yes.now.kind c.args.yes.now.at) (statement_of c.args.no.now.kind c.args.no.now.at) c.args.at (expr_of c.in_ok-test.test) (stmt_of c.in_ok-yes.yes) c.in_ok-test.ensures.typed c.in_ok-yes.ensures.typed)
+    (else_rest c.args.self.now c.statement.new.self c.in_ok-yes.ensures.tables c.in_ok-yes.ensures.bodies c.in_ok-yes.ensures.returned c.args.enclosing (expression_of c.args.test.now) (statement_of c.args.yes.now.kind c.args.yes.now.at) (statement_of c.args.no.now.kind c.args.no.now.at) c.args.at (expr_of c.in_ok-test.test) (stmt_of c.in_ok-yes.yes) c.in_ok-test.ensures.typed c.in_ok-yes.ensures.typed)
     c.otherwise.ensures.typed
 
 pub either-returns-clause-refused : goal.either-returns-clause-refused
 either-returns-clause-refused t c =
     same_refused _ _ c.otherwise.result
-    (else_rest c.args.self.now c.statement.new.self c.in_ok-yes.ensures.tables c.in_ok-yes.ensures.bodies c.in_ok-yes.ensures.known c.in_ok-yes.ensures.returned c.args.enclosing (expression_of c.args.test.now) (statement_of c.args.yes.now.kind c.args.yes.now.at) (statement_of c.args.no.now.kind c.args.no.now.at) c.args.at (expr_of c.in_ok-test.test) (stmt_of c.in_ok-yes.yes) c.in_ok-test.ensures.typed c.in_ok-yes.ensures.typed)
+    (else_rest c.args.self.now c.statement.new.self c.in_ok-yes.ensures.tables c.in_ok-yes.ensures.bodies c.in_ok-yes.ensures.returned c.args.enclosing (expression_of c.args.test.now) (statement_of c.args.yes.now.kind c.args.yes.now.at) (statement_of c.args.no.now.kind c.args.no.now.at) c.args.at (expr_of c.in_ok-test.test) (stmt_of c.in_ok-yes.yes) c.in_ok-test.ensures.typed c.in_ok-yes.ensures.typed)
     c.otherwise.ensures.refused
 
 pub statement-returns-in-Switch-clause-typed : goal.statement-returns-in-Switch-clause-typed
@@ -83,7 +82,6 @@ choices-loop-part-init t c = record {
       ∙ ap (λ l. behind_choices l false (choices_in c.args.self.now c.args.enclosing (parts_of c.args.parts.now))) (sym c.new.ensures.items);
   tables = refl;
   bodies = refl;
-  known = refl;
   returned = refl;
 }
 
@@ -95,7 +93,6 @@ choices-loop-part-preserved t c = record {
       ∙ ap (λ l. behind_choices l (c.loop-part.labelled.pointer || c.in_ok-found.found.pointer) (choices_in c.label_or_body.new.self c.args.enclosing (parts_of (drop (c.loop-part.part-index + 1) c.args.parts.now)))) (sym c.in_ok-push.ensures.items);
   tables = c.in_ok-found.ensures.tables ∙ c.loop-part.invariant.tables;
   bodies = c.in_ok-found.ensures.bodies ∙ c.loop-part.invariant.bodies;
-  known = c.in_ok-found.ensures.known ∙ c.loop-part.invariant.known;
   returned = c.in_ok-found.ensures.returned ∙ c.loop-part.invariant.returned;
 }
 

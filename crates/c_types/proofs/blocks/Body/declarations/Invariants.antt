@@ -7,9 +7,8 @@ use Rattle.c_types.proofs.blocks.Body.declarations.Given as goal
 
 abbrev pub invariant-loop-declaration : goal.invariant-loop-declaration
 invariant-loop-declaration l = record {
-  typed : declarations l.initial.self.known.now (opened_of l.initial.self l.fn.opening) (map declaration_of l.list) ≡ declarations l.initial.self.known.now (opened_of l.self l.opening) (map declaration_of (drop l.declaration-index l.list));
+  typed : declarations (opened_of l.initial.self l.fn.opening) (map declaration_of l.list) ≡ declarations (opened_of l.self l.opening) (map declaration_of (drop l.declaration-index l.list));
   around : around_of l.self.scopes ≡ around_of l.initial.self.scopes;
   bodies : l.self.scopes.bodies ≡ l.initial.self.scopes.bodies;
-  known : l.self.known ≡ l.initial.self.known;
   value : l.self.result ≡ l.initial.self.result;
 }

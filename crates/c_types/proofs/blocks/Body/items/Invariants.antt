@@ -7,9 +7,8 @@ use Rattle.c_types.proofs.blocks.Body.items.Given as goal
 
 abbrev pub invariant-loop-item : goal.invariant-loop-item
 invariant-loop-item l = record {
-  typed : block_items l.initial.self.known.now (opened_of l.initial.self l.fn.opening) l.base (map item_of l.list) ≡ block_items l.initial.self.known.now (opened_of l.self l.opening) l.base (map item_of (drop l.item-index l.list));
+  typed : block_items (opened_of l.initial.self l.fn.opening) l.base (map item_of l.list) ≡ block_items (opened_of l.self l.opening) l.base (map item_of (drop l.item-index l.list));
   around : around_of l.self.scopes ≡ around_of l.initial.self.scopes;
   bodies : l.self.scopes.bodies ≡ l.initial.self.scopes.bodies;
-  known : l.self.known ≡ l.initial.self.known;
   value : l.self.result ≡ l.initial.self.result;
 }

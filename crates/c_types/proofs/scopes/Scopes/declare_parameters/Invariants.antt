@@ -6,7 +6,7 @@ use Rattle.c_types.proofs.scopes.Scopes.declare_parameters.Given as goal
 
 abbrev pub invariant-loop-n : goal.invariant-loop-n
 invariant-loop-n l = record {
-  declared : with_parameters (scope_of l.initial.self) l.known 0 (map parameter_of l.list) l.kinds ≡ with_parameters (scope_of l.self) l.known l.n (map parameter_of (drop l.n l.list)) (drop l.n l.kinds);
+  declared : with_parameters (scope_of l.initial.self) 0 (map parameter_of l.list) l.kinds ≡ with_parameters (scope_of l.self) l.n (map parameter_of (drop l.n l.list)) (drop l.n l.kinds);
   around : around_of l.self ≡ around_of l.initial.self;
   bodies : l.self.bodies ≡ l.initial.self.bodies;
 }

@@ -1,4 +1,4 @@
-use Rattle.std.proofs.Common.{rules, ◌≡◌, ◌∙◌, ◌||◌, not, true, false, sym}
+use Rattle.std.proofs.Common.{rules, ◌≡◌, ◌∙◌, ◌||◌, not, true, sym}
 use Rattle.std.proofs.lemmas.List.{length-map}
 use Rattle.c_tree.specs.SyntaxView.{item_of}
 use Rattle.c_types.specs.declared.declarations.Declared.TheVariants as declares

@@ -1,12 +1,11 @@
-use Rattle.std.proofs.Common.{rules, ◌≡◌, ◌∙◌, ◌||◌, not, true, false, sym, ap, refl, length}
+use Rattle.std.proofs.Common.{rules, ◌≡◌, ◌∙◌, ◌||◌, not, true, ap, refl, length}
 use Rattle.c_tree.specs.SyntaxView.{item_of}
 use Rattle.c_types.specs.declared.declarations.Declared.TheVariants as declares
 use Rattle.c_types.specs.declared.fault.Rule.TheVariants.{Mismatch}
-use Rattle.c_types.specs.declared.fault.Refusal.TheVariants as refusals
 use Rattle.c_types.specs.Answers.{Refuses}
-use Rattle.c_types.specs.Outcome.{Outcome, Is, breaks}
+use Rattle.c_types.specs.Outcome.{Is, breaks}
 use Rattle.c_types.specs.Tables.{scope_of}
-use Rattle.c_types.specs.Units.{item_as, File}
+use Rattle.c_types.specs.Units.{item_as}
 use Rattle.c_types.specs.View.{file_of, starts_of}
 use Rattle.c_types.proofs.UnitLemmas.{starts_refused, redeclared_refused, declared_item, not_allowed, allowed_twice, allowed_once, declared_refused, initial_given, breaks_mismatch}
 use Rattle.c_types.proofs.units.File.prototyped.Goals.{then-not-allowed-via-then-not-allowed, then-not-allowed-via-else-not-allowed+then-is_twice}

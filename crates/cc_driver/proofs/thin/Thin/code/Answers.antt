@@ -5,4 +5,4 @@ pub returns-clause-instructions : goal.returns-clause-instructions
 returns-clause-instructions c = thin_instructions c.args.self.port c.args.self.word c.args.self.answer c.requires
 
 pub returns-clause-agrees : goal.returns-clause-agrees
-returns-clause-agrees c = λ at. thin_agrees at c.args.self.port c.args.self.word c.args.self.answer c.requires
+returns-clause-agrees c = λ shape. thin_agrees shape c.args.self.port c.args.self.word c.args.self.answer c.requires

@@ -1,0 +1,11 @@
+use Rattle.std.proofs.Common.{◌≡◌, map, take, drop}
+use Rattle.c_types.specs.Programs.{frame}
+use Rattle.c_types.specs.View.{typed_function_of, frame_lists}
+use Rattle.c_types.specs.Whole.{first_above, frame_size}
+use Rattle.c_types.proofs.whole.small_frames.Given as goal
+
+abbrev pub invariant-loop-n : goal.invariant-loop-n
+invariant-loop-n l = record {
+  frames : frame_lists l.frames.items ≡ map (λ f. frame (typed_function_of f)) (take l.n l.functions);
+  small : first_above 64 (map frame_size (map typed_function_of (drop l.n l.functions))) ≡ first_above 64 (map frame_size (map typed_function_of l.functions));
+}

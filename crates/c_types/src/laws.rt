@@ -1,0 +1,18 @@
+//! Laws of typed programs.
+ghost use Rattle.std.specs.Prelude.{◌≡◌};
+ghost use Rattle.c_tree.specs.SyntaxTree.{UnitTree};
+ghost use Rattle.c_tree.specs.TypedTree.{ProgramTree};
+ghost use Rattle.c_types.specs.Checked.{IsTyped};
+ghost use Rattle.c_types.specs.Faults.{Says};
+ghost use Rattle.c_types.specs.declared.fault.TypeFault.{TypeFault};
+ghost use Rattle.c_types.specs.declared.fault.TypeFault.TheVariants as faults;
+
+/// A source has at most one typed program.
+pub fn one_typed_program()
+    ensures { (unit : UnitTree) (a b : ProgramTree) → IsTyped unit a → IsTyped unit b → a ≡ b }
+{}
+
+/// A source that has a typed program has no fault: it is refused for want of memory alone.
+pub fn typed_is_accepted()
+    ensures { (unit : UnitTree) (program : ProgramTree) (fault : TypeFault) → IsTyped unit program → Says unit fault → fault ≡ faults.NoMemory }
+{}
