@@ -132,7 +132,7 @@ quickly() {
     started=$(date +%s%N)
     answers_types "$1" "$2"
     took=$((($(date +%s%N) - started) / 1000000))
-    [ "$took" -lt 2000 ] || fail "$2 took $took ms"
+    [ "$took" -lt 1000 ] || fail "$2 took $took ms"
 }
 echo "int main(void){int $(repeated 99990 ',' 'n%d');return 0;}" > names.c
 quickly 'source refused: limit scalars 99990' names.c
