@@ -1,7 +1,8 @@
 -- What each operator of the typed tree gives on words: ISO 9899:1990 6.3.3.3 and 6.3.5 to 6.3.12, by docs/LANGUAGE.md,
 -- "Values".
-use Rattle.std.specs.Prelude.{ℕ, not}
-use Rattle.word_base.specs.Words.{Calc, Good, truth, int_add, int_subtract, int_multiply, int_quotient, int_remainder, int_negate, unsigned_add, unsigned_subtract, unsigned_multiply, unsigned_quotient, unsigned_remainder, unsigned_negate, bits_and, bits_or, bits_xor, complement, shift_left, int_shift_right, unsigned_shift_right, equal, int_less, unsigned_less}
+use Rattle.std.specs.Prelude.{ℕ, not, Result, Ok, Err}
+use Rattle.word_base.specs.declared.outcome.UndefinedKind.{UndefinedKind}
+use Rattle.word_base.specs.Words.{Calc, Good, Bad, truth, int_add, int_subtract, int_multiply, int_quotient, int_remainder, int_negate, unsigned_add, unsigned_subtract, unsigned_multiply, unsigned_quotient, unsigned_remainder, unsigned_negate, bits_and, bits_or, bits_xor, complement, shift_left, int_shift_right, unsigned_shift_right, equal, int_less, unsigned_less}
 use Rattle.c_tree.specs.declared.operator.UnaryOp.{UnaryOp}
 use Rattle.c_tree.specs.declared.operator.UnaryOp.TheVariants.{Minus, Plus, Complement}
 use Rattle.c_tree.specs.declared.operator.BinaryOp.{BinaryOp}
@@ -56,3 +57,8 @@ abbrev pub unsigned_unary : UnaryOp → ℕ → Calc
 unsigned_unary Minus a = unsigned_negate a
 unsigned_unary Plus a = Good a
 unsigned_unary Complement a = complement a
+
+-- what code that calculates a word answers
+abbrev pub answer : Calc → Result ℕ UndefinedKind
+answer (Good w) = Ok w
+answer (Bad kind) = Err kind

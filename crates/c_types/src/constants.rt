@@ -6,8 +6,10 @@ ghost use Rattle.c_tree.specs.SyntaxView.{expression_of};
 ghost use Rattle.c_tree.specs.View.{expr_of};
 ghost use Rattle.c_types.specs.Constants as constants;
 
-use crate::words::{int_binary, int_unary, truth, unsigned_binary, unsigned_unary};
-use c_tree::{Base, BinaryOp, Expr, ExprForm, ExprKind, ScalarType, TypedExpr, UnaryOp};
+use c_tree::{
+    BinaryOp, Expr, ExprForm, ExprKind, ScalarType, TypedExpr, UnaryOp, int_binary, int_unary,
+    is_unsigned, points, truth, unsigned_binary, unsigned_unary, without_sign,
+};
 
 /// The word of a constant expression, which is typed as this.
 pub(crate) fn constant(e: &Expr, x: &TypedExpr) -> Option<u16>
@@ -75,9 +77,9 @@ fn of_one(op: UnaryOp, kind: Option<ScalarType>, a: u16) -> Option<u16>
     ensures { result ≡ constants.good (if eval.is_unsigned kind then operators.unsigned_unary op a else operators.int_unary op a) }
 {
     if is_unsigned(kind) {
-        unsigned_unary(op, a)
+        Some(unsigned_unary(op, a))
     } else {
-        int_unary(op, a)
+        int_unary(op, a).ok()
     }
 }
 
@@ -94,9 +96,9 @@ fn of_two(
     if (points(left) || points(right)) && !compares(op) {
         None
     } else if without_sign(op, left, right) {
-        unsigned_binary(op, a, b)
+        unsigned_binary(op, a, b).ok()
     } else {
-        int_binary(op, a, b)
+        int_binary(op, a, b).ok()
     }
 }
 
@@ -104,33 +106,4 @@ fn compares(op: BinaryOp) -> bool
     ensures { result ≡ constants.compares op }
 {
     matches!(op, BinaryOp::Eq | BinaryOp::Ne)
-}
-
-pub(crate) fn points(kind: Option<ScalarType>) -> bool
-    ensures { result ≡ eval.points kind }
-{
-    kind.is_some_and(|kind| kind.stars > 0)
-}
-
-// Whether a word of this type is read without a sign.
-fn is_unsigned(kind: Option<ScalarType>) -> bool
-    ensures { result ≡ eval.is_unsigned kind }
-{
-    matches!(
-        kind,
-        Some(ScalarType {
-            base: Base::Unsigned,
-            stars: 0
-        })
-    )
-}
-
-// Whether an operator computes without a sign: a shift by its left type, any other where one type is unsigned.
-fn without_sign(op: BinaryOp, left: Option<ScalarType>, right: Option<ScalarType>) -> bool
-    ensures { result ≡ eval.without_sign op left right }
-{
-    match op {
-        BinaryOp::Shl | BinaryOp::Shr => is_unsigned(left),
-        _ => is_unsigned(left) || is_unsigned(right),
-    }
 }

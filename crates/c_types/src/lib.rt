@@ -29,7 +29,6 @@ mod type_words;
 mod units;
 mod uses;
 mod whole;
-mod words;
 mod writes;
 
 pub use fault::{LimitName, TypeFault};

@@ -19,14 +19,15 @@ ghost use Rattle.c_types.specs.OperandView.{operand_of};
 ghost use Rattle.c_types.specs.View.{locals_of};
 
 use crate::blocks::{Body, Opening};
-use crate::constants::points;
 use crate::conversions::given;
 use crate::expressions::word_at;
 use crate::fault::{Refusal, Rule, mismatch};
 use crate::labels::{Labelled, switched};
 use crate::local::Enclosing;
 use crate::operands::Operand;
-use c_tree::{Choice, Decl, Expr, ScalarType, Stmt, StmtKind, SwitchPart, TypedExpr, TypedStmt};
+use c_tree::{
+    Choice, Decl, Expr, ScalarType, Stmt, StmtKind, SwitchPart, TypedExpr, TypedStmt, points,
+};
 use std::alloc::Global;
 
 /// What stands once between the braces of a switch.
