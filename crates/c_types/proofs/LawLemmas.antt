@@ -14,7 +14,7 @@ use Rattle.c_types.specs.Programs.{program_tree}
 use Rattle.c_types.specs.Units.{TypedFunction, File, typed_unit}
 use Rattle.c_types.specs.Whole.{passed, IsPassed}
 
-one_file : (o : Outcome File) (a b : File) → o ≡ Is a → o ≡ Is b → a ≡ b
+pub one_file : (o : Outcome File) (a b : File) → o ≡ Is a → o ≡ Is b → a ≡ b
 one_file o a b first second = let same : Is a ≡ Is b = sym first ∙ second in cc same
 
 pub one_program : (unit : UnitTree) (a b : ProgramTree) → IsTyped unit a → IsTyped unit b → a ≡ b

@@ -28,6 +28,7 @@ pub mod WayLemmas
 pub mod PlaceLemmas
 pub mod TrailLemmas
 pub mod LinkLemmas
+mod FaultLaws
 pub mod FollowLemmas
 pub mod SearchLemmas
 pub mod CalleeLemmas

@@ -16,3 +16,8 @@ pub fn one_typed_program()
 pub fn typed_is_accepted()
     ensures { (unit : UnitTree) (program : ProgramTree) (fault : TypeFault) → IsTyped unit program → Says unit fault → fault ≡ faults.NoMemory }
 {}
+
+/// Of a source at most one fault is said, but for want of memory.
+pub fn one_fault()
+    ensures { (unit : UnitTree) (a b : TypeFault) → Says unit a → Says unit b → ¬ (a ≡ faults.NoMemory) → ¬ (b ≡ faults.NoMemory) → a ≡ b }
+{}
