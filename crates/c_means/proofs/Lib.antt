@@ -1,0 +1,15 @@
+mod AnswerLemmas
+mod BlockLemmas
+mod CallLemmas
+mod FillLemmas
+mod InputLemmas
+mod LabelLemmas
+mod MainLemmas
+mod NameLemmas
+mod ObjectLemmas
+mod RunLemmas
+mod Sizes
+mod StepLemmas
+mod StoreLemmas
+mod TurnLemmas
+mod WorldLemmas
