@@ -1,4 +1,4 @@
--- The steps that `run` asks for lie in their range.
+-- The numbers that commands ask for lie in their range.
 use Rattle.std.proofs.Common.{◌≡◌, ◌∙◌, ◌<◌, ℕ, Bool, true, false, zero, suc, refl, sym, ap, subst, arith, inl, inr, List, [], ◌∷◌, length, map, Option, Some, None, codes, true≢false, not, slice_index}
 use Rattle.std.specs.Prelude.{option_map, slice_get, unwrap_or}
 use Rattle.std.specs.List.{All, slice_index_or}
@@ -27,8 +27,8 @@ use Rattle.clap.specs.declared.parser.matches.MatchedArg.{MatchedArg}
 use Rattle.clap.proofs.CallerLemmas.{entry_by_id, same_rules_by_id}
 use Rattle.clap.proofs.ValueTestLemmas.{Accepts-accepts}
 use Rattle.clap.proofs.WalkLemmas.{both}
-use Rattle.cc_words.specs.Asked.{in_range}
-use Rattle.cc_words.specs.Commands.{name_rule, run_app, steps_rule}
+use Rattle.cc_words.specs.Asked.{is_number_to}
+use Rattle.cc_words.specs.Commands.{greatest_steps, greatest_turns, means_app, name_rule, number_rule, numbered_app, run_app}
 
 -- ---- what an entry gives, where no group has one and each value passes Q
 
@@ -69,10 +69,7 @@ text_passed c f id Q t values no_groups named reads read found = go (matched_of 
         let got = entry_by_id (EntryPasses c) f.entries.items id x values e in
         text_at c id Q x got.0 t no_groups named reads read got.1 ((bytes_eq-Decides got.0.0.now id).0 got.2) got.3 (rw e at found)
 
--- ---- the arguments of `run`
-
-abbrev steps_parser : ValueParser
-steps_parser = parser.Unsigned 1 100000000
+-- ---- the arguments of a command of two names and a number
 
 nil_of_empty : {X : Type 0} (xs : List X) → is_empty xs ≡ true → xs ≡ []
 nil_of_empty [] e = refl
@@ -83,13 +80,20 @@ no_groups_of a e =
     let third : is_empty a.groups.items ≡ true = (both _ _ (both _ _ (both _ _ e).1).1).0 in
     nil_of_empty a.groups.items third
 
--- the third is the steps
-record IsRunList (xs : List Arg) : Type 0 where
-  has : 2 < length xs
-  parser_is : (d : Arg) → (slice_index_or xs 2 d).value_parser ≡ Some steps_parser
-  id_is : (d : Arg) → (slice_index_or xs 2 d).id.now ≡ codes "steps"
-  one : (j : ℕ) (e : Arg) → j < length xs → bytes_eq (slice_index_or xs j e).id.now (codes "steps") ≡ true → j ≡ 2
-  groups : All (λ a. a.groups.items ≡ []) xs
+-- the number's id is none that `clap` uses itself, and differs from those of the names
+record IsApart (first second id : Text) : Type 0 where
+  named : id ≡ [] → ⊥
+  no_help : id ≡ codes "help" → ⊥
+  no_version : id ≡ codes "version" → ⊥
+  no_first : bytes_eq first id ≡ false
+  no_second : bytes_eq second id ≡ false
+
+-- two numbers are not both equal and apart
+apart : (a b : ℕ) → a ≡ b → a < b → ⊥
+apart a b e lt = absurd (omega arith)
+
+first_byte : (s t : Text) → s ≡ t → slice_index s 0 ≡ slice_index t 0
+first_byte s t e = ap (λ w. slice_index w 0) e
 
 head_is : (r s : Rule) (rs ss : List Rule) → r ∷ rs ≡ s ∷ ss → r ≡ s
 head_is r s rs ss e = ap (λ l. unwrap_or (slice_get l 0) s) e
@@ -101,85 +105,110 @@ tail_is r s rs ss e = ap (λ l. tail_or l) e
     tail_or [] = []
     tail_or (x ∷ xs) = xs
 
-three : (x y z : Arg) → rule_of x ≡ name_rule (codes "image") → rule_of y ≡ name_rule (codes "ports") → rule_of z ≡ steps_rule → IsRunList (x ∷ y ∷ z ∷ [])
-three x y z ex ey ez = record {
-  has = omega arith;
-  parser_is = λ d. ap (λ r. r.parser) ez;
-  id_is = λ d. ap (λ r. r.id) ez;
-  one = only;
-  groups = All-cons P x (y ∷ z ∷ []) (no_groups_of x (ap (λ r. r.is_simple) ex)) (All-cons P y (z ∷ []) (no_groups_of y (ap (λ r. r.is_simple) ey))
-      (All-cons P z [] (no_groups_of z (ap (λ r. r.is_simple) ez)) (All-nil P)));
-}
-  where
-    P : Arg → Type 0
-    P a = a.groups.items ≡ []
-
-    only : (j : ℕ) (e : Arg) → j < 3 → bytes_eq (slice_index_or (x ∷ y ∷ z ∷ []) j e).id.now (codes "steps") ≡ true → j ≡ 2
-    only zero e lt same =
-        let is : x.id.now ≡ codes "image" = ap (λ r. r.id) ex in
-        let bad : false ≡ true = rw is at same in
-        absurd (true≢false (sym bad))
-    only (suc zero) e lt same =
-        let is : y.id.now ≡ codes "ports" = ap (λ r. r.id) ey in
-        let bad : false ≡ true = rw is at same in
-        absurd (true≢false (sym bad))
-    only (suc (suc zero)) e lt same = refl
-    only (suc (suc (suc j))) e lt same = absurd (omega arith)
-
--- two numbers are not both equal and apart
-apart : (a b : ℕ) → a ≡ b → a < b → ⊥
-apart a b e lt = absurd (omega arith)
-
-run_list : (xs : List Arg) → map rule_of xs ≡ run_app.top.rules → IsRunList xs
-run_list [] e = absurd (apart 0 3 (ap length e) (omega arith))
-run_list (x ∷ []) e = absurd (apart 1 3 (ap length e) (omega arith))
-run_list (x ∷ y ∷ []) e = absurd (apart 2 3 (ap length e) (omega arith))
-run_list (x ∷ y ∷ z ∷ []) e =
-    three x y z (head_is _ _ _ _ e) (head_is _ _ _ _ (tail_is _ _ _ _ e)) (head_is _ _ _ _ (tail_is _ _ _ _ (tail_is _ _ _ _ e)))
-run_list (x ∷ y ∷ z ∷ u ∷ rest) e = absurd (apart 3 (suc (suc (suc (suc (length (map rule_of rest)))))) (sym (ap length e)) (omega arith))
-
--- ---- the range
-
 not_true : (b : Bool) → not b ≡ true → b ≡ false
 not_true true e = absurd (true≢false (sym e))
 not_true false e = refl
 
-first_byte : (s t : Text) → s ≡ t → slice_index s 0 ≡ slice_index t 0
-first_byte s t e = ap (λ w. slice_index w 0) e
+module _ (first second id usual : Text) (greatest : ℕ) (ids : IsApart first second id) where
+  -- the third is the number
+  record IsNumbered (xs : List Arg) : Type 0 where
+    has : 2 < length xs
+    parser_is : (d : Arg) → (slice_index_or xs 2 d).value_parser ≡ Some (parser.Unsigned 1 greatest)
+    id_is : (d : Arg) → (slice_index_or xs 2 d).id.now ≡ id
+    one : (j : ℕ) (e : Arg) → j < length xs → bytes_eq (slice_index_or xs j e).id.now id ≡ true → j ≡ 2
+    groups : All (λ a. a.groups.items ≡ []) xs
 
-module _ (old : Command) (m : ArgMatches) (p : IsParsedFrom old m) (run : IsRunList (args_of old)) where
-  no_auto : (d : Arg) → IsAuto (slice_index_or (args_of old) 2 d) → ⊥
-  no_auto d (inl h) = apart 104 115 (sym (first_byte (codes "steps") (codes "help") (sym (run.id_is d) ∙ h))) (omega arith)
-  no_auto d (inr h) = apart 115 118 (first_byte (codes "steps") (codes "version") (sym (run.id_is d) ∙ h)) (omega arith)
+  three : (x y z : Arg) → rule_of x ≡ name_rule first → rule_of y ≡ name_rule second → rule_of z ≡ number_rule id usual greatest → IsNumbered (x ∷ y ∷ z ∷ [])
+  three x y z ex ey ez = record {
+    has = omega arith;
+    parser_is = λ d. ap (λ r. r.parser) ez;
+    id_is = λ d. ap (λ r. r.id) ez;
+    one = only;
+    groups = All-cons P x (y ∷ z ∷ []) (no_groups_of x (ap (λ r. r.is_simple) ex)) (All-cons P y (z ∷ []) (no_groups_of y (ap (λ r. r.is_simple) ey))
+        (All-cons P z [] (no_groups_of z (ap (λ r. r.is_simple) ez)) (All-nil P)));
+  }
+    where
+      P : Arg → Type 0
+      P a = a.groups.items ≡ []
 
-  -- an argument of the built command with this id has the parser
-  parser_by_id : (j : ℕ) (x : Arg) → j < length (args_of p.built) → slice_index_or (args_of p.built) j x ≡ x → bytes_eq x.id.now (codes "steps") ≡ true
-      → parser_of x ≡ steps_parser
-  parser_by_id j x high at same =
-      let id_is : (slice_index_or (args_of old) 2 x).id.now ≡ codes "steps" = run.id_is x in
-      let rules : SameRules (slice_index_or (args_of old) 2 x) x = same_rules_by_id old m p 2 x run.has
-      (λ i e lt eq. run.one i e lt (subst (λ (w : Text). bytes_eq (slice_index_or (args_of old) i e).id.now w ≡ true) id_is eq))
-      (no_auto x) j x high at (subst (λ (w : Text). bytes_eq x.id.now w ≡ true) (sym id_is) same) in
-      ap parser_of_value (rules.parser steps_parser (run.parser_is x))
+      only : (j : ℕ) (e : Arg) → j < 3 → bytes_eq (slice_index_or (x ∷ y ∷ z ∷ []) j e).id.now id ≡ true → j ≡ 2
+      only zero e lt same =
+          let is : x.id.now ≡ first = ap (λ r. r.id) ex in
+          absurd (true≢false (sym same ∙ ap (λ w. bytes_eq w id) is ∙ ids.no_first))
+      only (suc zero) e lt same =
+          let is : y.id.now ≡ second = ap (λ r. r.id) ey in
+          absurd (true≢false (sym same ∙ ap (λ w. bytes_eq w id) is ∙ ids.no_second))
+      only (suc (suc zero)) e lt same = refl
+      only (suc (suc (suc j))) e lt same = absurd (omega arith)
 
-  reads : (r : Reading) → HasReading p.built (codes "steps") r → r ≡ reading.AsWritten
-  reads r any = sym any.4.1 ∙ ap reading_of (parser_by_id any.0 any.1 any.2 any.3 any.4.0)
+  numbered : (xs : List Arg) → map rule_of xs ≡ name_rule first ∷ name_rule second ∷ number_rule id usual greatest ∷ [] → IsNumbered xs
+  numbered [] e = absurd (apart 0 3 (ap length e) (omega arith))
+  numbered (x ∷ []) e = absurd (apart 1 3 (ap length e) (omega arith))
+  numbered (x ∷ y ∷ []) e = absurd (apart 2 3 (ap length e) (omega arith))
+  numbered (x ∷ y ∷ z ∷ []) e =
+      three x y z (head_is _ _ _ _ e) (head_is _ _ _ _ (tail_is _ _ _ _ e)) (head_is _ _ _ _ (tail_is _ _ _ _ (tail_is _ _ _ _ e)))
+  numbered (x ∷ y ∷ z ∷ u ∷ rest) e = absurd (apart 3 (suc (suc (suc (suc (length (map rule_of rest)))))) (sym (ap length e)) (omega arith))
 
-  passes : (v : Text) → PassesArg p.built (codes "steps") v → IsUnsignedIn 1 100000000 v
-  passes v any = subst (λ (w : ValueParser). Accepts any.1.ignore_case w v) (parser_by_id any.0 any.1 any.2 any.3 any.4.0) any.4.1
+  -- ---- the range
 
-no_steps : codes "steps" ≡ [] → ⊥
-no_steps e = apart 0 5 (sym (ap length e)) (omega arith)
+  module _ (old : Command) (m : ArgMatches) (p : IsParsedFrom old m) (is : IsNumbered (args_of old)) where
+    no_auto : (d : Arg) → IsAuto (slice_index_or (args_of old) 2 d) → ⊥
+    no_auto d (inl h) = ids.no_help (sym (is.id_is d) ∙ h)
+    no_auto d (inr h) = ids.no_version (sym (is.id_is d) ∙ h)
+
+    -- an argument of the built command with this id has the parser
+    parser_by_id : (j : ℕ) (x : Arg) → j < length (args_of p.built) → slice_index_or (args_of p.built) j x ≡ x → bytes_eq x.id.now id ≡ true
+        → parser_of x ≡ parser.Unsigned 1 greatest
+    parser_by_id j x high at same =
+        let id_is : (slice_index_or (args_of old) 2 x).id.now ≡ id = is.id_is x in
+        let rules : SameRules (slice_index_or (args_of old) 2 x) x = same_rules_by_id old m p 2 x is.has
+        (λ i e lt eq. is.one i e lt (subst (λ (w : Text). bytes_eq (slice_index_or (args_of old) i e).id.now w ≡ true) id_is eq))
+        (no_auto x) j x high at (subst (λ (w : Text). bytes_eq x.id.now w ≡ true) (sym id_is) same) in
+        ap parser_of_value (rules.parser (parser.Unsigned 1 greatest) (is.parser_is x))
+
+    reads : (r : Reading) → HasReading p.built id r → r ≡ reading.AsWritten
+    reads r any = sym any.4.1 ∙ ap reading_of (parser_by_id any.0 any.1 any.2 any.3 any.4.0)
+
+    passes : (v : Text) → PassesArg p.built id v → IsUnsignedIn 1 greatest v
+    passes v any = subst (λ (w : ValueParser). Accepts any.1.ignore_case w v) (parser_by_id any.0 any.1 any.2 any.3 any.4.0) any.4.1
+
+  number_in_range : (name : Text) (old : Command) (m : ArgMatches) → IsParsedFrom old m → app_of old ≡ numbered_app name first second (number_rule id usual greatest) → (t : Text) → one_text (found_of m) id ≡ Some t
+      → is_number_to greatest t ≡ true
+  number_in_range name old m p is t found =
+      let rules : map rule_of (args_of old) ≡ name_rule first ∷ name_rule second ∷ number_rule id usual greatest ∷ [] = ap (λ (a : App). a.top.rules) is in
+      let list = numbered (args_of old) rules in
+      let plain : has_plain_fields (out-Command old) ≡ true = ap (λ (a : App). a.top.is_plain) is in
+      let outer = both _ _ plain in
+      let no_groups : groups_of old ≡ [] = nil_of_empty (groups_of old) outer.0 in
+      let globals : (out-Command old).has_globals ≡ false = not_true (out-Command old).has_globals (both _ _ (both _ _ outer.1).1).0 in
+      let parsed = p.parsed (p.from.globals ∙ globals) in
+      Accepts-accepts false (parser.Unsigned 1 greatest) t (text_passed p.built (found_of m) id (IsUnsignedIn 1 greatest) t parsed.values ((p.from.same_groups list.groups).1 ∙ no_groups)
+      ids.named (reads old m p list) (passes old m p list) found)
+
+-- ---- the commands
+
+steps_apart : IsApart (codes "image") (codes "ports") (codes "steps")
+steps_apart = record {
+  named = λ e. apart 0 5 (sym (ap length e)) (omega arith);
+  no_help = λ e. apart 104 115 (sym (first_byte (codes "steps") (codes "help") e)) (omega arith);
+  no_version = λ e. apart 115 118 (first_byte (codes "steps") (codes "version") e) (omega arith);
+  no_first = refl;
+  no_second = refl;
+}
+
+turns_apart : IsApart (codes "source") (codes "ports") (codes "turns")
+turns_apart = record {
+  named = λ e. apart 0 5 (sym (ap length e)) (omega arith);
+  no_help = λ e. apart 104 116 (sym (first_byte (codes "turns") (codes "help") e)) (omega arith);
+  no_version = λ e. apart 116 118 (first_byte (codes "turns") (codes "version") e) (omega arith);
+  no_first = refl;
+  no_second = refl;
+}
 
 pub steps_in_range : (old : Command) (m : ArgMatches) → IsParsedFrom old m → app_of old ≡ run_app → (t : Text) → one_text (found_of m) (codes "steps") ≡ Some t
-    → in_range t ≡ true
-steps_in_range old m p is t found =
-    let rules : map rule_of (args_of old) ≡ run_app.top.rules = ap (λ (a : App). a.top.rules) is in
-    let run = run_list (args_of old) rules in
-    let plain : has_plain_fields (out-Command old) ≡ true = ap (λ (a : App). a.top.is_plain) is in
-    let outer = both _ _ plain in
-    let no_groups : groups_of old ≡ [] = nil_of_empty (groups_of old) outer.0 in
-    let globals : (out-Command old).has_globals ≡ false = not_true (out-Command old).has_globals (both _ _ (both _ _ outer.1).1).0 in
-    let parsed = p.parsed (p.from.globals ∙ globals) in
-    Accepts-accepts false steps_parser t (text_passed p.built (found_of m) (codes "steps") (IsUnsignedIn 1 100000000) t parsed.values ((p.from.same_groups run.groups).1 ∙ no_groups)
-    no_steps (reads old m p run) (passes old m p run) found)
+    → is_number_to greatest_steps t ≡ true
+steps_in_range = number_in_range (codes "image") (codes "ports") (codes "steps") (codes "1000000") greatest_steps steps_apart (codes "run")
+
+pub turns_in_range : (old : Command) (m : ArgMatches) → IsParsedFrom old m → app_of old ≡ means_app → (t : Text) → one_text (found_of m) (codes "turns") ≡ Some t
+    → is_number_to greatest_turns t ≡ true
+turns_in_range = number_in_range (codes "source") (codes "ports") (codes "turns") (codes "10000") greatest_turns turns_apart (codes "means")

@@ -6,7 +6,7 @@ use Rattle.std.specs.Str.Parse.{digits_value, without_leading_plus}
 use Rattle.clap.specs.Values.{IsUnsignedIn}
 use Rattle.clap.proofs.ValueTestLemmas.{accepts-Accepts}
 use Rattle.clap.specs.Lexer.{long_of, short_of}
-use Rattle.clap.specs.Words.{App, Kinds, Row, Text, fault_of, first_of, matches_of, new_app, one_of, reading_of, with_rule}
+use Rattle.clap.specs.Words.{App, Kinds, Row, Text, fault_of, first_of, matches_of, one_of, reading_of}
 use Rattle.clap.specs.ValueTests.{accepts}
 use Rattle.clap.specs.declared.builder.value_parser.ValueParser.{ValueParser}
 use Rattle.clap.specs.declared.builder.value_parser.ValueParser.TheVariants as parser
@@ -14,9 +14,9 @@ use Rattle.clap.specs.declared.builder.value_parser.Reading.TheVariants as readi
 use Rattle.clap.specs.Kinds.{or_else, value_kinds}
 use Rattle.clap.specs.Walk.{is_empty}
 use Rattle.clap.proofs.OnLiterals.{clap_on_literals}
-use Rattle.cc_words.specs.Asked.{Asked, ToBuild, ToRun, asked, asked_to_build, asked_to_run, build_of, in_range, is_plain_word, is_taken, steps_of, run_of}
-use Rattle.cc_words.specs.Commands.{build_app, name_rule, run_app, steps_rule}
-use Rattle.cc_words.specs.Plain.{AsksForSteps, BuildsNoOtherNames, HasSteps, RunsFor, RunsWithSteps, RunsWithStepsAttached, RunsWithStepsFirst}
+use Rattle.cc_words.specs.Asked.{Asked, ToBuild, ToRun, ToEvaluate, asked, asked_to, asked_to_build, asked_to_evaluate, asked_to_run, build_of, is_number_to, is_plain_word, is_taken, means_of, number_to, numbered_of, run_of}
+use Rattle.cc_words.specs.Commands.{build_app, greatest_steps, greatest_turns, means_app, numbered_app, run_app, steps_rule, turns_rule}
+use Rattle.cc_words.specs.Plain.{AsksFor, AsksWithin, BuildsNoOtherNames, IsWithin, MeansWithTurns, MeansWithTurnsAttached, MeansWithTurnsFirst, RunsWithSteps, RunsWithStepsAttached, RunsWithStepsFirst}
 
 -- the word is no `--`, no `--name` and no `-n`
 abbrev IsNoFlag : Text → Type 0
@@ -45,12 +45,12 @@ unfolding clap_on_literals
 names name a b fa fb = rw (fa.0, fa.1, fa.2, fb.0, fb.1, fb.2) refl
 
 pub two_names : (a b : Text) → is_plain_word a ≡ true → is_plain_word b ≡ true → asked (codes "build" ∷ a ∷ b ∷ []) ≡ Some (ToBuild a b)
-unfolding asked_to_build
+unfolding asked_to
 two_names a b pa pb = rw (taken (codes "build") a b (no_flag a pa) (no_flag b pb)) (names (codes "build") a b (no_flag a pa) (no_flag b pb))
 
 -- `build` of fewer, and of more
 not_taken : (words : List Text) → is_taken build_app words ≡ false → asked_to_build words ≡ None
-unfolding asked_to_build
+unfolding asked_to
 not_taken words e = ap (λ b. cond b (build_of (matches_of build_app words)) None) e
 
 no_names : is_taken build_app (codes "build" ∷ []) ≡ false
@@ -72,10 +72,10 @@ other_names = (
   λ a b pa pb c rest pc. not_taken (codes "build" ∷ a ∷ b ∷ c ∷ rest) (more_names a b c rest (no_flag a pa) (no_flag b pb) (no_flag c pc)),
 )
 
-number_in : (m : Text) → in_range m ≡ true → steps_of m ≡ Some (digits_value 10 (without_leading_plus m))
-number_in m e = ap (λ b. cond b (Some (digits_value 10 (without_leading_plus m))) None) e
+number_in : (greatest : ℕ) (m : Text) → is_number_to greatest m ≡ true → number_to greatest m ≡ Some (digits_value 10 (without_leading_plus m))
+number_in greatest m e = ap (λ b. cond b (Some (digits_value 10 (without_leading_plus m))) None) e
 
--- `run` of two names
+-- `run` and `means` of two names
 run_taken : (name a b : Text) → IsNoFlag a → IsNoFlag b → is_taken run_app (name ∷ a ∷ b ∷ []) ≡ true
 unfolding clap_on_literals
 run_taken name a b fa fb = rw (fa.0, fa.1, fa.2, fb.0, fb.1, fb.2) refl
@@ -85,166 +85,242 @@ unfolding clap_on_literals
 run_names name a b fa fb = rw (fa.0, fa.1, fa.2, fb.0, fb.1, fb.2) refl
 
 pub run_two_names : (a b : Text) → is_plain_word a ≡ true → is_plain_word b ≡ true → asked (codes "run" ∷ a ∷ b ∷ []) ≡ Some (ToRun a b 1000000)
-unfolding asked_to_run
+unfolding asked_to
 run_two_names a b pa pb = rw (run_taken (codes "run") a b (no_flag a pa) (no_flag b pb)) (run_names (codes "run") a b (no_flag a pa) (no_flag b pb))
 
--- `run` with any parser of its steps
-abbrev run_with : ValueParser → App
-run_with p = with_rule (with_rule (with_rule (new_app (codes "run")) (name_rule (codes "image"))) (name_rule (codes "ports")))
-    (record steps_rule { parser = Some p })
+means_taken : (name a b : Text) → IsNoFlag a → IsNoFlag b → is_taken means_app (name ∷ a ∷ b ∷ []) ≡ true
+unfolding clap_on_literals
+means_taken name a b fa fb = rw (fa.0, fa.1, fa.2, fb.0, fb.1, fb.2) refl
 
--- what stands in the rows
-abbrev Holds : Text → Text → Text → List Row → Type 0
-Holds a b m rows = (first_of (codes "image") rows ≡ Some a) × (first_of (codes "ports") rows ≡ Some b) × (one_of (codes "steps") rows ≡ Some m)
+means_names : (name a b : Text) → IsNoFlag a → IsNoFlag b → means_of (matches_of means_app (name ∷ a ∷ b ∷ [])) ≡ Some (ToEvaluate a b 10000)
+unfolding clap_on_literals
+means_names name a b fa fb = rw (fa.0, fa.1, fa.2, fb.0, fb.1, fb.2) refl
 
-steps_read : (a b m : Text) (n : ℕ) (rows : List Row) → Holds a b m rows → steps_of m ≡ Some n → run_of rows ≡ Some (ToRun a b n)
-steps_read a b m n rows h e =
-    let number : option_and_then steps_of (one_of (codes "steps") rows) ≡ Some n = ap (option_and_then steps_of) h.2 ∙ e in
-    rw (h.0, h.1, number) refl
+pub means_two_names : (a b : Text) → is_plain_word a ≡ true → is_plain_word b ≡ true → asked (codes "means" ∷ a ∷ b ∷ []) ≡ Some (ToEvaluate a b 10000)
+unfolding asked_to
+means_two_names a b pa pb = rw (means_taken (codes "means") a b (no_flag a pa) (no_flag b pb)) (means_names (codes "means") a b (no_flag a pa) (no_flag b pb))
 
--- the kinds of fault of a text that the parser of the steps refuses, as they come up through the walk
-abbrev steps_fault : ValueParser → Text → Kinds
-steps_fault p m = or_else (value_kinds false p m) []
-
-steps_fault_by : (p : ValueParser) (m : Text) (t : Bool) → accepts false p m ≡ t → is_empty (steps_fault p m) ≡ t
-steps_fault_by p m true e = rw e refl
-steps_fault_by p m false e = rw e refl
-
+-- a number in the words of a command
 or_nothing : (kinds : Kinds) → or_else kinds [] ≡ kinds
 or_nothing [] = refl
 or_nothing (k ∷ ks) = refl
 
--- what a number of steps takes, where the words have it
-record HasNumber (words : List Text) (a b m : Text) : Type 0 where
-  fault : (p : ValueParser) → fault_of (run_with p) words ≡ steps_fault p m
-  rows : (p : ValueParser) → reading_of p ≡ reading.AsWritten → Holds a b m (matches_of (run_with p) words)
+-- the kinds of fault of a text that the parser of the number refuses, as they come up through the walk
+abbrev number_fault : ValueParser → Text → Kinds
+number_fault p m = or_else (value_kinds false p m) []
 
-abbrev steps_parser : ValueParser
-steps_parser = parser.Unsigned 1 100000000
+number_fault_by : (p : ValueParser) (m : Text) (t : Bool) → accepts false p m ≡ t → is_empty (number_fault p m) ≡ t
+number_fault_by p m true e = rw e refl
+number_fault_by p m false e = rw e refl
 
-number_asked : (rest : List Text) (a b m : Text) → HasNumber (codes "run" ∷ rest) a b m → RunsFor a b m (codes "run" ∷ rest)
-unfolding asked_to_run
-number_asked rest a b m h = (yes, no)
-  where
-    words : List Text
-    words = codes "run" ∷ rest
+-- what stands in the rows
+abbrev Holds : Text → Text → Text → Text → Text → Text → List Row → Type 0
+Holds first second number a b m rows = (first_of first rows ≡ Some a) × (first_of second rows ≡ Some b) × (one_of number rows ≡ Some m)
 
-    by : (t : Bool) → in_range m ≡ t → asked words ≡ cond t (run_of (matches_of run_app words)) None
-    by t e = ap (λ u. cond u (run_of (matches_of run_app words)) None) (ap is_empty (h.fault steps_parser) ∙ steps_fault_by steps_parser m t e)
+-- what a number takes, where the words have it: `app` is the command with any parser of the number
+record HasNumber (app : ValueParser → App) (first second number : Text) (words : List Text) (a b m : Text) : Type 0 where
+  fault : (p : ValueParser) → fault_of (app p) words ≡ number_fault p m
+  rows : (p : ValueParser) → reading_of p ≡ reading.AsWritten → Holds first second number a b m (matches_of (app p) words)
 
-    yes : in_range m ≡ true → asked words ≡ Some (ToRun a b (digits_value 10 (without_leading_plus m)))
-    yes e = by true e ∙ steps_read a b m _ (matches_of run_app words) (h.rows steps_parser refl) (number_in m e)
+module _ (app : ValueParser → App) (first second number : Text) (greatest : ℕ) (what : Text → Text → ℕ → Asked) where
+  number_read : (a b m : Text) (n : ℕ) (rows : List Row) → Holds first second number a b m rows → number_to greatest m ≡ Some n → numbered_of first second number greatest what rows ≡ Some (what a b n)
+  number_read a b m n rows h e =
+      let is : option_and_then (number_to greatest) (one_of number rows) ≡ Some n = ap (option_and_then (number_to greatest)) h.2 ∙ e in
+      rw (h.0, h.1, is) refl
 
-    no : in_range m ≡ false → asked words ≡ None
-    no e = by false e
+  number_asked : (words : List Text) (a b m : Text) → HasNumber app first second number words a b m
+      → asked words ≡ asked_to (app (parser.Unsigned 1 greatest)) (numbered_of first second number greatest what) words → AsksFor greatest (what a b) m words
+  unfolding asked_to
+  number_asked words a b m h chosen = (yes, no)
+    where
+      parses : ValueParser
+      parses = parser.Unsigned 1 greatest
+
+      by : (t : Bool) → is_number_to greatest m ≡ t → asked words ≡ cond t (numbered_of first second number greatest what (matches_of (app parses) words)) None
+      by t e = chosen ∙ ap (λ u. cond u (numbered_of first second number greatest what (matches_of (app parses) words)) None) (ap is_empty (h.fault parses) ∙ number_fault_by parses m t e)
+
+      yes : is_number_to greatest m ≡ true → asked words ≡ Some (what a b (digits_value 10 (without_leading_plus m)))
+      yes e = by true e ∙ number_read a b m _ (matches_of (app parses) words) (h.rows parses refl) (number_in greatest m e)
+
+      no : is_number_to greatest m ≡ false → asked words ≡ None
+      no e = by false e
+
+-- `run` with any parser of its steps
+abbrev run_with : ValueParser → App
+run_with p = numbered_app (codes "run") (codes "image") (codes "ports") (record steps_rule { parser = Some p })
 
 module _ (a b m : Text) (fa : IsNoFlag a) (fb : IsNoFlag b) (p : ValueParser) where
-  behind_fault : IsNoFlag m → fault_of (run_with p) (codes "run" ∷ a ∷ b ∷ codes "--steps" ∷ m ∷ []) ≡ or_else (steps_fault p m) []
+  run_behind_fault : IsNoFlag m → fault_of (run_with p) (codes "run" ∷ a ∷ b ∷ codes "--steps" ∷ m ∷ []) ≡ or_else (number_fault p m) []
   unfolding clap_on_literals
-  behind_fault fm = rw (fa.0, fa.1, fa.2, fb.0, fb.1, fb.2, fm.0, fm.1, fm.2) refl
+  run_behind_fault fm = rw (fa.0, fa.1, fa.2, fb.0, fb.1, fb.2, fm.0, fm.1, fm.2) refl
 
-  behind_rows : IsNoFlag m → reading_of p ≡ reading.AsWritten → Holds a b m (matches_of (run_with p) (codes "run" ∷ a ∷ b ∷ codes "--steps" ∷ m ∷ []))
+  run_behind_rows : IsNoFlag m → reading_of p ≡ reading.AsWritten → Holds (codes "image") (codes "ports") (codes "steps") a b m (matches_of (run_with p) (codes "run" ∷ a ∷ b ∷ codes "--steps" ∷ m ∷ []))
   unfolding clap_on_literals
-  behind_rows fm how = (
+  run_behind_rows fm how = (
     rw (fa.0, fa.1, fa.2, fb.0, fb.1, fb.2, fm.0, fm.1, fm.2) refl,
     rw (fa.0, fa.1, fa.2, fb.0, fb.1, fb.2, fm.0, fm.1, fm.2) refl,
     rw (fa.0, fa.1, fa.2, fb.0, fb.1, fb.2, fm.0, fm.1, fm.2, how) refl,
   )
 
-  first_fault : IsNoFlag m → fault_of (run_with p) (codes "run" ∷ codes "--steps" ∷ m ∷ a ∷ b ∷ []) ≡ or_else (or_else (steps_fault p m) []) []
+  run_first_fault : IsNoFlag m → fault_of (run_with p) (codes "run" ∷ codes "--steps" ∷ m ∷ a ∷ b ∷ []) ≡ or_else (or_else (number_fault p m) []) []
   unfolding clap_on_literals
-  first_fault fm = rw (fm.0, fm.1, fm.2, fa.0, fa.1, fa.2, fb.0, fb.1, fb.2) refl
+  run_first_fault fm = rw (fm.0, fm.1, fm.2, fa.0, fa.1, fa.2, fb.0, fb.1, fb.2) refl
 
-  first_rows : IsNoFlag m → reading_of p ≡ reading.AsWritten → Holds a b m (matches_of (run_with p) (codes "run" ∷ codes "--steps" ∷ m ∷ a ∷ b ∷ []))
+  run_first_rows : IsNoFlag m → reading_of p ≡ reading.AsWritten → Holds (codes "image") (codes "ports") (codes "steps") a b m (matches_of (run_with p) (codes "run" ∷ codes "--steps" ∷ m ∷ a ∷ b ∷ []))
   unfolding clap_on_literals
-  first_rows fm how = (
+  run_first_rows fm how = (
     rw (fm.0, fm.1, fm.2, fa.0, fa.1, fa.2, fb.0, fb.1, fb.2) refl,
     rw (fm.0, fm.1, fm.2, fa.0, fa.1, fa.2, fb.0, fb.1, fb.2) refl,
     rw (fm.0, fm.1, fm.2, fa.0, fa.1, fa.2, fb.0, fb.1, fb.2, how) refl,
   )
 
-  attached_fault : fault_of (run_with p) (codes "run" ∷ a ∷ b ∷ (codes "--steps=" ++ m) ∷ []) ≡ or_else (or_else (or_else (steps_fault p m) []) []) []
+  run_attached_fault : fault_of (run_with p) (codes "run" ∷ a ∷ b ∷ (codes "--steps=" ++ m) ∷ []) ≡ or_else (or_else (or_else (number_fault p m) []) []) []
   unfolding clap_on_literals
-  attached_fault = rw (fa.0, fa.1, fa.2, fb.0, fb.1, fb.2) refl
+  run_attached_fault = rw (fa.0, fa.1, fa.2, fb.0, fb.1, fb.2) refl
 
-  attached_rows : reading_of p ≡ reading.AsWritten → Holds a b m (matches_of (run_with p) (codes "run" ∷ a ∷ b ∷ (codes "--steps=" ++ m) ∷ []))
+  run_attached_rows : reading_of p ≡ reading.AsWritten → Holds (codes "image") (codes "ports") (codes "steps") a b m (matches_of (run_with p) (codes "run" ∷ a ∷ b ∷ (codes "--steps=" ++ m) ∷ []))
   unfolding clap_on_literals
-  attached_rows how =
+  run_attached_rows how =
       (rw (fa.0, fa.1, fa.2, fb.0, fb.1, fb.2) refl, rw (fa.0, fa.1, fa.2, fb.0, fb.1, fb.2) refl, rw (fa.0, fa.1, fa.2, fb.0, fb.1, fb.2, how) refl)
 
 -- `run` with a number of steps, behind the names, before them and attached
 pub steps_behind : RunsWithSteps
 steps_behind a b pa pb m pm =
     let fm = no_flag m pm in
-    number_asked (a ∷ b ∷ codes "--steps" ∷ m ∷ []) a b m (record {
-      fault = λ p. behind_fault a b m (no_flag a pa) (no_flag b pb) p fm ∙ or_nothing (steps_fault p m);
-      rows = λ p how. behind_rows a b m (no_flag a pa) (no_flag b pb) p fm how;
-    })
+    number_asked run_with (codes "image") (codes "ports") (codes "steps") greatest_steps ToRun (codes "run" ∷ a ∷ b ∷ codes "--steps" ∷ m ∷ []) a b m (record {
+      fault = λ p. run_behind_fault a b m (no_flag a pa) (no_flag b pb) p fm ∙ or_nothing (number_fault p m);
+      rows = λ p how. run_behind_rows a b m (no_flag a pa) (no_flag b pb) p fm how;
+    }) refl
 
 pub steps_first : RunsWithStepsFirst
 steps_first a b pa pb m pm =
     let fm = no_flag m pm in
-    number_asked (codes "--steps" ∷ m ∷ a ∷ b ∷ []) a b m (record {
-      fault = λ p. first_fault a b m (no_flag a pa) (no_flag b pb) p fm ∙ or_nothing (or_else (steps_fault p m) []) ∙ or_nothing (steps_fault p m);
-      rows = λ p how. first_rows a b m (no_flag a pa) (no_flag b pb) p fm how;
-    })
+    number_asked run_with (codes "image") (codes "ports") (codes "steps") greatest_steps ToRun (codes "run" ∷ codes "--steps" ∷ m ∷ a ∷ b ∷ []) a b m (record {
+      fault = λ p. run_first_fault a b m (no_flag a pa) (no_flag b pb) p fm ∙ or_nothing (or_else (number_fault p m) []) ∙ or_nothing (number_fault p m);
+      rows = λ p how. run_first_rows a b m (no_flag a pa) (no_flag b pb) p fm how;
+    }) refl
 
 pub steps_attached : RunsWithStepsAttached
 steps_attached a b pa pb m =
-    number_asked (a ∷ b ∷ (codes "--steps=" ++ m) ∷ []) a b m (record {
-      fault = λ p. attached_fault a b m (no_flag a pa) (no_flag b pb) p ∙ or_nothing (or_else (or_else (steps_fault p m) []) [])
-          ∙ or_nothing (or_else (steps_fault p m) []) ∙ or_nothing (steps_fault p m);
-      rows = λ p how. attached_rows a b m (no_flag a pa) (no_flag b pb) p how;
-    })
+    number_asked run_with (codes "image") (codes "ports") (codes "steps") greatest_steps ToRun (codes "run" ∷ a ∷ b ∷ (codes "--steps=" ++ m) ∷ []) a b m (record {
+      fault = λ p. run_attached_fault a b m (no_flag a pa) (no_flag b pb) p ∙ or_nothing (or_else (or_else (number_fault p m) []) [])
+          ∙ or_nothing (or_else (number_fault p m) []) ∙ or_nothing (number_fault p m);
+      rows = λ p how. run_attached_rows a b m (no_flag a pa) (no_flag b pb) p how;
+    }) refl
 
--- ---- the range of the steps
+-- `means` with any parser of its turns
+abbrev means_with : ValueParser → App
+means_with p = numbered_app (codes "means") (codes "source") (codes "ports") (record turns_rule { parser = Some p })
 
-steps_bounded : (m : Text) (n : ℕ) → steps_of m ≡ Some n → (1 ≤ n) × (n ≤ 100000000)
-steps_bounded m n e = go (in_range m) refl e
+module _ (a b m : Text) (fa : IsNoFlag a) (fb : IsNoFlag b) (p : ValueParser) where
+  means_behind_fault : IsNoFlag m → fault_of (means_with p) (codes "means" ∷ a ∷ b ∷ codes "--turns" ∷ m ∷ []) ≡ or_else (number_fault p m) []
+  unfolding clap_on_literals
+  means_behind_fault fm = rw (fa.0, fa.1, fa.2, fb.0, fb.1, fb.2, fm.0, fm.1, fm.2) refl
+
+  means_behind_rows : IsNoFlag m → reading_of p ≡ reading.AsWritten → Holds (codes "source") (codes "ports") (codes "turns") a b m (matches_of (means_with p) (codes "means" ∷ a ∷ b ∷ codes "--turns" ∷ m ∷ []))
+  unfolding clap_on_literals
+  means_behind_rows fm how = (
+    rw (fa.0, fa.1, fa.2, fb.0, fb.1, fb.2, fm.0, fm.1, fm.2) refl,
+    rw (fa.0, fa.1, fa.2, fb.0, fb.1, fb.2, fm.0, fm.1, fm.2) refl,
+    rw (fa.0, fa.1, fa.2, fb.0, fb.1, fb.2, fm.0, fm.1, fm.2, how) refl,
+  )
+
+  means_first_fault : IsNoFlag m → fault_of (means_with p) (codes "means" ∷ codes "--turns" ∷ m ∷ a ∷ b ∷ []) ≡ or_else (or_else (number_fault p m) []) []
+  unfolding clap_on_literals
+  means_first_fault fm = rw (fm.0, fm.1, fm.2, fa.0, fa.1, fa.2, fb.0, fb.1, fb.2) refl
+
+  means_first_rows : IsNoFlag m → reading_of p ≡ reading.AsWritten → Holds (codes "source") (codes "ports") (codes "turns") a b m (matches_of (means_with p) (codes "means" ∷ codes "--turns" ∷ m ∷ a ∷ b ∷ []))
+  unfolding clap_on_literals
+  means_first_rows fm how = (
+    rw (fm.0, fm.1, fm.2, fa.0, fa.1, fa.2, fb.0, fb.1, fb.2) refl,
+    rw (fm.0, fm.1, fm.2, fa.0, fa.1, fa.2, fb.0, fb.1, fb.2) refl,
+    rw (fm.0, fm.1, fm.2, fa.0, fa.1, fa.2, fb.0, fb.1, fb.2, how) refl,
+  )
+
+  means_attached_fault : fault_of (means_with p) (codes "means" ∷ a ∷ b ∷ (codes "--turns=" ++ m) ∷ []) ≡ or_else (or_else (or_else (number_fault p m) []) []) []
+  unfolding clap_on_literals
+  means_attached_fault = rw (fa.0, fa.1, fa.2, fb.0, fb.1, fb.2) refl
+
+  means_attached_rows : reading_of p ≡ reading.AsWritten → Holds (codes "source") (codes "ports") (codes "turns") a b m (matches_of (means_with p) (codes "means" ∷ a ∷ b ∷ (codes "--turns=" ++ m) ∷ []))
+  unfolding clap_on_literals
+  means_attached_rows how =
+      (rw (fa.0, fa.1, fa.2, fb.0, fb.1, fb.2) refl, rw (fa.0, fa.1, fa.2, fb.0, fb.1, fb.2) refl, rw (fa.0, fa.1, fa.2, fb.0, fb.1, fb.2, how) refl)
+
+-- `means` with a number of turns, behind the names, before them and attached
+pub turns_behind : MeansWithTurns
+turns_behind a b pa pb m pm =
+    let fm = no_flag m pm in
+    number_asked means_with (codes "source") (codes "ports") (codes "turns") greatest_turns ToEvaluate (codes "means" ∷ a ∷ b ∷ codes "--turns" ∷ m ∷ []) a b m (record {
+      fault = λ p. means_behind_fault a b m (no_flag a pa) (no_flag b pb) p fm ∙ or_nothing (number_fault p m);
+      rows = λ p how. means_behind_rows a b m (no_flag a pa) (no_flag b pb) p fm how;
+    }) refl
+
+pub turns_first : MeansWithTurnsFirst
+turns_first a b pa pb m pm =
+    let fm = no_flag m pm in
+    number_asked means_with (codes "source") (codes "ports") (codes "turns") greatest_turns ToEvaluate (codes "means" ∷ codes "--turns" ∷ m ∷ a ∷ b ∷ []) a b m (record {
+      fault = λ p. means_first_fault a b m (no_flag a pa) (no_flag b pb) p fm ∙ or_nothing (or_else (number_fault p m) []) ∙ or_nothing (number_fault p m);
+      rows = λ p how. means_first_rows a b m (no_flag a pa) (no_flag b pb) p fm how;
+    }) refl
+
+pub turns_attached : MeansWithTurnsAttached
+turns_attached a b pa pb m =
+    number_asked means_with (codes "source") (codes "ports") (codes "turns") greatest_turns ToEvaluate (codes "means" ∷ a ∷ b ∷ (codes "--turns=" ++ m) ∷ []) a b m (record {
+      fault = λ p. means_attached_fault a b m (no_flag a pa) (no_flag b pb) p ∙ or_nothing (or_else (or_else (number_fault p m) []) [])
+          ∙ or_nothing (or_else (number_fault p m) []) ∙ or_nothing (number_fault p m);
+      rows = λ p how. means_attached_rows a b m (no_flag a pa) (no_flag b pb) p how;
+    }) refl
+
+-- ---- the ranges
+
+number_bounded : (greatest : ℕ) (m : Text) (n : ℕ) → number_to greatest m ≡ Some n → (1 ≤ n) × (n ≤ greatest)
+number_bounded greatest m n e = go (is_number_to greatest m) refl e
   where
-    go : (t : Bool) → in_range m ≡ t → cond t (Some (digits_value 10 (without_leading_plus m))) None ≡ Some n → (1 ≤ n) × (n ≤ 100000000)
+    go : (t : Bool) → is_number_to greatest m ≡ t → cond t (Some (digits_value 10 (without_leading_plus m))) None ≡ Some n → (1 ≤ n) × (n ≤ greatest)
     go false f e = cc
     go true f e =
         let is : digits_value 10 (without_leading_plus m) ≡ n = ap (λ o. unwrap_or o n) e in
-        let ok : IsUnsignedIn 1 100000000 m = accepts-Accepts false steps_parser m f in
-        (subst (λ k. 1 ≤ k) is ok.2, subst (λ k. k ≤ 100000000) is ok.3)
+        let ok : IsUnsignedIn 1 greatest m = accepts-Accepts false (parser.Unsigned 1 greatest) m f in
+        (subst (λ k. 1 ≤ k) is ok.2, subst (λ k. k ≤ greatest) is ok.3)
 
-run_bounded : (rows : List Row) → IfSome (run_of rows) HasSteps
-run_bounded rows = names (first_of (codes "image") rows) (first_of (codes "ports") rows) (option_and_then steps_of (one_of (codes "steps") rows)) refl
+numbered_bounded : (first second number : Text) (greatest : ℕ) (what : Text → Text → ℕ → Asked) → ((a b : Text) (n : ℕ) → (1 ≤ n) × (n ≤ greatest) → IsWithin (what a b n))
+    → (rows : List Row) → IfSome (numbered_of first second number greatest what rows) IsWithin
+numbered_bounded first second number greatest what within rows = names (first_of first rows) (first_of second rows) (option_and_then (number_to greatest) (one_of number rows)) refl
   where
-    number : (o : Option Text) (n : ℕ) → option_and_then steps_of o ≡ Some n → (1 ≤ n) × (n ≤ 100000000)
-    number None n e = cc
-    number (Some t) n e = steps_bounded t n e
+    bounded : (o : Option Text) (n : ℕ) → option_and_then (number_to greatest) o ≡ Some n → (1 ≤ n) × (n ≤ greatest)
+    bounded None n e = cc
+    bounded (Some t) n e = number_bounded greatest t n e
 
-    names : (i p : Option Text) (n : Option ℕ) → option_and_then steps_of (one_of (codes "steps") rows) ≡ n
-        → IfSome (option_and_then (λ image. option_and_then (λ ports. option_map (ToRun image ports) n) p) i) HasSteps
+    names : (i p : Option Text) (n : Option ℕ) → option_and_then (number_to greatest) (one_of number rows) ≡ n
+        → IfSome (option_and_then (λ a. option_and_then (λ b. option_map (what a b) n) p) i) IsWithin
     names None p n e = tt
     names (Some i) None n e = tt
     names (Some i) (Some p) None e = tt
-    names (Some i) (Some p) (Some n) e = number (one_of (codes "steps") rows) n e
+    names (Some i) (Some p) (Some n) e = within i p n (bounded (one_of number rows) n e)
 
-build_bounded : (rows : List Row) → IfSome (build_of rows) HasSteps
+build_bounded : (rows : List Row) → IfSome (build_of rows) IsWithin
 build_bounded rows = names (first_of (codes "source") rows) (first_of (codes "image") rows)
   where
-    names : (s i : Option Text) → IfSome (option_and_then (λ source. option_map (ToBuild source) i) s) HasSteps
+    names : (s i : Option Text) → IfSome (option_and_then (λ source. option_map (ToBuild source) i) s) IsWithin
     names None i = tt
     names (Some s) None = tt
     names (Some s) (Some i) = tt
 
 -- what holds of what is asked for, where the words are taken
-taken_only : (t : Bool) (o : Option Asked) → IfSome o HasSteps → IfSome (cond t o None) HasSteps
+taken_only : (t : Bool) (o : Option Asked) → IfSome o IsWithin → IfSome (cond t o None) IsWithin
 taken_only true o h = h
 taken_only false o h = tt
 
-pub steps_asked : AsksForSteps
-unfolding asked_to_build asked_to_run
-steps_asked [] = tt
-steps_asked (name ∷ rest) = go (bytes_eq name (codes "build")) (bytes_eq name (codes "run"))
+pub within_asked : AsksWithin
+unfolding asked_to
+within_asked [] = tt
+within_asked (name ∷ rest) = go (bytes_eq name (codes "build")) (bytes_eq name (codes "run")) (bytes_eq name (codes "means"))
   where
     words : List Text
     words = name ∷ rest
 
-    go : (b r : Bool) → IfSome (cond b (asked_to_build words) (cond r (asked_to_run words) None)) HasSteps
-    go true r = taken_only (is_taken build_app words) (build_of (matches_of build_app words)) (build_bounded (matches_of build_app words))
-    go false true = taken_only (is_taken run_app words) (run_of (matches_of run_app words)) (run_bounded (matches_of run_app words))
-    go false false = tt
+    go : (b r m : Bool) → IfSome (cond b (asked_to_build words) (cond r (asked_to_run words) (cond m (asked_to_evaluate words) None))) IsWithin
+    go true r m = taken_only (is_taken build_app words) (build_of (matches_of build_app words)) (build_bounded (matches_of build_app words))
+    go false true m = taken_only (is_taken run_app words) (run_of (matches_of run_app words)) (numbered_bounded _ _ _ greatest_steps ToRun (λ a b n h. h) (matches_of run_app words))
+    go false false true = taken_only (is_taken means_app words) (means_of (matches_of means_app words)) (numbered_bounded _ _ _ greatest_turns ToEvaluate (λ a b n h. h) (matches_of means_app words))
+    go false false false = tt

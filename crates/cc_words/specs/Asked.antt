@@ -8,7 +8,7 @@ use Rattle.std.specs.declared.alloc.Global.{Global}
 use Rattle.clap.specs.ValueTests.{is_unsigned_in}
 use Rattle.clap.specs.Walk.{is_empty}
 use Rattle.clap.specs.Words.{App, Row, Text, fault_of, first_of, matches_of, one_of}
-use Rattle.cc_words.specs.Commands.{build_app, run_app}
+use Rattle.cc_words.specs.Commands.{build_app, greatest_steps, greatest_turns, means_app, run_app}
 use Rattle.cc_words.specs.declared.asked.Request.{Request}
 use Rattle.cc_words.specs.declared.asked.Request.TheVariants as request
 
@@ -16,25 +16,27 @@ use Rattle.cc_words.specs.declared.asked.Request.TheVariants as request
 abbrev pub texts_of : List (String Global) → List Text
 texts_of words = map string_bytes words
 
--- what is asked for: to build an image of a source, or to run an image on ports for at most so many
--- steps
+-- what is asked for: to build an image of a source, to run an image on ports for at most so many
+-- steps, or to evaluate a source on ports with at most so many turns
 pub data Asked : Type 0 where
   ToBuild : Text → Text → Asked
   ToRun : Text → Text → ℕ → Asked
+  ToEvaluate : Text → Text → ℕ → Asked
 
 -- a request, as what it asks for
 abbrev pub told : Request → Asked
 told (request.Build source image) = ToBuild source.now image.now
 told (request.Run image ports steps) = ToRun image.now ports.now steps
+told (request.Means source ports turns) = ToEvaluate source.now ports.now turns
 
--- the text writes a number of steps: in decimal, from 1 to 100,000,000; a plus may stand first
-abbrev pub in_range : Text → Bool
-in_range = is_unsigned_in 1 100000000
+-- the text writes a number in decimal, from 1 to the greatest; a plus may stand first
+abbrev pub is_number_to : ℕ → Text → Bool
+is_number_to greatest = is_unsigned_in 1 greatest
 
--- the number of steps that the text writes
-abbrev pub steps_of : Text → Option ℕ
-steps_of text =
-    if in_range text then Some (digits_value 10 (without_leading_plus text)) else None
+-- the number that the text writes
+abbrev pub number_to : ℕ → Text → Option ℕ
+number_to greatest text =
+    if is_number_to greatest text then Some (digits_value 10 (without_leading_plus text)) else None
 
 -- what the matches of `build` ask for
 abbrev pub build_of : List Row → Option Asked
@@ -42,30 +44,43 @@ build_of rows = option_and_then (λ source.
     option_map (ToBuild source) (first_of (codes "image") rows))
     (first_of (codes "source") rows)
 
+-- what the matches of a command of two names and a number ask for
+abbrev pub numbered_of : Text → Text → Text → ℕ → (Text → Text → ℕ → Asked) → List Row → Option Asked
+numbered_of first second number greatest what rows = option_and_then (λ a. option_and_then (λ b.
+    option_map (what a b)
+    (option_and_then (number_to greatest) (one_of number rows)))
+    (first_of second rows))
+    (first_of first rows)
+
 -- what the matches of `run` ask for
 abbrev pub run_of : List Row → Option Asked
-run_of rows = option_and_then (λ image. option_and_then (λ ports.
-    option_map (ToRun image ports)
-    (option_and_then steps_of (one_of (codes "steps") rows)))
-    (first_of (codes "ports") rows))
-    (first_of (codes "image") rows)
+run_of = numbered_of (codes "image") (codes "ports") (codes "steps") greatest_steps ToRun
+
+-- what the matches of `means` ask for
+abbrev pub means_of : List Row → Option Asked
+means_of = numbered_of (codes "source") (codes "ports") (codes "turns") greatest_turns ToEvaluate
 
 -- `clap` takes the words as those of the command
 abbrev pub is_taken : App → List Text → Bool
 is_taken app words = is_empty (fault_of app words)
 
 -- what the words of a command ask for, of which the first is its name
-unfoldable pub asked_to_build : List Text → Option Asked
-asked_to_build words =
-    if is_taken build_app words then build_of (matches_of build_app words) else None
+unfoldable pub asked_to : App → (List Row → Option Asked) → List Text → Option Asked
+asked_to app of_rows words = if is_taken app words then of_rows (matches_of app words) else None
 
-unfoldable pub asked_to_run : List Text → Option Asked
-asked_to_run words =
-    if is_taken run_app words then run_of (matches_of run_app words) else None
+abbrev pub asked_to_build : List Text → Option Asked
+asked_to_build = asked_to build_app build_of
+
+abbrev pub asked_to_run : List Text → Option Asked
+asked_to_run = asked_to run_app run_of
+
+abbrev pub asked_to_evaluate : List Text → Option Asked
+asked_to_evaluate = asked_to means_app means_of
 
 abbrev pub asked_by : Text → List Text → Option Asked
 asked_by name words = if bytes_eq name (codes "build") then asked_to_build words
-    else (if bytes_eq name (codes "run") then asked_to_run words else None)
+    else (if bytes_eq name (codes "run") then asked_to_run words
+    else (if bytes_eq name (codes "means") then asked_to_evaluate words else None))
 
 -- what the words ask for, if anything: the first word chooses the command
 abbrev pub asked : List Text → Option Asked

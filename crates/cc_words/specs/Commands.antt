@@ -1,19 +1,35 @@
 -- The commands, as `clap` reads them.
-use Rattle.std.specs.Prelude.{true, [], ◌∷◌, Some, codes}
+use Rattle.std.specs.Prelude.{ℕ, true, [], ◌∷◌, Some, codes}
 use Rattle.clap.specs.Words.{App, Rule, Text, new_app, new_rule, with_rule}
 use Rattle.clap.specs.declared.builder.value_parser.ValueParser.TheVariants as parser
+
+-- the greatest number of steps that a run may have
+abbrev pub greatest_steps : ℕ
+greatest_steps = 100000000
+
+-- the greatest number of turns that each execution of each loop may have
+abbrev pub greatest_turns : ℕ
+greatest_turns = 1000000
 
 -- a name that has to be there
 abbrev pub name_rule : Text → Rule
 name_rule id = record (new_rule id) { required = true }
 
--- `--steps M`, from 1 to 100,000,000
-abbrev pub steps_rule : Rule
-steps_rule = record (new_rule (codes "steps")) {
-  long = Some (codes "steps");
-  defaults = codes "1000000" ∷ [];
-  parser = Some (parser.Unsigned 1 100000000);
+-- an option with a number from 1 to the greatest, where none is given the usual one
+abbrev pub number_rule : Text → Text → ℕ → Rule
+number_rule id usual greatest = record (new_rule id) {
+  long = Some id;
+  defaults = usual ∷ [];
+  parser = Some (parser.Unsigned 1 greatest);
 }
+
+-- `--steps M`
+abbrev pub steps_rule : Rule
+steps_rule = number_rule (codes "steps") (codes "1000000") greatest_steps
+
+-- `--turns N`
+abbrev pub turns_rule : Rule
+turns_rule = number_rule (codes "turns") (codes "10000") greatest_turns
 
 -- `build SRC IMG`
 abbrev pub build_app : App
@@ -21,10 +37,18 @@ build_app = with_rule
     (with_rule (new_app (codes "build")) (name_rule (codes "source")))
     (name_rule (codes "image"))
 
+-- a command of two names and an option
+abbrev pub numbered_app : Text → Text → Text → Rule → App
+numbered_app name first second number = with_rule
+    (with_rule
+    (with_rule (new_app name) (name_rule first))
+    (name_rule second))
+    number
+
 -- `run IMG PORTS [--steps M]`
 abbrev pub run_app : App
-run_app = with_rule
-    (with_rule
-    (with_rule (new_app (codes "run")) (name_rule (codes "image")))
-    (name_rule (codes "ports")))
-    steps_rule
+run_app = numbered_app (codes "run") (codes "image") (codes "ports") steps_rule
+
+-- `means SRC PORTS [--turns N]`
+abbrev pub means_app : App
+means_app = numbered_app (codes "means") (codes "source") (codes "ports") turns_rule

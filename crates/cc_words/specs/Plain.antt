@@ -1,9 +1,10 @@
 -- What the usual words ask for: what `clap`'s function of the words comes to there.
-use Rattle.std.specs.Prelude.{◌≡◌, ◌≤◌, ◌++◌, ⊤, true, false, List, [], ◌∷◌, IfSome, codes}
+use Rattle.std.specs.Prelude.{◌≡◌, ◌≤◌, ◌++◌, ℕ, ⊤, true, false, List, [], ◌∷◌, IfSome, codes}
 use Rattle.std.specs.Str.Parse.{digits_value, without_leading_plus}
 use Rattle.clap.specs.Words.{Text}
-use Rattle.cc_words.specs.Asked.{Asked, ToBuild, ToRun, Asks, AsksNothing, asked, in_range}
-use Rattle.cc_words.specs.Asked.{is_plain_word}
+use Rattle.cc_words.specs.Asked.{Asked, ToBuild, ToRun, ToEvaluate, Asks, AsksNothing, asked}
+use Rattle.cc_words.specs.Asked.{is_number_to, is_plain_word}
+use Rattle.cc_words.specs.Commands.{greatest_steps, greatest_turns}
 
 -- a fact of any two words that look like no option
 abbrev pub OnPlain : (Text → Text → Type 0) → Type 0
@@ -25,11 +26,20 @@ BuildsNoOtherNames = AsksNothing (codes "build" ∷ [])
 abbrev pub RunsTwoNames : Type 0
 RunsTwoNames = OnPlain (λ a b. Asks (codes "run" ∷ a ∷ b ∷ []) (ToRun a b 1000000))
 
--- the words ask for a run of the steps that a text writes, and for nothing where it writes none
+-- `means SRC PORTS`
+abbrev pub MeansTwoNames : Type 0
+MeansTwoNames = OnPlain (λ a b. Asks (codes "means" ∷ a ∷ b ∷ []) (ToEvaluate a b 10000))
+
+-- the words ask for what the number makes it that a text writes, and for nothing where it writes
+-- none from 1 to the greatest
+abbrev pub AsksFor : ℕ → (ℕ → Asked) → Text → List Text → Type 0
+AsksFor greatest what text words = (is_number_to greatest text ≡ true
+    → Asks words (what (digits_value 10 (without_leading_plus text))))
+    × (is_number_to greatest text ≡ false → AsksNothing words)
+
+-- the words ask for a run of the steps that a text writes
 abbrev pub RunsFor : Text → Text → Text → List Text → Type 0
-RunsFor a b text words = (in_range text ≡ true
-    → Asks words (ToRun a b (digits_value 10 (without_leading_plus text))))
-    × (in_range text ≡ false → AsksNothing words)
+RunsFor a b = AsksFor greatest_steps (ToRun a b)
 
 -- `run IMG PORTS --steps M`, where M looks like no option
 abbrev pub RunsWithSteps : Type 0
@@ -46,11 +56,31 @@ abbrev pub RunsWithStepsAttached : Type 0
 RunsWithStepsAttached = OnPlain (λ a b. (text : Text)
     → RunsFor a b text (codes "run" ∷ a ∷ b ∷ (codes "--steps=" ++ text) ∷ []))
 
--- a run is of 1 to 100,000,000 steps
-abbrev pub HasSteps : Asked → Type 0
-HasSteps (ToBuild source image) = ⊤
-HasSteps (ToRun image ports steps) = (1 ≤ steps) × (steps ≤ 100000000)
+-- the words ask for the meaning within the turns that a text writes
+abbrev pub MeansFor : Text → Text → Text → List Text → Type 0
+MeansFor a b = AsksFor greatest_turns (ToEvaluate a b)
+
+-- `means SRC PORTS --turns N`, where N looks like no option
+abbrev pub MeansWithTurns : Type 0
+MeansWithTurns = OnPlain (λ a b. (text : Text) → is_plain_word text ≡ true
+    → MeansFor a b text (codes "means" ∷ a ∷ b ∷ codes "--turns" ∷ text ∷ []))
+
+-- `means --turns N SRC PORTS`
+abbrev pub MeansWithTurnsFirst : Type 0
+MeansWithTurnsFirst = OnPlain (λ a b. (text : Text) → is_plain_word text ≡ true
+    → MeansFor a b text (codes "means" ∷ codes "--turns" ∷ text ∷ a ∷ b ∷ []))
+
+-- `means SRC PORTS --turns=N`
+abbrev pub MeansWithTurnsAttached : Type 0
+MeansWithTurnsAttached = OnPlain (λ a b. (text : Text)
+    → MeansFor a b text (codes "means" ∷ a ∷ b ∷ (codes "--turns=" ++ text) ∷ []))
+
+-- a run is of 1 to 100,000,000 steps, and a loop of an evaluation has 1 to 1,000,000 turns
+abbrev pub IsWithin : Asked → Type 0
+IsWithin (ToBuild source image) = ⊤
+IsWithin (ToRun image ports steps) = (1 ≤ steps) × (steps ≤ greatest_steps)
+IsWithin (ToEvaluate source ports turns) = (1 ≤ turns) × (turns ≤ greatest_turns)
 
 -- and that holds of whatever is asked for
-abbrev pub AsksForSteps : Type 0
-AsksForSteps = (words : List Text) → IfSome (asked words) HasSteps
+abbrev pub AsksWithin : Type 0
+AsksWithin = (words : List Text) → IfSome (asked words) IsWithin

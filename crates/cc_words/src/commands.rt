@@ -2,7 +2,7 @@
 ghost use Rattle.std.specs.Prelude.{◌≡◌, IfOk, MatchOption, true, false};
 ghost use Rattle.clap.specs.Words.{IsParsedFrom, app_of, fault_of, found_of, is_simple_and_free, matches_of, rows_of};
 ghost use Rattle.cc_words.specs.Asked.{is_taken, texts_of};
-ghost use Rattle.cc_words.specs.Commands.{build_app, run_app};
+ghost use Rattle.cc_words.specs.Commands.{build_app, means_app, run_app};
 
 use clap::error::ErrorKind;
 use clap::{Arg, ArgMatches, Command, value_parser};
@@ -32,6 +32,22 @@ pub(crate) fn run_command<'a>(alloc: Global) -> Result<Command<'a>, AllocError>
         .arg(image)?
         .arg(ports)?
         .arg(steps)
+}
+
+/// `means SRC PORTS [--turns N]`.
+pub(crate) fn means_command<'a>(alloc: Global) -> Result<Command<'a>, AllocError>
+    ensures { IfOk result (λ c. app_of c ≡ means_app) }
+{
+    let source = Arg::new(alloc, "source").required(true);
+    let ports = Arg::new(alloc, "ports").required(true);
+    let turns = Arg::new(alloc, "turns")
+        .long("turns")
+        .default_value("10000")
+        .value_parser(value_parser!(u64).range(1..=1_000_000));
+    Command::new(alloc, "means")
+        .arg(source)?
+        .arg(ports)?
+        .arg(turns)
 }
 
 /// The matches of a command on the words, of which the first is its name, or `None` where it

@@ -15,11 +15,18 @@ fn shown(alloc: Global, request: Option<Request>) -> Result<String, Fail> {
                 steps,
             },
         ) => format!(in alloc; "run {image} {ports} {steps}")?,
+        Some(
+            Request::Means {
+                source,
+                ports,
+                turns,
+            },
+        ) => format!(in alloc; "means {source} {ports} {turns}")?,
     })
 }
 
 // Words, and what they ask for.
-const ROWS: [(&str, &str); 65] = [
+const ROWS: [(&str, &str); 88] = [
     ("", "refused"),
     ("build", "refused"),
     ("run", "refused"),
@@ -85,6 +92,29 @@ const ROWS: [(&str, &str); 65] = [
     ("run -h", "refused"),
     ("run --version", "refused"),
     ("run a p -r 1", "refused"),
+    ("means", "refused"),
+    ("Means a p", "refused"),
+    ("means a p", "means a p 10000"),
+    ("means -- a -p", "means a -p 10000"),
+    ("means a p --turns 50", "means a p 50"),
+    ("means a p --turns=50", "means a p 50"),
+    ("means --turns 50 a p", "means a p 50"),
+    ("means a --turns 50 p", "means a p 50"),
+    ("means a p --turns 1", "means a p 1"),
+    ("means a p --turns +007", "means a p 7"),
+    ("means a p --turns 1000000", "means a p 1000000"),
+    ("means a p --turns 1000001", "refused"),
+    ("means a p --turns 4294967297", "refused"),
+    ("means a p --turns 0", "refused"),
+    ("means a p --turns -1", "refused"),
+    ("means a p --turns x", "refused"),
+    ("means a p --turns", "refused"),
+    ("means a p --turns 1 --turns 2", "refused"),
+    ("means a p --steps 4", "refused"),
+    ("means a", "refused"),
+    ("means a p q", "refused"),
+    ("means --help", "refused"),
+    ("run a p --turns 4", "refused"),
 ];
 
 // The words of a line.

@@ -1,17 +1,18 @@
 use Rattle.clap.specs.Words.{app_of, found_of, rows_of}
-use Rattle.cc_words.specs.Asked.{texts_of}
-use Rattle.cc_words.proofs.AskedLemmas.{run_refused, run_taken}
+use Rattle.cc_words.specs.Asked.{run_of, texts_of}
+use Rattle.cc_words.specs.Commands.{run_app}
+use Rattle.cc_words.proofs.AskedLemmas.{refused, taken}
 use Rattle.cc_words.proofs.BoundLemmas.{steps_in_range}
 use Rattle.cc_words.proofs.asked.run_request.Goals as goal
 
 pub returns-in-Some : goal.returns-in-Some
 returns-in-Some c =
     let found = rw c.in-Some.is at c.in_ok-matches.ensures in
-    run_taken (app_of c.in_ok-command.command) (texts_of c.args.words.now) (rows_of (found_of c.in-Some.matches)) _ c.in_ok-command.ensures found.0 found.1 c.run_found.ensures
+    taken (app_of c.in_ok-command.command) run_app run_of (texts_of c.args.words.now) (rows_of (found_of c.in-Some.matches)) _ c.in_ok-command.ensures found.0 found.1 c.run_found.ensures
 
 pub returns-in-None : goal.returns-in-None
 returns-in-None c =
-    run_refused (app_of c.in_ok-command.command) (texts_of c.args.words.now) c.in_ok-command.ensures (rw c.in-None.is at c.in_ok-matches.ensures)
+    refused (app_of c.in_ok-command.command) run_app run_of (texts_of c.args.words.now) c.in_ok-command.ensures (rw c.in-None.is at c.in_ok-matches.ensures)
 
 pub run_found-requires : goal.run_found-requires
 run_found-requires c =

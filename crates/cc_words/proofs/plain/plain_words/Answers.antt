@@ -1,4 +1,4 @@
-use Rattle.cc_words.proofs.PlainLemmas.{other_names, run_two_names, steps_asked, steps_attached, steps_behind, steps_first, two_names}
+use Rattle.cc_words.proofs.PlainLemmas.{means_two_names, other_names, run_two_names, steps_attached, steps_behind, steps_first, turns_attached, turns_behind, turns_first, two_names, within_asked}
 use Rattle.cc_words.proofs.plain.plain_words.Goals as goal
 
 pub returns : goal.returns
@@ -9,5 +9,9 @@ returns c = record {
   steps = steps_behind;
   steps_first = steps_first;
   steps_attached = steps_attached;
-  range = steps_asked;
+  means = means_two_names;
+  turns = turns_behind;
+  turns_first = turns_first;
+  turns_attached = turns_attached;
+  range = within_asked;
 }
