@@ -8,17 +8,18 @@ use Rattle.c_lexer.specs.declared.fault.LexFault.TheVariants as lex_faults
 use Rattle.c_lexer.specs.LexFaults.{Says}
 use Rattle.c_lexer.proofs.OneAnswer.{says_one, lexes_not_says}
 use Rattle.c_tree.specs.SyntaxTree.{UnitTree}
+use Rattle.c_tree.specs.TypedTree.{ProgramTree}
 use Rattle.c_tree.specs.Source.{IsSource, NoSource}
 use Rattle.c_tree.proofs.Rows.UnitOne.{one_source}
 use Rattle.c_types.specs.declared.fault.TypeFault.{TypeFault}
 use Rattle.cc_driver.specs.Thin.{IsThinProgram}
-use Rattle.cc_driver.specs.SourceFaults.{HasFault, HasTree, IsTypedWith, IsUntyped, IsTypeFault, IsOfTypes, IsSameFault, of_lex_fault}
+use Rattle.cc_driver.specs.SourceFaults.{HasFault, HasNoProgramFor, HasProgram, HasTree, IsTypedWith, IsUntyped, IsTypeFault, IsOfTypes, IsSameFault, of_lex_fault}
 use Rattle.cc_driver.specs.Build.{IsAccepted, IsWithoutTypes}
 use Rattle.cc_driver.proofs.TypedLemmas.{typed_no_fault}
 use Rattle.c_types.proofs.LawLemmas.{one_program}
 use Rattle.cc_driver.specs.declared.fault.SourceFault.{SourceFault}
 use Rattle.cc_driver.specs.declared.fault.SourceFault.TheVariants.{BadByte, OpenComment, BadConstant, LongName, TooManyTokens, Syntax, Types, NotYet}
-use Rattle.cc_driver.specs.declared.fault.BuildFault.TheVariants as fault
+use Rattle.cc_driver.specs.declared.fault.FrontFault.TheVariants as fault
 
 -- the fault of the lexer that a fault of a source is, or tokens without a tree, or a fault of a tree's types, or a typed program that
 -- isn't thin
@@ -98,6 +99,22 @@ one_origin bytes f g (OfProgram e h) (OfLexer l k n s) = absurd (no_lexer_fault 
 one_origin bytes f g (OfProgram e h) (OfTokens at k tokens lexes none) = absurd (no_source bytes _ tokens h lexes none)
 one_origin bytes f g (OfProgram e h) (OfTypes why k also) = absurd (not_faulty bytes _ why h also)
 one_origin bytes f g (OfProgram e h) (OfProgram k also) = same f g (k ∙ sym e)
+
+-- bytes with a typed program have no fault but that it isn't compiled so far
+program_origin : (bytes : List ℕ) (P : _) (f : SourceFault) → HasTree bytes (IsTypedWith P) → Origin bytes f → f ≢ NotYet → ⊥
+program_origin bytes P f h (OfLexer l e n s) other = no_lexer_fault bytes _ l h n s
+program_origin bytes P f h (OfTokens at e tokens lexes none) other = no_source bytes _ tokens h lexes none
+program_origin bytes P f h (OfTypes why e g) other = not_faulty bytes P why h g
+program_origin bytes P f h (OfProgram e g) other = other e
+
+pub program_no_fault : (bytes : List ℕ) (program : ProgramTree) (f : SourceFault) → HasProgram bytes program → HasNoProgramFor f bytes → ⊥
+program_no_fault bytes program f h none = program_origin bytes (λ p. Unit {0}) f (h.0, h.1, h.2, h.3, (program, h.4, tt {0})) (origin bytes f none.1) none.0
+
+-- bytes have one typed program
+pub same_program : (bytes : List ℕ) (p q : ProgramTree) → HasProgram bytes p → HasProgram bytes q → p ≡ q
+same_program bytes p q h k =
+    let b = both_of_tree bytes _ _ h k in
+    one_program b.0 p q b.1 b.2
 
 pub one_fault : (bytes : List ℕ) (f g : SourceFault) → HasFault bytes f → HasFault bytes g → IsSameFault f g
 one_fault bytes f g h k = one_origin bytes f g (origin bytes f h) (origin bytes g k)

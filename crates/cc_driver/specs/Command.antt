@@ -1,7 +1,7 @@
 -- What the words of a command line ask for (docs/COMMANDS.md).
 use Rattle.std.specs.Prelude.{◌≡◌, ℕ, List, String, None}
 use Rattle.std.specs.declared.alloc.Global.{Global}
-use Rattle.cc_words.specs.Asked.{Asks, ToBuild, ToRun, asked, texts_of}
+use Rattle.cc_words.specs.Asked.{Asks, ToBuild, ToRun, ToEvaluate, asked, texts_of}
 
 -- a fact of the build that the words ask for, where they ask for one
 abbrev pub OnBuild : List (String Global) → (List ℕ → List ℕ → Type 0) → Type 0
@@ -10,6 +10,10 @@ OnBuild words P = (source image : List ℕ) → Asks (texts_of words) (ToBuild s
 -- a fact of the run that the words ask for, where they ask for one
 abbrev pub OnRun : List (String Global) → (List ℕ → List ℕ → ℕ → Type 0) → Type 0
 OnRun words P = (image ports : List ℕ) (steps : ℕ) → Asks (texts_of words) (ToRun image ports steps) → P image ports steps
+
+-- a fact of the evaluation that the words ask for, where they ask for one
+abbrev pub OnMeans : List (String Global) → (List ℕ → List ℕ → ℕ → Type 0) → Type 0
+OnMeans words P = (source ports : List ℕ) (turns : ℕ) → Asks (texts_of words) (ToEvaluate source ports turns) → P source ports turns
 
 -- the words ask for nothing that is done
 abbrev pub AskForNothing : List (String Global) → Type 0

@@ -1,5 +1,5 @@
 -- What a run of an image comes to, and when it is refused (docs/COMMANDS.md, "run").
-use Rattle.std.specs.Prelude.{◌≡◌, ℕ, ◌≤◌, Bool, IsTrue, List, length, Option, Some}
+use Rattle.std.specs.Prelude.{◌≡◌, ℕ, Bool, IsTrue, List}
 use Rattle.word_base.specs.Counts.{Counts}
 use Rattle.word_base.specs.Files.{Files}
 use Rattle.word_base.specs.Ports.{Outputs, input_of}
@@ -12,19 +12,16 @@ use Rattle.c25_sim.specs.Taken.{of_sixteen}
 use Rattle.c25_image.specs.declared.fault.ImageFault.TheVariants as image_faults
 use Rattle.c25_image.specs.ImageText.{image_text}
 use Rattle.c25_image.specs.ImageFaults.{IsWhole, Says}
-use Rattle.c25_image.specs.PortText.{PortText, IsFirstBad}
-use Rattle.cc_driver.specs.Build.{ReadCause, LongCause}
+use Rattle.c25_image.specs.PortText.{PortText}
+use Rattle.cc_driver.specs.Fetches.{AreFetched, AreBadPorts, FetchesRefused}
 use Rattle.cc_driver.specs.declared.fault.FileFault.{FileFault}
 use Rattle.cc_driver.specs.declared.fault.FileFault.TheVariants.{Read, TooLong, BadLine, BadRange, TooManyWords}
 use Rattle.cc_driver.specs.declared.fault.RunFault.{RunFault}
 use Rattle.cc_driver.specs.declared.fault.RunFault.TheVariants as fault
 
--- the greatest lengths of the files, in bytes
+-- the greatest length of an image's text, in bytes
 abbrev pub image_limit : ℕ
 image_limit = 4194304
-
-abbrev pub ports_limit : ℕ
-ports_limit = 16777216
 
 -- the bytes are the text of an image
 pub record IsImageOf (contents : Contents) (bytes : List ℕ) : Type 0 where
@@ -39,30 +36,9 @@ pub record RunsTo (image_bytes port_bytes : List ℕ) (steps : ℕ) (outs : Outp
   pub ports : PortText port_bytes lines
   pub runs : machine_run (zero_start contents.words) (of_sixteen (input_of lines)) steps ≡ reached_of outs stands
 
--- a file was told, and is no longer than its limit
-pub record IsFetched (files : Files) (name : List ℕ) (limit : ℕ) (bytes : List ℕ) : Type 0 where
-  pub told : files name ≡ Some bytes
-  pub fits : length bytes ≤ limit
-
--- both files were told and fit, and this holds of their bytes
-pub record AreFetched (files : Files) (image ports : List ℕ) (P : List ℕ → List ℕ → Type 0) : Type 0 where
-  pub image_bytes : List ℕ
-  pub port_bytes : List ℕ
-  pub image_fetched : IsFetched files image image_limit image_bytes
-  pub ports_fetched : IsFetched files ports ports_limit port_bytes
-  pub holds : P image_bytes port_bytes
-
 -- the told files run so
 abbrev pub Ran : Files → List ℕ → List ℕ → ℕ → Outputs → Stop → Type 0
-Ran files image ports steps outs stands = AreFetched files image ports (λ i p. RunsTo i p steps outs stands)
-
--- why a fetch is refused
-abbrev pub FetchCause : Bool → Option (List ℕ) → ℕ → Counts → Counts → FileFault → Type 0
-FetchCause tells held limit before now Read = ReadCause tells held before now
-FetchCause tells held limit before now TooLong = LongCause tells held limit before now
-FetchCause tells held limit before now (BadLine line) = ⊥
-FetchCause tells held limit before now (BadRange line) = ⊥
-FetchCause tells held limit before now (TooManyWords count) = ⊥
+Ran files image ports steps outs stands = AreFetched files image image_limit ports (λ i p. RunsTo i p steps outs stands)
 
 -- the bytes are no image, for this reason
 abbrev pub IsBadImage : FileFault → List ℕ → Type 0
@@ -72,29 +48,13 @@ IsBadImage (BadLine line) bytes = Says bytes (image_faults.BadLine line)
 IsBadImage (BadRange line) bytes = Says bytes (image_faults.BadRange line)
 IsBadImage (TooManyWords count) bytes = Says bytes (image_faults.TooLong count)
 
--- the bytes are no port file, for this reason
-abbrev pub AreBadPorts : FileFault → List ℕ → Type 0
-AreBadPorts Read bytes = ⊥
-AreBadPorts TooLong bytes = ⊥
-AreBadPorts (BadLine line) bytes = IsFirstBad bytes line
-AreBadPorts (BadRange line) bytes = ⊥
-AreBadPorts (TooManyWords count) bytes = ⊥
-
 -- which file the readers refuse: the image, or else the ports
 abbrev pub BytesRefused : List ℕ → List ℕ → RunFault → Type 0
-BytesRefused image_bytes port_bytes (fault.Image why) = IsBadImage why image_bytes
+BytesRefused image_bytes port_bytes (fault.File why) = IsBadImage why image_bytes
 BytesRefused image_bytes port_bytes (fault.Ports why) = ((contents : Contents) × IsImageOf contents image_bytes) × AreBadPorts why port_bytes
 BytesRefused image_bytes port_bytes fault.NoMemory = Unit {0}
 
--- which file a fetch refuses: the image, or else the ports
-abbrev pub FetchesRefused : Bool → Files → List ℕ → List ℕ → Counts → Counts → RunFault → Type 0
-FetchesRefused tells files image ports before now (fault.Image why) = FetchCause tells (files image) image_limit before now why
-FetchesRefused tells files image ports before now (fault.Ports why) =
-    (IsTrue tells → (bytes : List ℕ) × IsFetched files image image_limit bytes)
-    × FetchCause tells (files ports) ports_limit before now why
-FetchesRefused tells files image ports before now fault.NoMemory = Unit {0}
-
 -- both files are fetched before one is read
 pub data RunRefused (tells : Bool) (files : Files) (image ports : List ℕ) (before now : Counts) (why : RunFault) : Type 0 where
-  AtFetch : FetchesRefused tells files image ports before now why → RunRefused tells files image ports before now why
-  AtRead : (IsTrue tells → AreFetched files image ports (λ i p. BytesRefused i p why)) → RunRefused tells files image ports before now why
+  AtFetch : FetchesRefused tells files image image_limit ports before now why → RunRefused tells files image ports before now why
+  AtRead : (IsTrue tells → AreFetched files image image_limit ports (λ i p. BytesRefused i p why)) → RunRefused tells files image ports before now why

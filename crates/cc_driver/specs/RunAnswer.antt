@@ -1,30 +1,21 @@
 -- What the call of `run` answers and puts (docs/COMMANDS.md, "run").
-use Rattle.std.specs.Prelude.{◌≡◌, ℕ, Bool, IsTrue, List, ◌++◌, take, Some}
-use Rattle.word_base.specs.Counts.{Counts, Rose}
+use Rattle.std.specs.Prelude.{◌≡◌, ℕ, Bool, IsTrue, List, Some}
+use Rattle.word_base.specs.Counts.{Counts}
 use Rattle.word_base.specs.Files.{Files}
 use Rattle.word_base.specs.Ports.{Outputs}
 use Rattle.c25_isa.specs.declared.event.Stop.{Stop}
 use Rattle.cc_driver.specs.declared.fault.RunFault.{RunFault}
+use Rattle.cc_driver.specs.Answer.{AnswerPut}
 use Rattle.cc_driver.specs.Line.{Puts, Sinks}
 use Rattle.cc_driver.specs.Run.{Ran, RunRefused}
 use Rattle.cc_driver.specs.RunText.{answer_text, stop_status, fault_line, fault_status}
 
--- where the run stands, and the whole answer was put
+-- where the run stands, and the put of that
 pub record Answered (tells : Bool) (files : Files) (image ports : List ℕ) (steps : ℕ) (sinks : Sinks) (status : ℕ) : Type 0 where
   pub outs : Outputs
   pub stands : Stop
   pub ran : IsTrue tells → Ran files image ports steps outs stands
-  pub status_is : status ≡ stop_status stands
-  pub put : IsTrue sinks.tells → sinks.now ≡ sinks.before ++ answer_text steps outs stands
-
--- the put of the answer failed, and a part of it is there
-pub record Unanswered (tells : Bool) (files : Files) (image ports : List ℕ) (steps : ℕ) (sinks : Sinks) (status : ℕ) : Type 0 where
-  pub outs : Outputs
-  pub stands : Stop
-  pub ran : IsTrue tells → Ran files image ports steps outs stands
-  pub status_is : status ≡ 4
-  pub failed : Rose sinks.faults_before sinks.faults_now
-  pub part : IsTrue sinks.tells → (n : ℕ) × (sinks.now ≡ sinks.before ++ take n (answer_text steps outs stands))
+  pub put : AnswerPut (answer_text steps outs stands) (stop_status stands) sinks status
 
 -- a refusal, with its line
 pub record Refused (tells : Bool) (files : Files) (image ports : List ℕ) (before now : Counts) (sinks : Sinks) (status : ℕ) : Type 0 where
@@ -34,6 +25,5 @@ pub record Refused (tells : Bool) (files : Files) (image ports : List ℕ) (befo
   pub line : Puts sinks.tells (Some (fault_line image ports why)) sinks.before sinks.now sinks.faults_before sinks.faults_now
 
 pub data RunAnswers (tells : Bool) (files : Files) (image ports : List ℕ) (steps : ℕ) (before now : Counts) (sinks : Sinks) (status : ℕ) : Type 0 where
-  Put : Answered tells files image ports steps sinks status → RunAnswers tells files image ports steps before now sinks status
-  Unput : Unanswered tells files image ports steps sinks status → RunAnswers tells files image ports steps before now sinks status
+  Answer : Answered tells files image ports steps sinks status → RunAnswers tells files image ports steps before now sinks status
   Refuse : Refused tells files image ports before now sinks status → RunAnswers tells files image ports steps before now sinks status

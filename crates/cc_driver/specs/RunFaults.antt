@@ -11,9 +11,9 @@ use Rattle.cc_driver.specs.declared.fault.RunFault.{RunFault}
 use Rattle.cc_driver.specs.declared.fault.RunFault.TheVariants as fault
 
 abbrev pub of_image_fault : ImageFault → RunFault
-of_image_fault (image_faults.BadLine line) = fault.Image (BadLine line)
-of_image_fault (image_faults.TooLong count) = fault.Image (TooManyWords count)
-of_image_fault (image_faults.BadRange line) = fault.Image (BadRange line)
+of_image_fault (image_faults.BadLine line) = fault.File (BadLine line)
+of_image_fault (image_faults.TooLong count) = fault.File (TooManyWords count)
+of_image_fault (image_faults.BadRange line) = fault.File (BadRange line)
 of_image_fault image_faults.NoMemory = fault.NoMemory
 
 abbrev pub of_port_fault : PortFault → RunFault

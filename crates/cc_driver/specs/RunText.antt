@@ -32,14 +32,15 @@ ending_line (InputEnded port) = codes "input " ++ (decimal port ++ codes " ended
 abbrev pub trap_line : TrapKind → ℕ → List ℕ
 trap_line kind at = codes "trap " ++ (trap_name kind ++ (codes " at " ++ hex4 at))
 
-abbrev pub running_line : ℕ → List ℕ
-running_line steps = codes "running after " ++ (decimal steps ++ codes " steps")
+-- the line of a run that went on behind so many of its steps or turns
+abbrev pub running_line : ℕ → List ℕ → List ℕ
+running_line count what = codes "running after " ++ (decimal count ++ what)
 
 -- the line behind the outputs of a run of so many steps
 abbrev pub stop_line : ℕ → Stop → List ℕ
 stop_line steps (stop.Ended ending) = ending_line ending
 stop_line steps (stop.Trap kind at) = trap_line kind at
-stop_line steps stop.Running = running_line steps
+stop_line steps stop.Running = running_line steps (codes " steps")
 
 -- the outputs, and the line behind them
 abbrev pub answer_text : ℕ → Outputs → Stop → List ℕ
@@ -59,11 +60,11 @@ file_line name (BadLine line) = codes "file refused: " ++ (name ++ (codes " bad 
 file_line name (BadRange line) = codes "file refused: " ++ (name ++ (codes " bad range line " ++ (decimal line ++ codes "\n")))
 file_line name (TooManyWords count) = codes "file refused: " ++ (name ++ (codes " too long " ++ (decimal count ++ codes "\n")))
 
--- the line that refuses a run
+-- the line that refuses a run on the files of these names
 abbrev pub fault_line : List ℕ → List ℕ → RunFault → List ℕ
-fault_line image ports (fault.Image why) = file_line image why
-fault_line image ports (fault.Ports why) = file_line ports why
-fault_line image ports fault.NoMemory = codes "want of memory\n"
+fault_line name ports (fault.File why) = file_line name why
+fault_line name ports (fault.Ports why) = file_line ports why
+fault_line name ports fault.NoMemory = codes "want of memory\n"
 
 abbrev pub file_status : FileFault → ℕ
 file_status Read = 3
@@ -73,6 +74,6 @@ file_status (BadRange line) = 9
 file_status (TooManyWords count) = 9
 
 abbrev pub fault_status : RunFault → ℕ
-fault_status (fault.Image why) = file_status why
+fault_status (fault.File why) = file_status why
 fault_status (fault.Ports why) = file_status why
 fault_status fault.NoMemory = 5

@@ -19,8 +19,8 @@ use Rattle.c_types.specs.declared.fault.TypeFault.TheVariants as type_faults
 use Rattle.cc_driver.specs.Thin.{IsThinProgram}
 use Rattle.cc_driver.specs.declared.fault.SourceFault.{SourceFault}
 use Rattle.cc_driver.specs.declared.fault.SourceFault.TheVariants.{BadByte, OpenComment, BadConstant, LongName, TooManyTokens, Syntax, Types, NotYet}
-use Rattle.cc_driver.specs.declared.fault.BuildFault.{BuildFault}
-use Rattle.cc_driver.specs.declared.fault.BuildFault.TheVariants as fault
+use Rattle.cc_driver.specs.declared.fault.FrontFault.{FrontFault}
+use Rattle.cc_driver.specs.declared.fault.FrontFault.TheVariants as fault
 
 -- the bytes have tokens, and these a tree with a property
 abbrev pub HasTree : List ℕ → (UnitTree → Type 0) → Type 0
@@ -29,6 +29,10 @@ HasTree bytes P = (tokens : List Token) × (source : UnitTree) × Lexes bytes to
 -- a source has a typed program with a property
 abbrev pub IsTypedWith : (ProgramTree → Type 0) → UnitTree → Type 0
 IsTypedWith P source = (program : ProgramTree) × IsTyped source program × P program
+
+-- the bytes have a tree, of which this is the typed program
+abbrev pub HasProgram : List ℕ → ProgramTree → Type 0
+HasProgram bytes program = HasTree bytes (λ source. IsTyped source program)
 
 -- a source has no typed program
 abbrev pub IsUntyped : UnitTree → Type 0
@@ -51,6 +55,15 @@ HasFault bytes (Syntax at) = (tokens : List Token) × Lexes bytes tokens × NoSo
 HasFault bytes (Types why) = HasTree bytes (IsTypeFault why)
 HasFault bytes NotYet = HasTree bytes (IsTypedWith (λ program. ¬ IsThinProgram program))
 
+-- the bytes have this fault, which leaves them without a typed program
+abbrev pub HasNoProgramFor : SourceFault → List ℕ → Type 0
+HasNoProgramFor why bytes = (why ≢ NotYet) × HasFault bytes why
+
+-- why bytes are refused that have no typed program
+abbrev pub FrontRefused : List ℕ → FrontFault → Type 0
+FrontRefused bytes (fault.Source why) = HasNoProgramFor why bytes
+FrontRefused bytes fault.NoMemory = Unit {0}
+
 -- a fault is one of types
 abbrev pub IsOfTypes : SourceFault → Type 0
 IsOfTypes fault = (why : TypeFault) × (fault ≡ Types why)
@@ -62,7 +75,7 @@ IsSameFault (Types why) other = IsOfTypes other
 IsSameFault fault other = other ≡ fault
 
 -- how a source that has no tokens is refused
-abbrev pub of_lex_fault : LexFault → BuildFault
+abbrev pub of_lex_fault : LexFault → FrontFault
 of_lex_fault (lex_faults.BadByte at) = fault.Source (BadByte at)
 of_lex_fault (lex_faults.OpenComment at) = fault.Source (OpenComment at)
 of_lex_fault (lex_faults.BadConstant at) = fault.Source (BadConstant at)
@@ -71,12 +84,12 @@ of_lex_fault (lex_faults.TooManyTokens count) = fault.Source (TooManyTokens coun
 of_lex_fault lex_faults.NoMemory = fault.NoMemory
 
 -- how a source whose tokens have no tree is refused
-abbrev pub of_parse_fault : ParseFault → BuildFault
+abbrev pub of_parse_fault : ParseFault → FrontFault
 of_parse_fault (parse_faults.Syntax at) = fault.Source (Syntax at)
 of_parse_fault parse_faults.NoMemory = fault.NoMemory
 
 -- how a source whose tree breaks a rule of types is refused
-abbrev pub of_type_fault : TypeFault → BuildFault
+abbrev pub of_type_fault : TypeFault → FrontFault
 of_type_fault type_faults.NoMemory = fault.NoMemory
 of_type_fault why = fault.Source (Types why)
 

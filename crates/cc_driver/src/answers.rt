@@ -1,24 +1,30 @@
 //! What the commands do and answer.
-ghost use Rattle.std.specs.Prelude.{◌≡◌, ◌≢◌, ◌⊎◌, ◌++◌, [], ◌∷◌, ℕ, List, Some, None, OnOk, IfErr, IsTrue, Contains};
-ghost use Rattle.word_base.specs.Counts.{FetchFailed, StoreFailed};
+ghost use Rattle.std.specs.Prelude.{◌≡◌, ◌≢◌, ◌⊎◌, [], ◌∷◌, ℕ, List, Some, None, IsTrue, Contains, codes};
+ghost use Rattle.word_base.specs.Counts.{FetchFailed, StoreFailed, Rose};
 ghost use Rattle.word_base.specs.Files.{Unchanged};
-ghost use Rattle.word_base.specs.SinkAnswers.{PutRefused};
+ghost use Rattle.word_base.specs.declared.outcome.Outcome.{Outcome};
+ghost use Rattle.cc_driver.specs.Answer.{AnswerPut};
 ghost use Rattle.cc_driver.specs.Build.{Builds, IsToldWith, IsAccepted, IsWithoutTypes, IsRefusedFor, IsTooLong, ReadCause, TooLongCause, build_status};
 ghost use Rattle.cc_driver.specs.BuildAnswer.{SourceRefused, RefusesFor};
 ghost use Rattle.cc_driver.specs.Line.{Puts, status_line};
 ghost use Rattle.cc_driver.specs.SourceFaults.{IsOfTypes, IsSameFault};
 ghost use Rattle.cc_driver.specs.RunAnswer.{RunAnswers};
 ghost use Rattle.cc_driver.specs.declared.fault.SourceFault.{SourceFault};
-ghost use Rattle.cc_driver.specs.RunText.{answer_text, stop_status, file_status, fault_status};
+ghost use Rattle.cc_driver.specs.RunText.{stop_status, file_status, fault_status};
+ghost use Rattle.cc_driver.specs.Means.{Meant};
+ghost use Rattle.cc_driver.specs.MeansAnswer.{MeansAnswers, RefusedWith};
+ghost use Rattle.cc_driver.specs.MeansText.{outcome_status, means_status};
 
 use crate::build::build;
-use crate::fault::{BuildFault, FileFault, RunFault};
-use crate::line::{report, report_run, say};
+use crate::fault::{BuildFault, FileFault, MeansFault, RunFault};
+use crate::line::{report, report_means, report_run, say};
+use crate::means::means;
+use crate::means_text::outcome_text;
 use crate::run::run;
 use crate::run_text::answer_text;
-use c25_isa::{RunOutcome, Stop};
+use c25_isa::Stop;
 use std::alloc::Global;
-use word_base::{Shelf, Sink, SinkFault};
+use word_base::{Outcome, Shelf, Sink, SinkFault};
 
 // The status of a refused build.
 fn build_status(fault: &BuildFault) -> u8
@@ -41,7 +47,7 @@ pub fn answer_build<F: Shelf, K: Sink>(
     shelf: &mut F,
     out: &mut K,
 ) -> u8
-    ensures statuses { Contains (0 ∷ 1 ∷ 2 ∷ 3 ∷ 4 ∷ 5 ∷ 6 ∷ 7 ∷ 9 ∷ []) result }
+    ensures statuses { Contains (0 ∷ 1 ∷ 2 ∷ 3 ∷ 4 ∷ 5 ∷ 6 ∷ 7 ∷ 9 ∷ 10 ∷ []) result }
     ensures words_taken { result ≢ 2 }
     ensures done { result ≡ 0 → IsTrue F.tells → Builds (F.file shelf.old) (F.file shelf.new) source.now image.now }
     ensures refused { result ≡ 1 → SourceRefused F.tells (F.file shelf.old) source.now
@@ -118,7 +124,7 @@ fn fault_status(fault: RunFault) -> u8
     ensures { result ≡ fault_status fault }
 {
     match fault {
-        RunFault::Image(why) | RunFault::Ports(why) => file_status(why),
+        RunFault::File(why) | RunFault::Ports(why) => file_status(why),
         RunFault::NoMemory => 5,
     }
 }
@@ -134,21 +140,31 @@ fn stop_status(stop: Stop) -> u8
     }
 }
 
-// Puts what a run of so many steps came to.
-fn put_answer<K: Sink>(
-    alloc: Global,
-    out: &mut K,
-    outcome: &RunOutcome,
-    steps: u64,
-) -> Result<(), SinkFault>
-    ensures told { OnOk result
-        (IsTrue K.tells → K.bytes out.new ≡ K.bytes out.old ++ answer_text steps outcome.now.outs outcome.now.stop) }
-    ensures refused { IfErr result (PutRefused K.tells (answer_text steps outcome.now.outs outcome.now.stop)
-        (K.bytes out.old) (K.bytes out.new) (K.faults out.old) (K.faults out.new)) }
+// Says that memory is wanting, and gives that status.
+fn want_memory<K: Sink>(alloc: Global, out: &mut K) -> u8
+    ensures status { result ≡ 5 }
+    ensures line { Puts K.tells (Some (codes "want of memory\n"))
+        (K.bytes out.old) (K.bytes out.new) (K.faults out.old) (K.faults out.new) }
 {
-    match answer_text(alloc, outcome, steps) {
-        Ok(text) => out.put(alloc, &text),
-        Err(_) => Err(SinkFault::NoMemory),
+    say(alloc, out, b"want of memory\n");
+    5
+}
+
+// Puts an answer, whose status is this where all of it is put.
+fn put_answer<K: Sink>(alloc: Global, out: &mut K, text: &[u8], status: u8) -> u8
+    ensures { AnswerPut text.now status
+        (record {
+          tells = K.tells;
+          before = K.bytes out.old;
+          now = K.bytes out.new;
+          faults_before = K.faults out.old;
+          faults_now = K.faults out.new;
+        }) result }
+{
+    match out.put(alloc, text) {
+        Ok(()) => status,
+        Err(SinkFault::Failed) => 4,
+        Err(SinkFault::NoMemory) => want_memory(alloc, out),
     }
 }
 
@@ -179,12 +195,70 @@ pub fn answer_run<F: Shelf, K: Sink>(
             return fault_status(fault);
         }
     };
-    match put_answer(alloc, out, &outcome, steps) {
-        Ok(()) => stop_status(outcome.stop),
-        Err(SinkFault::Failed) => 4,
-        Err(SinkFault::NoMemory) => {
-            say(alloc, out, b"want of memory\n");
-            5
+    match answer_text(alloc, &outcome, steps) {
+        Ok(text) => put_answer(alloc, out, &text, stop_status(outcome.stop)),
+        Err(_) => want_memory(alloc, out),
+    }
+}
+
+// The status of a refused evaluation.
+fn means_status(fault: &MeansFault) -> u8
+    ensures { result ≡ means_status fault.now }
+{
+    match fault {
+        MeansFault::Files(why) => fault_status(*why),
+        MeansFault::Source(_) => 1,
+    }
+}
+
+// The status of an evaluation whose answer was put.
+fn outcome_status(outcome: &Outcome) -> u8
+    ensures { result ≡ outcome_status outcome.now }
+{
+    match outcome {
+        Outcome::Ended { .. } => 0,
+        Outcome::More { .. } => 6,
+        Outcome::Undefined { .. } => 10,
+    }
+}
+
+/// Evaluates a source, and puts what it means or the line of a refusal.
+pub fn answer_means<F: Shelf, K: Sink>(
+    alloc: Global,
+    source: &str,
+    ports: &str,
+    turns: u32,
+    shelf: &mut F,
+    out: &mut K,
+) -> u8
+    ensures answers { MeansAnswers F.tells (F.file shelf.old) source.now ports.now turns (F.counts shelf.old) (F.counts shelf.new)
+        (record {
+          tells = K.tells;
+          before = K.bytes out.old;
+          now = K.bytes out.new;
+          faults_before = K.faults out.old;
+          faults_now = K.faults out.new;
+        }) result }
+    // What the told files mean is answered with its status, and what is wrong in them with that of the refusal.
+    ensures meant { (outcome : Outcome) → IsTrue F.tells → Meant (F.file shelf.old) source.now ports.now turns outcome
+        → ¬ FetchFailed (F.counts shelf.old) (F.counts shelf.new)
+        → ¬ Rose (K.faults out.old) (K.faults out.new)
+        → (result ≡ outcome_status outcome) ⊎ (result ≡ 5) }
+    ensures refused { (status : ℕ) → IsTrue F.tells → RefusedWith (F.file shelf.old) source.now ports.now status
+        → ¬ FetchFailed (F.counts shelf.old) (F.counts shelf.new)
+        → (result ≡ status) ⊎ (result ≡ 5) }
+    ensures unchanged { Unchanged (F.file shelf.old) (F.file shelf.new) }
+    ensures no_store { (F.counts shelf.new).store_faults ≡ (F.counts shelf.old).store_faults }
+{
+    let outcome = match means(alloc, source, ports, turns, shelf) {
+        Ok(outcome) => outcome,
+        Err(fault) => {
+            report_means(alloc, out, &fault, source, ports);
+            return means_status(&fault);
         }
+    };
+    match outcome_text(alloc, &outcome, turns) {
+        Ok(text) => put_answer(alloc, out, &text, outcome_status(&outcome)),
+        Err(_) => want_memory(alloc, out),
     }
 }

@@ -1,4 +1,4 @@
-//! Why builds and runs are refused.
+//! Why builds, runs and evaluations are refused.
 ghost use Rattle.std.specs.Prelude.{◌≡◌};
 
 use c_lexer::LexFault;
@@ -29,6 +29,58 @@ pub enum SourceFault {
     NotYet,
 }
 
+/// Why a source has no typed program.
+#[derive(Debug, Drop)]
+pub enum FrontFault {
+    Source(SourceFault),
+    NoMemory,
+}
+
+impl From<LexFault> for FrontFault {
+    ghost use Rattle.cc_driver.specs.SourceFaults.{of_lex_fault};
+
+    ghost from_gives = { λ given e. e ≡ of_lex_fault given };
+
+    fn from(fault: LexFault) -> Self {
+        match fault {
+            LexFault::BadByte { at } => FrontFault::Source(SourceFault::BadByte { at }),
+            LexFault::OpenComment { at } => FrontFault::Source(SourceFault::OpenComment { at }),
+            LexFault::BadConstant { at } => FrontFault::Source(SourceFault::BadConstant { at }),
+            LexFault::LongName { at } => FrontFault::Source(SourceFault::LongName { at }),
+            LexFault::TooManyTokens { count } => {
+                FrontFault::Source(SourceFault::TooManyTokens { count })
+            }
+            LexFault::NoMemory => FrontFault::NoMemory,
+        }
+    }
+}
+
+impl From<ParseFault> for FrontFault {
+    ghost use Rattle.cc_driver.specs.SourceFaults.{of_parse_fault};
+
+    ghost from_gives = { λ given e. e ≡ of_parse_fault given };
+
+    fn from(fault: ParseFault) -> Self {
+        match fault {
+            ParseFault::Syntax { at } => FrontFault::Source(SourceFault::Syntax { at }),
+            ParseFault::NoMemory => FrontFault::NoMemory,
+        }
+    }
+}
+
+impl From<TypeFault> for FrontFault {
+    ghost use Rattle.cc_driver.specs.SourceFaults.{of_type_fault};
+
+    ghost from_gives = { λ given e. e ≡ of_type_fault given };
+
+    fn from(fault: TypeFault) -> Self {
+        match fault {
+            TypeFault::NoMemory => FrontFault::NoMemory,
+            why => FrontFault::Source(SourceFault::Types(why)),
+        }
+    }
+}
+
 /// Why a build is refused.
 #[derive(Debug, Drop)]
 pub enum BuildFault {
@@ -52,47 +104,15 @@ impl From<NoMemory> for BuildFault {
     }
 }
 
-impl From<LexFault> for BuildFault {
-    ghost use Rattle.cc_driver.specs.SourceFaults.{of_lex_fault};
+impl From<FrontFault> for BuildFault {
+    ghost use Rattle.cc_driver.specs.Build.{of_front_fault};
 
-    ghost from_gives = { λ given e. e ≡ of_lex_fault given };
+    ghost from_gives = { λ given e. e ≡ of_front_fault given };
 
-    fn from(fault: LexFault) -> Self {
+    fn from(fault: FrontFault) -> Self {
         match fault {
-            LexFault::BadByte { at } => BuildFault::Source(SourceFault::BadByte { at }),
-            LexFault::OpenComment { at } => BuildFault::Source(SourceFault::OpenComment { at }),
-            LexFault::BadConstant { at } => BuildFault::Source(SourceFault::BadConstant { at }),
-            LexFault::LongName { at } => BuildFault::Source(SourceFault::LongName { at }),
-            LexFault::TooManyTokens { count } => {
-                BuildFault::Source(SourceFault::TooManyTokens { count })
-            }
-            LexFault::NoMemory => BuildFault::NoMemory,
-        }
-    }
-}
-
-impl From<ParseFault> for BuildFault {
-    ghost use Rattle.cc_driver.specs.SourceFaults.{of_parse_fault};
-
-    ghost from_gives = { λ given e. e ≡ of_parse_fault given };
-
-    fn from(fault: ParseFault) -> Self {
-        match fault {
-            ParseFault::Syntax { at } => BuildFault::Source(SourceFault::Syntax { at }),
-            ParseFault::NoMemory => BuildFault::NoMemory,
-        }
-    }
-}
-
-impl From<TypeFault> for BuildFault {
-    ghost use Rattle.cc_driver.specs.SourceFaults.{of_type_fault};
-
-    ghost from_gives = { λ given e. e ≡ of_type_fault given };
-
-    fn from(fault: TypeFault) -> Self {
-        match fault {
-            TypeFault::NoMemory => BuildFault::NoMemory,
-            why => BuildFault::Source(SourceFault::Types(why)),
+            FrontFault::Source(why) => BuildFault::Source(why),
+            FrontFault::NoMemory => BuildFault::NoMemory,
         }
     }
 }
@@ -112,10 +132,11 @@ pub enum FileFault {
     TooManyWords { count: u64 },
 }
 
-/// Why a run is refused.
+/// Why a run on a file and a port file is refused.
 #[derive(Clone, Copy, Debug, PartialEq, Eq)]
 pub enum RunFault {
-    Image(FileFault),
+    /// The file of what is run.
+    File(FileFault),
     Ports(FileFault),
     NoMemory,
 }
@@ -137,9 +158,9 @@ impl From<ImageFault> for RunFault {
 
     fn from(fault: ImageFault) -> Self {
         match fault {
-            ImageFault::BadLine { line } => RunFault::Image(FileFault::BadLine { line }),
-            ImageFault::TooLong { count } => RunFault::Image(FileFault::TooManyWords { count }),
-            ImageFault::BadRange { line } => RunFault::Image(FileFault::BadRange { line }),
+            ImageFault::BadLine { line } => RunFault::File(FileFault::BadLine { line }),
+            ImageFault::TooLong { count } => RunFault::File(FileFault::TooManyWords { count }),
+            ImageFault::BadRange { line } => RunFault::File(FileFault::BadRange { line }),
             ImageFault::NoMemory => RunFault::NoMemory,
         }
     }
@@ -154,6 +175,60 @@ impl From<PortFault> for RunFault {
         match fault {
             PortFault::BadLine { line } => RunFault::Ports(FileFault::BadLine { line }),
             PortFault::NoMemory => RunFault::NoMemory,
+        }
+    }
+}
+
+/// Why an evaluation is refused.
+#[derive(Debug, Drop)]
+pub enum MeansFault {
+    /// One of its files is, or memory was wanting.
+    Files(RunFault),
+    /// The source has no typed program.
+    Source(SourceFault),
+}
+
+impl From<RunFault> for MeansFault {
+    ghost use Rattle.cc_driver.specs.declared.fault.MeansFault.TheVariants as means;
+
+    ghost from_gives = { λ given e. e ≡ means.Files given };
+
+    fn from(fault: RunFault) -> Self {
+        MeansFault::Files(fault)
+    }
+}
+
+impl From<NoMemory> for MeansFault {
+    ghost use Rattle.cc_driver.specs.declared.fault.RunFault.TheVariants as fault;
+    ghost use Rattle.cc_driver.specs.declared.fault.MeansFault.TheVariants as means;
+
+    ghost from_gives = { λ _ e. e ≡ means.Files fault.NoMemory };
+
+    fn from(_: NoMemory) -> Self {
+        MeansFault::Files(RunFault::NoMemory)
+    }
+}
+
+impl From<PortFault> for MeansFault {
+    ghost use Rattle.cc_driver.specs.RunFaults.{of_port_fault};
+    ghost use Rattle.cc_driver.specs.declared.fault.MeansFault.TheVariants as means;
+
+    ghost from_gives = { λ given e. e ≡ means.Files (of_port_fault given) };
+
+    fn from(fault: PortFault) -> Self {
+        MeansFault::Files(RunFault::from(fault))
+    }
+}
+
+impl From<FrontFault> for MeansFault {
+    ghost use Rattle.cc_driver.specs.Means.{of_untyped};
+
+    ghost from_gives = { λ given e. e ≡ of_untyped given };
+
+    fn from(fault: FrontFault) -> Self {
+        match fault {
+            FrontFault::Source(why) => MeansFault::Source(why),
+            FrontFault::NoMemory => MeansFault::Files(RunFault::NoMemory),
         }
     }
 }

@@ -3,8 +3,9 @@ ghost use Rattle.std.specs.Prelude.{◌≡◌, ◌++◌, Some, IfOk, string_byte
 ghost use Rattle.cc_driver.specs.SourceFaults.{source_line, type_line, place_line, limit_name, spaced};
 ghost use Rattle.cc_driver.specs.Line.{Puts, build_line};
 ghost use Rattle.cc_driver.specs.RunText.{file_line, fault_line};
+ghost use Rattle.cc_driver.specs.MeansText.{means_line};
 
-use crate::fault::{BuildFault, FileFault, RunFault, SourceFault};
+use crate::fault::{BuildFault, FileFault, MeansFault, RunFault, SourceFault};
 use c_types::{LimitName, TypeFault};
 use std::alloc::Global;
 use word_base::{NoMemory, Sink, Text};
@@ -172,14 +173,31 @@ fn report_file<K: Sink>(alloc: Global, out: &mut K, name: &str, fault: FileFault
     }
 }
 
-/// Puts the line of a refused run.
-pub fn report_run<K: Sink>(alloc: Global, out: &mut K, fault: RunFault, image: &str, ports: &str)
-    ensures { Puts K.tells (Some (fault_line image.now ports.now fault))
+/// Puts the line of a refused run on the files of these names.
+pub fn report_run<K: Sink>(alloc: Global, out: &mut K, fault: RunFault, name: &str, ports: &str)
+    ensures { Puts K.tells (Some (fault_line name.now ports.now fault))
         (K.bytes out.old) (K.bytes out.new) (K.faults out.old) (K.faults out.new) }
 {
     match fault {
-        RunFault::Image(why) => report_file(alloc, out, image, why),
+        RunFault::File(why) => report_file(alloc, out, name, why),
         RunFault::Ports(why) => report_file(alloc, out, ports, why),
         RunFault::NoMemory => say(alloc, out, b"want of memory\n"),
+    }
+}
+
+/// Puts the line of a refused evaluation.
+pub fn report_means<K: Sink>(
+    alloc: Global,
+    out: &mut K,
+    fault: &MeansFault,
+    source: &str,
+    ports: &str,
+)
+    ensures { Puts K.tells (Some (means_line source.now ports.now fault.now))
+        (K.bytes out.old) (K.bytes out.new) (K.faults out.old) (K.faults out.new) }
+{
+    match fault {
+        MeansFault::Files(why) => report_run(alloc, out, *why, source, ports),
+        MeansFault::Source(why) => report_source(alloc, out, why),
     }
 }

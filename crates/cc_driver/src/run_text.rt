@@ -22,8 +22,8 @@ fn trap_name(kind: TrapKind) -> &'static str
     }
 }
 
-// The line of an ending, without its line feed.
-fn push_ending(text: &mut Vec<u8>, ending: Ending) -> Result<(), NoMemory>
+/// The line of an ending, without its line feed.
+pub fn push_ending(text: &mut Vec<u8>, ending: Ending) -> Result<(), NoMemory>
     ensures { OnOk result (text.new.items ≡ text.old.items ++ ending_line ending) }
 {
     match ending {
@@ -51,13 +51,13 @@ fn push_trap(text: &mut Vec<u8>, kind: TrapKind, at: u16) -> Result<(), NoMemory
     Ok(())
 }
 
-// The line of a run that goes on, without its line feed.
-fn push_running(text: &mut Vec<u8>, steps: u64) -> Result<(), NoMemory>
-    ensures { OnOk result (text.new.items ≡ text.old.items ++ running_line steps) }
+/// The line of a run that went on behind so many of its steps or turns, without its line feed.
+pub fn push_running(text: &mut Vec<u8>, count: u64, what: &str) -> Result<(), NoMemory>
+    ensures { OnOk result (text.new.items ≡ text.old.items ++ running_line count what.now) }
 {
     text.extend_from_slice(b"running after ")?;
-    push_decimal(text, steps)?;
-    text.extend_from_slice(b" steps")?;
+    push_decimal(text, count)?;
+    text.extend_from_slice(what.as_bytes())?;
     Ok(())
 }
 
@@ -68,7 +68,7 @@ fn push_stop(text: &mut Vec<u8>, stop: Stop, steps: u64) -> Result<(), NoMemory>
     match stop {
         Stop::Ended(ending) => push_ending(text, ending),
         Stop::Trap { kind, at } => push_trap(text, kind, at),
-        Stop::Running => push_running(text, steps),
+        Stop::Running => push_running(text, steps, " steps"),
     }
 }
 

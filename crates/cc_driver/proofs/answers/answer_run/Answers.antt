@@ -1,8 +1,5 @@
-use Rattle.std.proofs.Common.{refl}
-use Rattle.cc_driver.specs.Run.{AtFetch}
-use Rattle.cc_driver.specs.RunAnswer.{Refuse}
-use Rattle.cc_driver.specs.declared.fault.RunFault.TheVariants as fault
-use Rattle.cc_driver.proofs.LineLemmas.{line_behind}
+use Rattle.cc_driver.specs.Answer.{None_put}
+use Rattle.cc_driver.specs.RunAnswer.{Answer, Refuse}
 use Rattle.cc_driver.proofs.answers.answer_run.Goals as goal
 
 pub returns-in-Err-clause-answers : goal.returns-in-Err-clause-answers
@@ -14,11 +11,9 @@ returns-in-Err-clause-answers g c = Refuse (record {
 })
 
 pub returns-clause-answers : goal.returns-clause-answers
-returns-clause-answers g c =
-    let kept = rw c.in-Err-NoMemory.field-0-is at c.in-Err-NoMemory.ensures.refused in
-    Refuse (record {
-      why = fault.NoMemory;
-      refused = AtFetch tt;
-      status_is = refl;
-      line = line_behind _ _ _ _ _ _ _ _ kept.0 kept.1 c.say.ensures;
-    })
+returns-clause-answers g c = Answer (record {
+  outs = c.in-Ok.outcome.outs;
+  stands = c.in-Ok.outcome.stop;
+  ran = c.in-Ok.ensures.done;
+  put = None_put c.want_memory.ensures.status c.want_memory.ensures.line;
+})

@@ -1,7 +1,7 @@
 use Rattle.cc_driver.proofs.line.report_run.Goals as goal
 
-pub returns-in-Image : goal.returns-in-Image
-returns-in-Image g c = rw c.in-Image.is c.report_file.ensures
+pub returns-in-File : goal.returns-in-File
+returns-in-File g c = rw c.in-File.is c.report_file.ensures
 
 pub returns-in-Ports : goal.returns-in-Ports
 returns-in-Ports g c = rw c.in-Ports.is c.report_file-in-Ports.ensures
