@@ -11,7 +11,7 @@ use Rattle.cc_driver.specs.Fetches.{IsFetched, AreFetched, AreBadPorts, FetchCau
 use Rattle.cc_driver.specs.Line.{Sinks}
 use Rattle.cc_driver.specs.SourceFaults.{FrontRefused}
 use Rattle.cc_driver.specs.Means.{Meant, MeansTo, MeansRefused, AtSourceFetch, AtTexts, of_untyped}
-use Rattle.cc_driver.specs.MeansAnswer.{MeansAnswers, Meaning, NoMeaning, FileRefused, NoFile, LongFile, TextRefused, BadPorts, BadSource, RefusedWith, OfSource, OfPorts, OfTexts}
+use Rattle.cc_driver.specs.MeansAnswer.{MeansAnswers, Meaning, NoMeaning, FileRefused, NoFile, LongFile, TextRefused, BadPorts, NoProgram, RefusedWith, OfSource, OfPorts, OfTexts}
 use Rattle.cc_driver.specs.MeansText.{means_status, outcome_status}
 use Rattle.cc_driver.specs.RunText.{file_status}
 use Rattle.cc_driver.specs.declared.fault.FileFault.{FileFault}
@@ -48,13 +48,13 @@ module _ (files : Files) where
 
   text_one : (s p : List ℕ) (a b : ℕ) → TextRefused s p a → TextRefused s p b → a ≡ b
   text_one s p a b (BadPorts e line bad) (BadPorts f other worse) = e ∙ sym f
-  text_one s p a b (BadPorts e line bad) (BadSource f ports why has) = absurd (bad_no_text p line bad ports.0 ports.1)
-  text_one s p a b (BadSource e ports why has) (BadPorts f line bad) = absurd (bad_no_text p line bad ports.0 ports.1)
-  text_one s p a b (BadSource e ports why has) (BadSource f also other too) = e ∙ sym f
+  text_one s p a b (BadPorts e line bad) (NoProgram f ports none) = absurd (bad_no_text p line bad ports.0 ports.1)
+  text_one s p a b (NoProgram e ports none) (BadPorts f line bad) = absurd (bad_no_text p line bad ports.0 ports.1)
+  text_one s p a b (NoProgram e ports none) (NoProgram f also neither) = e ∙ sym f
 
   text_not : (s p : List ℕ) (a turns : ℕ) (outcome : Outcome) → TextRefused s p a → MeansTo s p turns outcome → ⊥
   text_not s p a turns outcome (BadPorts e line bad) m = bad_no_text p line bad m.lines m.ports
-  text_not s p a turns outcome (BadSource e ports why has) m = program_no_fault s m.program why m.typed has
+  text_not s p a turns outcome (NoProgram e ports none) m = none m.program m.typed
 
   module _ (source ports : List ℕ) where
     -- both files are told once
@@ -125,7 +125,7 @@ module _ (tells : Bool) (files : Files) (before now : Counts) (told : IsTrue tel
           port_bytes = t.port_bytes;
           fetched = t.fetched;
           ports_fetched = t.ports_fetched;
-          holds = BadSource refl t.holds.0 why t.holds.1;
+          holds = NoProgram refl t.holds.0 (λ program has. program_no_fault t.bytes program why has t.holds.1);
         }))
 
     -- what is wrong decides the status

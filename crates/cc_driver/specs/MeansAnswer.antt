@@ -3,11 +3,11 @@ use Rattle.std.specs.Prelude.{◌≡◌, ℕ, ◌<◌, Bool, IsTrue, List, lengt
 use Rattle.word_base.specs.Counts.{Counts}
 use Rattle.word_base.specs.Files.{Files}
 use Rattle.word_base.specs.declared.outcome.Outcome.{Outcome}
+use Rattle.c_tree.specs.TypedTree.{ProgramTree}
 use Rattle.c25_image.specs.PortText.{IsFirstBad}
-use Rattle.cc_driver.specs.declared.fault.SourceFault.{SourceFault}
 use Rattle.cc_driver.specs.declared.fault.MeansFault.{MeansFault}
 use Rattle.cc_driver.specs.Build.{source_limit}
-use Rattle.cc_driver.specs.SourceFaults.{HasNoProgramFor}
+use Rattle.cc_driver.specs.SourceFaults.{HasProgram}
 use Rattle.cc_driver.specs.Fetches.{IsFetched, AreFetched, ports_limit}
 use Rattle.cc_driver.specs.Answer.{AnswerPut}
 use Rattle.cc_driver.specs.Line.{Puts, Sinks}
@@ -36,10 +36,10 @@ pub data FileRefused (files : Files) (name : List ℕ) (limit status : ℕ) : Ty
   NoFile : status ≡ 3 → files name ≡ None → FileRefused files name limit status
   LongFile : status ≡ 9 → (bytes : List ℕ) → files name ≡ Some bytes → limit < length bytes → FileRefused files name limit status
 
--- the status of told texts of which one is wrong: the ports aren't in their format, or else the source has no typed program
+-- the status of told texts that mean nothing: the ports aren't in their format, or else the source has no typed program
 pub data TextRefused (source_bytes port_bytes : List ℕ) (status : ℕ) : Type 0 where
   BadPorts : status ≡ 9 → (line : ℕ) → IsFirstBad port_bytes line → TextRefused source_bytes port_bytes status
-  BadSource : status ≡ 1 → ArePorts port_bytes → (why : SourceFault) → HasNoProgramFor why source_bytes → TextRefused source_bytes port_bytes status
+  NoProgram : status ≡ 1 → ArePorts port_bytes → ((program : ProgramTree) → ¬ HasProgram source_bytes program) → TextRefused source_bytes port_bytes status
 
 -- the status of the first thing that is wrong in what is told
 pub data RefusedWith (files : Files) (source ports : List ℕ) (status : ℕ) : Type 0 where
