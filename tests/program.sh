@@ -200,6 +200,38 @@ wants 2 'words refused' run seven.img none --steps 100000001
 wants 2 'words refused' run seven.img none --help
 [ -w /dev/full ] && { "$top/c25cc" run seven.img none > /dev/full; [ $? -eq 4 ] || fail 'an answer to a full output'; }
 
+# What sources mean.
+# means STATUS LINES SOURCE WORD..: the status and the output of the evaluation of a source.
+means() {
+    printf '%s' "$3" > meaning.c
+    wants "$1" "$2" means meaning.c "${@:4}"
+}
+wants 0 '1 0005
+returned 0007' means "$top/examples/first.c" none
+means 0 '1 000a
+1 000b
+1 000c
+input 0 ended' 'int main(void){for(;;) __out(1, __in(0)); return 0;}' ports
+means 6 'running after 10000 turns' 'int main(void){for(;;); return 0;}' none
+means 6 'running after 50 turns' 'int main(void){for(;;); return 0;}' none --turns 50
+means 10 '0 0001
+undefined overflow at byte 49' 'int main(void){int x; x = 32767; __out(0,1); x = x + 1; return x;}' none
+means 1 'source refused: long constant at byte 23' 'int main(void){return -32768;}' none
+means 9 'file refused: p bad line 1' '' p
+wants 3 'read fault: absent' means absent none
+wants 3 'read fault: absent' means meaning.c absent
+wants 9 'file refused: long.c too long' means long.c absent
+means 2 'words refused' 'int main(void){return 0;}'
+for number in 0 1000001; do
+    wants 2 'words refused' means meaning.c none --turns "$number"
+done
+wants 2 'words refused' means meaning.c none --steps 5
+[ -w /dev/full ] && { "$top/c25cc" means meaning.c none > /dev/full; [ $? -eq 4 ] || fail 'a meaning to a full output'; }
+# An expression and a chain of calls as high as they may be.
+nested 195 '1-(' ')'
+wants 0 'returned 0000' means nested.c none
+wants 0 'returned 0000' means chain.c none
+
 # Damaged images, images of any words and any bytes end with a status that a run has, whatever the input.
 answers() {
     timeout 20 "$top/c25cc" run "$1" ports --steps 20000 > /dev/null

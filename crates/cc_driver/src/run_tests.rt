@@ -9,24 +9,24 @@ use word_base::{MemShelf, MemSink};
 /// Puts 7 to port 1, and returns it.
 const SEVEN: &[u8] = b"C25 IMAGE 1\nwords 5\nc806 ca07 6005 e105 ce1f\nend\n";
 
-// Runs a command over a shelf that holds the image `i` and the ports `p`, and looks at its status
-// and at all that it put.
-fn wants<R: Threads + Sync + AllocGlobal + Abort>(
+/// Runs a command over a shelf that holds the file `i` and the ports `p`, and looks at its status
+/// and at all that it put.
+pub fn wants<R: Threads + Sync + AllocGlobal + Abort>(
     rt: &R,
     words: &[&str],
-    image: &[u8],
+    file: &[u8],
     ports: &[u8],
     status: u8,
     text: &str,
 ) -> Result<(), Fail> {
-    wants_over(rt, words, image, ports, &[], &[], status, text)
+    wants_over(rt, words, file, ports, &[], &[], status, text)
 }
 
-// The same over a shelf and a sink whose calls of these numbers fail.
-fn wants_over<R: Threads + Sync + AllocGlobal + Abort>(
+/// The same over a shelf and a sink whose calls of these numbers fail.
+pub fn wants_over<R: Threads + Sync + AllocGlobal + Abort>(
     rt: &R,
     words: &[&str],
-    image: &[u8],
+    file: &[u8],
     ports: &[u8],
     shelf_fails_at: &[u64],
     sink_fails_at: &[u64],
@@ -35,7 +35,7 @@ fn wants_over<R: Threads + Sync + AllocGlobal + Abort>(
 ) -> Result<(), Fail> {
     let alloc = rt.alloc();
     let mut shelf = MemShelf::new(alloc, shelf_fails_at.to_vec(alloc)?);
-    shelf.insert(alloc, "i", image)?;
+    shelf.insert(alloc, "i", file)?;
     shelf.insert(alloc, "p", ports)?;
     let mut out = MemSink::new(alloc, sink_fails_at.to_vec(alloc)?);
     let mut list = Vec::new(alloc);
