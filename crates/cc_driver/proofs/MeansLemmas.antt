@@ -5,7 +5,7 @@ use Rattle.word_base.specs.Counts.{Counts, FetchFailed, Rose}
 use Rattle.word_base.specs.Files.{Files}
 use Rattle.word_base.specs.declared.outcome.Outcome.{Outcome}
 use Rattle.c25_image.proofs.PortLines.{bad_no_text}
-use Rattle.cc_driver.specs.Answer.{AnswerPut, All_put, Part_put, None_put}
+use Rattle.cc_driver.specs.Answer.{AnswerPut, PutWhole, PutPart, PutNothing}
 use Rattle.cc_driver.specs.Build.{source_limit}
 use Rattle.cc_driver.specs.Fetches.{IsFetched, AreFetched, AreBadPorts, FetchCause, ports_limit}
 use Rattle.cc_driver.specs.Line.{Sinks}
@@ -140,9 +140,9 @@ module _ (tells : Bool) (files : Files) (before now : Counts) (told : IsTrue tel
 
 -- an answer that no put failed at has its status
 put_decides : (text : List ℕ) (ends : ℕ) (sinks : Sinks) (status : ℕ) → AnswerPut text ends sinks status → ¬ Rose sinks.faults_before sinks.faults_now → (status ≡ ends) ⊎ (status ≡ 5)
-put_decides text ends sinks status (All_put e put) whole = inl e
-put_decides text ends sinks status (Part_put e failed part) whole = absurd (whole failed)
-put_decides text ends sinks status (None_put e line) whole = inr e
+put_decides text ends sinks status (PutWhole e put) whole = inl e
+put_decides text ends sinks status (PutPart e failed part) whole = absurd (whole failed)
+put_decides text ends sinks status (PutNothing e line) whole = inr e
 
 pub meaning_decides : (text : List ℕ) (ends : ℕ) (sinks : Sinks) (status : ℕ) (found wanted : Outcome) → AnswerPut text ends sinks status → ends ≡ outcome_status found → found ≡ wanted
     → ¬ Rose sinks.faults_before sinks.faults_now → (status ≡ outcome_status wanted) ⊎ (status ≡ 5)

@@ -7,7 +7,7 @@ use Rattle.c25_isa.specs.declared.event.Stop.{Stop}
 use Rattle.c25_isa.specs.declared.event.Stop.TheVariants as stop
 use Rattle.cc_driver.specs.Build.{build_status}
 use Rattle.cc_driver.specs.RunAnswer.{RunAnswers, Answer, Refuse}
-use Rattle.cc_driver.specs.Answer.{AnswerPut, All_put, Part_put, None_put}
+use Rattle.cc_driver.specs.Answer.{AnswerPut, PutWhole, PutPart, PutNothing}
 use Rattle.cc_driver.specs.MeansAnswer.{MeansAnswers, Meaning, NoMeaning}
 use Rattle.cc_driver.specs.MeansText.{outcome_status, means_status}
 use Rattle.cc_driver.specs.Line.{Sinks}
@@ -51,9 +51,9 @@ of_fault (fault.Ports why) = of_file why
 of_fault fault.NoMemory = (5, lit< tt, refl)
 
 of_put : (text : List ℕ) (ends : ℕ) (sinks : Sinks) (status : ℕ) → IsStatus ends → AnswerPut text ends sinks status → IsStatus status
-of_put text ends sinks status is (All_put e put) = subst IsStatus (sym e) is
-of_put text ends sinks status is (Part_put e failed part) = subst IsStatus (sym e) (4, lit< tt, refl)
-of_put text ends sinks status is (None_put e line) = subst IsStatus (sym e) (5, lit< tt, refl)
+of_put text ends sinks status is (PutWhole e put) = subst IsStatus (sym e) is
+of_put text ends sinks status is (PutPart e failed part) = subst IsStatus (sym e) (4, lit< tt, refl)
+of_put text ends sinks status is (PutNothing e line) = subst IsStatus (sym e) (5, lit< tt, refl)
 
 pub run_status : (tells : Bool) (files : Files) (image ports : List ℕ) (steps : ℕ) (before now : Counts) (sinks : Sinks) (status : ℕ) → RunAnswers tells files image ports steps before now sinks status → IsStatus status
 run_status tells files image ports steps before now sinks status (Answer a) = of_put _ _ sinks status (of_stop a.stands) a.put

@@ -6,10 +6,10 @@ use Rattle.cc_driver.specs.Line.{Puts, Sinks}
 -- an answer of this text, whose status is this where all of it is put
 pub data AnswerPut (text : List ℕ) (ends : ℕ) (sinks : Sinks) (status : ℕ) : Type 0 where
   -- all of it was put
-  All_put : status ≡ ends → (IsTrue sinks.tells → sinks.now ≡ sinks.before ++ text) → AnswerPut text ends sinks status
+  PutWhole : status ≡ ends → (IsTrue sinks.tells → sinks.now ≡ sinks.before ++ text) → AnswerPut text ends sinks status
   -- the put failed, and a part of it is there
-  Part_put : status ≡ 4 → Rose sinks.faults_before sinks.faults_now → (IsTrue sinks.tells → (n : ℕ) × (sinks.now ≡ sinks.before ++ take n text))
+  PutPart : status ≡ 4 → Rose sinks.faults_before sinks.faults_now → (IsTrue sinks.tells → (n : ℕ) × (sinks.now ≡ sinks.before ++ take n text))
       → AnswerPut text ends sinks status
   -- memory was wanting for it, and the line that says so was put
-  None_put : status ≡ 5 → Puts sinks.tells (Some (codes "want of memory\n")) sinks.before sinks.now sinks.faults_before sinks.faults_now
+  PutNothing : status ≡ 5 → Puts sinks.tells (Some (codes "want of memory\n")) sinks.before sinks.now sinks.faults_before sinks.faults_now
       → AnswerPut text ends sinks status

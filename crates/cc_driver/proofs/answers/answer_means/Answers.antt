@@ -1,5 +1,5 @@
 use Rattle.std.proofs.Common.{◌∙◌, ap, inr}
-use Rattle.cc_driver.specs.Answer.{None_put}
+use Rattle.cc_driver.specs.Answer.{PutNothing}
 use Rattle.cc_driver.specs.MeansText.{means_status}
 use Rattle.cc_driver.specs.MeansAnswer.{Meaning, NoMeaning}
 use Rattle.cc_driver.proofs.MeansLemmas.{meaning_decides, not_refused, refused_decides}
@@ -33,5 +33,5 @@ pub returns-clause-answers : goal.returns-clause-answers
 returns-clause-answers g c = Meaning (record {
   outcome = c.in-Ok.outcome;
   meant = c.in-Ok.ensures.done;
-  put = None_put c.want_memory.ensures.status c.want_memory.ensures.line;
+  put = PutNothing c.want_memory.ensures.status c.want_memory.ensures.line;
 })

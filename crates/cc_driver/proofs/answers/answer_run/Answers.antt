@@ -1,4 +1,4 @@
-use Rattle.cc_driver.specs.Answer.{None_put}
+use Rattle.cc_driver.specs.Answer.{PutNothing}
 use Rattle.cc_driver.specs.RunAnswer.{Answer, Refuse}
 use Rattle.cc_driver.proofs.answers.answer_run.Goals as goal
 
@@ -15,5 +15,5 @@ returns-clause-answers g c = Answer (record {
   outs = c.in-Ok.outcome.outs;
   stands = c.in-Ok.outcome.stop;
   ran = c.in-Ok.ensures.done;
-  put = None_put c.want_memory.ensures.status c.want_memory.ensures.line;
+  put = PutNothing c.want_memory.ensures.status c.want_memory.ensures.line;
 })
