@@ -22,9 +22,9 @@ wants() {
 "$top/c25cc" > /dev/null
 [ $? -eq 2 ] || { fail 'the program is not there'; exit 1; }
 
-for source in "$top"/examples/*.c; do
-    wants 0 '' build "$source" made.img
-    cmp -s made.img "${source%.c}.img" || fail "$source has another image"
+for image in "$top"/examples/*.img; do
+    wants 0 '' build "${image%.img}.c" made.img
+    cmp -s made.img "$image" || fail "${image%.img}.c has another image"
 done
 
 printf 'int main(void){__out(1,5); return 7;}' > a.c
@@ -200,37 +200,149 @@ wants 2 'words refused' run seven.img none --steps 100000001
 wants 2 'words refused' run seven.img none --help
 [ -w /dev/full ] && { "$top/c25cc" run seven.img none > /dev/full; [ $? -eq 4 ] || fail 'an answer to a full output'; }
 
-# What sources mean.
-# means STATUS LINES SOURCE WORD..: the status and the output of the evaluation of a source.
-means() {
-    printf '%s' "$3" > meaning.c
-    wants "$1" "$2" means meaning.c "${@:4}"
+# Programs by the language alone.
+# puts LINES WORD..: a command puts the lines of a file, and ends with the status that the last of them tells.
+puts() {
+    local lines=$1 status
+    shift
+    case $(tail -n 1 "$lines") in
+        'returned '* | 'input '*) status=0 ;;
+        'running '*) status=6 ;;
+        'undefined '*) status=10 ;;
+        *) status=1 ;;
+    esac
+    "$top/c25cc" "$@" > got
+    set -- $? "$@"
+    [ "$1" -eq "$status" ] && cmp -s got "$lines" || fail "'${*:2}' gave: $1 $(tail -n 3 got | head -c 300), and wanted: $status $(tail -n 3 "$lines" | head -c 300)"
 }
+
+# The sources of means.txt: N.c with its input in N.ports, its turns in N.turns, and the lines in N.wants.
+mkdir means
+sources=$(LC_ALL=C awk '
+    # what stands before the next bar, which is taken off
+    function field(  bar, text) {
+        bar = index(rest, " | ")
+        text = substr(rest, 1, bar - 1)
+        rest = substr(rest, bar + 3)
+        return text
+    }
+    function keep(text, name) {
+        printf "%s", text > ("means/" count "." name)
+        close("means/" count "." name)
+    }
+    /^#/ || !/ [|] / { next }
+    {
+        count++
+        rest = $0
+        lines = field()
+        ports = turns = ""
+        while (rest ~ /^(in|turns) [0-9]/) {
+            word = field()
+            if (word ~ /^in /) ports = substr(word, 4) "\n"
+            else turns = substr(word, 7)
+        }
+        place = index(rest, "§")
+        if (place) {
+            rest = substr(rest, 1, place - 1) substr(rest, place + length("§"))
+            lines = lines " at byte " (place - 1)
+        }
+        gsub(/, /, "\n", lines)
+        gsub(/, /, "\n", ports)
+        keep(rest, "c")
+        keep(ports, "ports")
+        keep(turns (turns == "" ? "" : "\n"), "turns")
+        keep(lines "\n", "wants")
+    }
+    END { print count + 0 }' "$top/tests/means.txt")
+[ "$sources" -ge 470 ] || fail "means.txt has $sources sources"
+for source in $(seq 1 "$sources"); do
+    set -- means "means/$source.c" "means/$source.ports"
+    if read -r turns < "means/$source.turns"; then
+        set -- "$@" --turns "$turns"
+    fi
+    puts "means/$source.wants" "$@"
+done
+
+# The examples with an input, each with all the lines that it puts.
+for ports in "$top"/examples/*.in; do
+    puts "${ports%.in}.out" means "${ports%.in}.c" "$ports"
+done
+
+printf 'int main(void){for(;;); return 0;}' > loop.c
 wants 0 '1 0005
 returned 0007' means "$top/examples/first.c" none
-means 0 '1 000a
-1 000b
-1 000c
-input 0 ended' 'int main(void){for(;;) __out(1, __in(0)); return 0;}' ports
-means 6 'running after 10000 turns' 'int main(void){for(;;); return 0;}' none
-means 6 'running after 50 turns' 'int main(void){for(;;); return 0;}' none --turns 50
-means 10 '0 0001
-undefined overflow at byte 49' 'int main(void){int x; x = 32767; __out(0,1); x = x + 1; return x;}' none
-means 1 'source refused: long constant at byte 23' 'int main(void){return -32768;}' none
-means 9 'file refused: p bad line 1' '' p
-wants 3 'read fault: absent' means absent none
-wants 3 'read fault: absent' means meaning.c absent
+wants 6 'running after 3 turns' means loop.c none --turns=+03
+wants 6 'running after 1000000 turns' means loop.c none --turns 1000000
+wants 2 'words refused' means
+wants 2 'words refused' means loop.c
+wants 2 'words refused' means loop.c none --turns 0
+wants 2 'words refused' means loop.c none --turns 1000001
+wants 2 'words refused' means loop.c none --turns
+wants 2 'words refused' means loop.c none --turns 5 --turns 5
+wants 2 'words refused' means loop.c none --steps 5
+wants 2 'words refused' means loop.c none none
+wants 2 'words refused' means absent.c absent --turns 0
+wants 3 'read fault: absent.c' means absent.c absent
+wants 3 'read fault: absent' means bad.c absent
+wants 9 'file refused: p bad line 1' means bad.c p
 wants 9 'file refused: long.c too long' means long.c absent
-means 2 'words refused' 'int main(void){return 0;}'
-for number in 0 1000001; do
-    wants 2 'words refused' means meaning.c none --turns "$number"
-done
-wants 2 'words refused' means meaning.c none --steps 5
-[ -w /dev/full ] && { "$top/c25cc" means meaning.c none > /dev/full; [ $? -eq 4 ] || fail 'a meaning to a full output'; }
-# An expression and a chain of calls as high as they may be.
+wants 1 'source refused: bad constant at byte 22' means bad.c none
+wants 1 'source refused: syntax at byte 0' means none none
+wants 1 'source refused: limit scalars 99990' means names.c none
+[ -w /dev/full ] && { "$top/c25cc" means "$top/examples/first.c" none > /dev/full; [ $? -eq 4 ] || fail 'an answer to a full output'; }
+
+# As deep as sources may be: nested expressions, blocks and parentheses, and 256 functions that call one another.
 nested 195 '1-(' ')'
 wants 0 'returned 0000' means nested.c none
-wants 0 'returned 0000' means chain.c none
+nested 194 '1-(' ')'
+wants 0 'returned 0001' means nested.c none
+nested 195 '1?(' '):1/0'
+wants 0 'returned 0001' means nested.c none
+nested 99000 '(' ')'
+wants 0 'returned 0001' means nested.c none
+awk 'BEGIN { printf "int main(void){"; for (i = 0; i < 196; i++) printf "{"; printf ";"; for (i = 0; i < 197; i++) printf "}" }' > nested.c
+wants 0 'returned 0000' means nested.c none
+chained() { echo "int f0(int x){$1}$(awk 'BEGIN { for (i = 1; i < 255; i++) printf "int f%d(int x){return f%d(x + 1) + 1;}", i, i - 1 }')int main(void){return f254(0);}" > chain.c; }
+chained '__out(0, x); return x;'
+wants 0 '0 00fe
+returned 01fc' means chain.c none
+chained 'return 1 / (x - 254);'
+wants 10 'undefined divide by zero at byte 21' means chain.c none
+chained '__out(0, x);'
+wants 10 "0 00fe
+undefined no value at byte $(grep -ob 'f0(x + 1)' chain.c | cut -d : -f 1)" means chain.c none
+
+# Long runs, with the time that they take.
+# timed WHAT LINES WORD..: what a command does as in puts takes less than a minute.
+timed() {
+    local what=$1 started took
+    shift
+    started=$(date +%s%N)
+    puts "$@"
+    took=$((($(date +%s%N) - started) / 1000000))
+    echo "program: $what took $took ms"
+    [ "$took" -lt 60000 ] || fail "$what took $took ms"
+}
+echo 'int main(void){unsigned low = 0, high = 0; while (high < 15 || low < 16960) if (++low == 0) high++; __out(0, high); return low;}' > turns.c
+printf '0 000f\nreturned 4240\n' > turns.wants
+timed 'a loop of 1000000 turns' turns.wants means turns.c none --turns 1000000
+echo 'running after 999999 turns' > turns.wants
+puts turns.wants means turns.c none --turns 999999
+echo 'void add(unsigned *n){unsigned one[2] = {1}; *n += one[0];} int main(void){unsigned low = 0, high = 0; for (;;) {unsigned next = low; add(&next); low = next; if (low == 0 && ++high == 4) break;} __out(0, high); return low;}' > calls.c
+printf '0 0004\nreturned 0000\n' > calls.wants
+timed 'a loop of 262144 calls' calls.wants means calls.c none --turns 262144
+echo 'int a[32767]; int main(void){int *p; unsigned sum = 0; for (p = a; p < a + sizeof a; p++) *p = p - a; while (p != a) sum += *--p; return sum;}' > array.c
+echo 'returned 4001' > array.wants
+timed 'an array of 32767 cells' array.wants means array.c none --turns 32767
+awk 'BEGIN { for (i = 0; i < 10000; i++) print "0 0040" }' > words
+awk 'BEGIN {
+    print "1 0001\n1 0005\n1 000f\n1 0020\n1 0031\n1 003b\n1 003f"
+    for (i = 7; i < 10000; i++) print "1 0040"
+    print "input 0 ended"
+}' > words.wants
+timed 'a filter over 10000 words' words.wants means "$top/examples/fir.c" words --turns 10001
+sed -i '$ c running after 10000 turns' words.wants
+puts words.wants means "$top/examples/fir.c" words
 
 # Damaged images, images of any words and any bytes end with a status that a run has, whatever the input.
 answers() {
