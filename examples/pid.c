@@ -1,7 +1,7 @@
 /* A controller with a proportional, an integral and a differential part. Port 0
    has the number of steps, and then for each one the wanted value; port 1 has
    the measured values. The drive goes out at port 2, from -1000 to 1000, and
-   port 3 tells when the integral stands still because the drive was cut. */
+   where it was cut the integral stands still and goes out at port 3. */
 
 int integral;
 int last_error;
