@@ -312,6 +312,21 @@ chained '__out(0, x);'
 wants 10 "0 00fe
 undefined no value at byte $(grep -ob 'f0(x + 1)' chain.c | cut -d : -f 1)" means chain.c none
 
+# 255 calls at once, each within an expression or statements 190 high.
+high() { echo "int f0(int x){return x;}$(awk -v front="$1" -v back="$2" 'BEGIN {
+    for (i = 1; i < 255; i++) {
+        printf "int f%d(int x){", i
+        for (k = 0; k < 190; k++) printf "%s", front
+        printf "return "
+        for (k = 0; k < 190; k++) printf "%s", back
+        printf "f%d(x);}", i - 1
+    }
+}')int main(void){return f254(7);}" > high.c; }
+high '' '- '
+wants 0 'returned 0007' means high.c none
+high 'if (1) ' ''
+wants 0 'returned 0007' means high.c none
+
 # Long runs, with the time that they take.
 # timed WHAT LINES WORD..: what a command does as in puts takes less than a minute.
 timed() {
