@@ -25,8 +25,8 @@ fn shown(alloc: Global, request: Option<Request>) -> Result<String, Fail> {
     })
 }
 
-// Words, and what they ask for.
-const ROWS: [(&str, &str); 88] = [
+// Words of builds and runs, and what they ask for.
+const ROWS: [(&str, &str); 66] = [
     ("", "refused"),
     ("build", "refused"),
     ("run", "refused"),
@@ -92,6 +92,11 @@ const ROWS: [(&str, &str); 88] = [
     ("run -h", "refused"),
     ("run --version", "refused"),
     ("run a p -r 1", "refused"),
+    ("run a p --turns 4", "refused"),
+];
+
+// Words of evaluations.
+const MEANS_ROWS: [(&str, &str); 22] = [
     ("means", "refused"),
     ("Means a p", "refused"),
     ("means a p", "means a p 10000"),
@@ -114,7 +119,6 @@ const ROWS: [(&str, &str); 88] = [
     ("means a", "refused"),
     ("means a p q", "refused"),
     ("means --help", "refused"),
-    ("run a p --turns 4", "refused"),
 ];
 
 // The words of a line.
@@ -128,12 +132,25 @@ fn split(alloc: Global, line: &str) -> Result<Vec<String>, Fail> {
     Ok(words)
 }
 
+// What the words of a line ask for.
+fn answer(alloc: Global, line: &str) -> Result<String, Fail> {
+    let words = split(alloc, line)?;
+    shown(alloc, requested(alloc, words.as_slice())?)
+}
+
 #[test]
 fn rows(rt: HostRuntime) -> Result<(), Fail> {
-    let alloc = rt.alloc();
     for (line, wanted) in ROWS {
-        let words = split(alloc, line)?;
-        let got = shown(alloc, requested(alloc, words.as_slice())?)?;
+        let got = answer(rt.alloc(), line)?;
+        assert_eq!(rt; got.as_str(), wanted, "{line}");
+    }
+    Ok(())
+}
+
+#[test]
+fn means_rows(rt: HostRuntime) -> Result<(), Fail> {
+    for (line, wanted) in MEANS_ROWS {
+        let got = answer(rt.alloc(), line)?;
         assert_eq!(rt; got.as_str(), wanted, "{line}");
     }
     Ok(())
