@@ -296,7 +296,7 @@ nested 195 '1-(' ')'
 wants 0 'returned 0000' means nested.c none
 nested 194 '1-(' ')'
 wants 0 'returned 0001' means nested.c none
-nested 195 '1?(' '):1/0'
+nested 194 '1?(' '):1/0'
 wants 0 'returned 0001' means nested.c none
 nested 99000 '(' ')'
 wants 0 'returned 0001' means nested.c none
