@@ -11,7 +11,8 @@ use Rattle.c_tree.specs.TypedTree.{Expr, Exprs, FunctionTree, none, more}
 use Rattle.c_tree.specs.Eval.{Calls, Env, value, values}
 use Rattle.c_tree.specs.Exec.{Flow, enter, leave, exec}
 use Rattle.c_tree.specs.SourceRun.{call_within, call_function, pass, no_names, result_of}
-use Rattle.c_tree.specs.View.{program_of, function_of, argument_list, expr_of}
+use Rattle.c_tree.specs.ProgramView.{program_of}
+use Rattle.c_tree.specs.View.{function_of, argument_list, expr_of}
 use Rattle.c_tree.specs.declared.program.VarRef.{VarRef}
 use Rattle.c_means.specs.declared.frame.Run.{Run}
 use Rattle.c_means.specs.declared.names.Names.{Names}

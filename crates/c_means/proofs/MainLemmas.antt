@@ -11,7 +11,8 @@ use Rattle.c_tree.specs.declared.program.Object.{Object}
 use Rattle.c_tree.specs.declared.program.Function.{Function}
 use Rattle.c_tree.specs.declared.program.Program.{Program}
 use Rattle.c_tree.specs.TypedTree.{ObjectTree, FunctionTree, ProgramTree}
-use Rattle.c_tree.specs.View.{function_of, object_of, program_of}
+use Rattle.c_tree.specs.ProgramView.{program_of}
+use Rattle.c_tree.specs.View.{function_of, object_of}
 use Rattle.c_tree.specs.Store as runs
 use Rattle.c_tree.specs.Store.{Cell, Obj, Store, World, Res, Does, Gives, with_new}
 use Rattle.c_tree.specs.Exec.{set_cells}

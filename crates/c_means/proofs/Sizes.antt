@@ -9,7 +9,8 @@ use Rattle.c_tree.specs.declared.typed_statement.Choice.{Choice}
 use Rattle.c_tree.specs.declared.typed_statement.Choice as choice
 use Rattle.c_tree.specs.TypedTree as tree
 use Rattle.c_tree.specs.TypedTree.{Expr, Node, Lvalue, Named, At, Form, Exprs, Stmt, Stmts, Choices, FunctionTree}
-use Rattle.c_tree.specs.View.{program_of, function_of, expr_of, argument_list, stmt_of, statement_list, choice_list, choice_before}
+use Rattle.c_tree.specs.ProgramView.{program_of}
+use Rattle.c_tree.specs.View.{function_of, expr_of, argument_list, stmt_of, statement_list, choice_list, choice_before}
 use Rattle.c_means.specs.declared.frame.Run.{Run}
 
 abbrev mutual

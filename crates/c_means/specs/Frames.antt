@@ -1,5 +1,6 @@
 -- The calls that a run may make, and what the names of its function stand for.
-use Rattle.c_tree.specs.View.{program_of, function_of}
+use Rattle.c_tree.specs.ProgramView.{program_of}
+use Rattle.c_tree.specs.View.{function_of}
 use Rattle.c_tree.specs.Eval.{Env, Calls}
 use Rattle.c_tree.specs.SourceRun.{call_within}
 use Rattle.c_means.specs.declared.frame.Run.{Run}

@@ -2,7 +2,8 @@
 ghost use Rattle.std.specs.Prelude.{◌≡◌, IfOk, IfErr, map, option_map};
 ghost use Rattle.std.specs.Str.{bytes_eq};
 ghost use Rattle.word_base.specs.Ports.{input_of};
-ghost use Rattle.c_tree.specs.View.{function_of, object_of, program_of};
+ghost use Rattle.c_tree.specs.ProgramView.{program_of};
+ghost use Rattle.c_tree.specs.View.{function_of, object_of};
 ghost use Rattle.c_tree.specs.Store.{Gives};
 ghost use Rattle.c_tree.specs.SourceRun as calls;
 ghost use Rattle.c_tree.specs.SourceRun.{source_run};

@@ -5,7 +5,7 @@ use Rattle.std.specs.List.{AllZip}
 use Rattle.std.proofs.lemmas.List.{map_push, take_more}
 use Rattle.std.proofs.lemmas.List.Elements.{AllZip-push}
 use Rattle.std.proofs.lemmas.Option.{slice_get_within}
-use Rattle.c_types.specs.declared.uses.Use.{Use}
+use Rattle.c_tree.specs.declared.uses.Use.{Use}
 use Rattle.c_types.specs.Calls.{called, CallsAmong, IsOrdered, AreOrdered}
 
 pub lists_further : (uses : List (Vec Use Global)) (i : ℕ) (item : Vec Use Global) (lists new : List (Vec ℕ Global)) (made : Vec ℕ Global) → i < length uses → item ≡ get_or uses i item

@@ -3,9 +3,9 @@ use Rattle.std.proofs.Common.{◌≡◌, ◌<◌, ◌≤◌, ◌+◌, ◌&&◌, 
 use borrow.Author.Tests.{ltb-true}
 use Rattle.std.specs.Prelude.{slice_get}
 use Rattle.std.proofs.lemmas.List.{length-map}
-use Rattle.c_types.specs.declared.uses.Use.{Use}
-use Rattle.c_types.specs.declared.uses.Use.TheVariants.{Call}
-use Rattle.c_types.specs.Uses.{statement_uses}
+use Rattle.c_tree.specs.declared.uses.Use.{Use}
+use Rattle.c_tree.specs.declared.uses.Use.TheVariants.{Call}
+use Rattle.c_tree.specs.Uses.{statement_uses}
 use Rattle.c_types.specs.Units.{TypedFunction}
 use Rattle.c_types.specs.Programs.{Calls, Calling, HasBodies, HasNoCycle}
 use Rattle.c_types.specs.Rounds.{IsWay}

@@ -7,14 +7,14 @@ use Rattle.std.proofs.lemmas.List.Elements.{Contains-append_right, All-nil, All-
 use Rattle.std.proofs.lemmas.Option.{slice_get_read, slice_get_within, slice_get-map}
 use Rattle.c_types.specs.declared.functions.TypedFunction as memory
 use Rattle.c_tree.specs.View.{stmt_of}
-use Rattle.c_types.specs.declared.uses.Use.{Use}
-use Rattle.c_types.specs.declared.uses.Use.TheVariants.{Address, Call, Cases}
+use Rattle.c_tree.specs.declared.uses.Use.{Use}
+use Rattle.c_tree.specs.declared.uses.Use.TheVariants.{Address, Call, Cases}
 use Rattle.c_types.specs.Calls.{called, CallsAmong}
 use Rattle.c_types.specs.Chains.{name_of, IsChain}
 use Rattle.c_types.specs.Programs.{Calls, Calling, HasBodies, HasNoCycle}
 use Rattle.c_types.specs.Rounds.{IsWay, IsRound, IsFirstChain, HasNoRound}
 use Rattle.c_types.specs.Units.{TypedFunction}
-use Rattle.c_types.specs.Uses.{statement_uses}
+use Rattle.c_tree.specs.Uses.{statement_uses}
 use Rattle.c_types.specs.View.{typed_function_of}
 use Rattle.c_types.proofs.CallsLemmas.{uses_in}
 use Rattle.c_types.proofs.WayLemmas.{round_along, first_round_along}

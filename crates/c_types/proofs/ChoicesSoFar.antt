@@ -10,7 +10,7 @@ use Rattle.c_tree.specs.SyntaxView.{part_before}
 use Rattle.c_tree.specs.TypedTree.{Choices, no_more}
 use Rattle.c_tree.specs.View.{choice_before, choice_list}
 use Rattle.c_types.specs.declared.blocks.Body.{Body}
-use Rattle.c_types.specs.declared.local.Enclosing.{Enclosing}
+use Rattle.c_tree.specs.declared.enclosing.Enclosing.{Enclosing}
 use Rattle.c_types.specs.Bodies.{behind_choices, choices_in, joined, parts_of}
 use Rattle.c_types.specs.Outcome.{Outcome, Is, Broken}
 use Rattle.c_types.specs.Statements.{LocalTree, Labelled, Typed, just, typed_choices}

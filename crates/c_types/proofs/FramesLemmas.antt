@@ -3,7 +3,7 @@ use Rattle.std.proofs.Common.{◌≡◌, ◌<◌, ◌+◌, ◌||◌, ◌∷◌, 
 use Rattle.std.proofs.lemmas.List.{take_more, length-map}
 use Rattle.std.proofs.lemmas.List.Recursion.{or_push}
 use Rattle.c_tree.specs.declared.program.VarRef.TheVariants as refs
-use Rattle.c_types.specs.declared.uses.Use.{Use}
+use Rattle.c_tree.specs.declared.uses.Use.{Use}
 use Rattle.c_types.specs.declared.local.Local.{Local}
 use Rattle.c_types.specs.Statements.{LocalTree}
 use Rattle.c_types.specs.Programs.{is_address, is_pointed, numbered}

@@ -35,3 +35,4 @@ pub mod CalleeLemmas
 pub mod ChainLemmas
 pub mod ChainLaws
 pub mod LawLemmas
+pub mod Formed

@@ -18,7 +18,7 @@ use Rattle.c_types.specs.Faults.{Says, SaysOf}
 use Rattle.c_types.specs.Outcome.{Is}
 use Rattle.c_types.specs.Programs.{frame, function_tree, functions_with, program_tree, static_object}
 use Rattle.c_types.specs.Units.{TypedFunction, File, typed_unit}
-use Rattle.c_types.specs.View.{typed_function_of, static_tree_of, file_of, frame_lists}
+use Rattle.c_types.specs.View.{typed_function_of, static_tree_of, file_of, frame_lists, made_of}
 
 -- what a fault says of functions it says of their source
 says_of : (unit : UnitTree) (file : File) (f : TypeFault) → typed_unit unit ≡ Is file → SaysOf file.functions f → Says unit f
@@ -48,13 +48,7 @@ own_frames : (fs : List TypedFunction) → functions_with (map frame fs) fs ≡ 
 own_frames [] = refl
 own_frames (f ∷ fs) = ap (λ rest. function_tree f ∷ rest) (own_frames fs)
 
-abbrev made_of : List (Vec VarRef Global) → Contents → ProgramTree
-made_of frames contents = record {
-  statics = map static_object (map static_tree_of contents.statics.items);
-  functions = functions_with (frame_lists frames) (map typed_function_of contents.functions.items);
-}
-
-made_is : (file : files.File) (frames : List (Vec VarRef Global)) → frame_lists frames ≡ map frame (map typed_function_of file.functions.items)
+pub made_is : (file : files.File) (frames : List (Vec VarRef Global)) → frame_lists frames ≡ map frame (map typed_function_of file.functions.items)
     → made_of frames (record { statics = file.statics; functions = file.functions }) ≡ program_tree (file_of file)
 made_is file frames own =
     let functions = map typed_function_of file.functions.items

@@ -23,8 +23,8 @@ use Rattle.c_types.specs.declared.fault.Refusal.{Refusal}
 use Rattle.c_types.specs.declared.fault.Refusal.TheVariants as refusals
 use Rattle.c_types.specs.declared.fault.Rule.{Rule}
 use Rattle.c_types.specs.declared.fault.Rule.TheVariants.{Mismatch}
-use Rattle.c_types.specs.declared.local.Enclosing.{Enclosing}
-use Rattle.c_types.specs.declared.local.Enclosing.TheVariants as around
+use Rattle.c_tree.specs.declared.enclosing.Enclosing.{Enclosing}
+use Rattle.c_tree.specs.declared.enclosing.Enclosing.TheVariants as around
 use Rattle.c_types.specs.Answers.{Refuses}
 use Rattle.c_types.specs.Bodies.{behind, block_in, statement_in, statements_in}
 use Rattle.c_types.specs.Kinds.{is_void}

@@ -20,7 +20,7 @@ use Rattle.c_types.specs.declared.blocks.Body.{Body}
 use Rattle.c_types.specs.declared.fault.Refusal.{Refusal}
 use Rattle.c_types.specs.declared.fault.Refusal.TheVariants as refusals
 use Rattle.c_types.specs.declared.fault.Rule.TheVariants.{Mismatch, Redeclared}
-use Rattle.c_types.specs.declared.local.Enclosing.{Enclosing}
+use Rattle.c_tree.specs.declared.enclosing.Enclosing.{Enclosing}
 use Rattle.c_types.specs.Answers.{Refuses}
 use Rattle.c_types.specs.Bodies.{behind_choices, choices_in, parts_of, statement_in, switched}
 use Rattle.c_types.specs.Kinds.{class_of}

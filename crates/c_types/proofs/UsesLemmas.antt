@@ -11,9 +11,9 @@ use Rattle.c_tree.specs.declared.typed_statement.Choice.{Choice}
 use Rattle.c_tree.specs.TypedTree.{Choices, no_more}
 use Rattle.c_tree.specs.View.{expr_of, form_of, argument_list, stmt_of, statement_list, choice_list, choice_before}
 use Rattle.c_tree.proofs.Views.{typed_call_form, block_of_list, switch_of_list}
-use Rattle.c_types.specs.declared.uses.Use.{Use}
-use Rattle.c_types.specs.declared.uses.Use.TheVariants.{Call, Cases}
-use Rattle.c_types.specs.Uses.{case_count, uses, form_uses, list_uses, statement_uses, statements_uses, choices_uses}
+use Rattle.c_tree.specs.declared.uses.Use.{Use}
+use Rattle.c_tree.specs.declared.uses.Use.TheVariants.{Call, Cases}
+use Rattle.c_tree.specs.Uses.{case_count, uses, form_uses, list_uses, statement_uses, statements_uses, choices_uses}
 
 pub one_more : (xs : List TypedExpr) (x : TypedExpr) → list_uses (argument_list (xs ++ x ∷ [])) ≡ list_uses (argument_list xs) ++ uses (expr_of x)
 one_more [] x = append-nil (uses (expr_of x))

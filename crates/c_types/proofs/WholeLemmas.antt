@@ -11,14 +11,14 @@ use Rattle.c_types.specs.declared.fault.LimitName.TheVariants as limit
 use Rattle.c_types.specs.declared.fault.TypeFault.{TypeFault}
 use Rattle.c_types.specs.declared.fault.TypeFault.TheVariants as faults
 use Rattle.c_types.specs.declared.functions.TypedFunction as memory
-use Rattle.c_types.specs.declared.uses.Use.{Use}
-use Rattle.c_types.specs.declared.uses.Use.TheVariants as kind
+use Rattle.c_tree.specs.declared.uses.Use.{Use}
+use Rattle.c_tree.specs.declared.uses.Use.TheVariants as kind
 use Rattle.c_types.specs.Calls.{Falls}
 use Rattle.c_types.specs.Checked.{AreWhole}
 use Rattle.c_types.specs.Faults.{SaysOf}
 use Rattle.c_types.specs.Programs.{frame, has_main, Calling, HasBodies, HasNoCycle}
 use Rattle.c_types.specs.Units.{TypedFunction}
-use Rattle.c_types.specs.Uses.{statement_uses}
+use Rattle.c_tree.specs.Uses.{statement_uses}
 use Rattle.c_types.specs.View.{typed_function_of, frame_lists}
 use Rattle.c_types.specs.Whole.{uses_of, earlier, first_without, first_among, missing_body, case_counts, all_cases, first_above, passed, IsOver}
 use Rattle.c_types.specs.Chains.{IsRecursion}

@@ -11,7 +11,7 @@ use Rattle.c_tree.specs.declared.typed_statement.Choice.{Choice}
 use Rattle.c_tree.specs.declared.typed_statement.TypedStmt.{TypedStmt}
 use Rattle.c_types.specs.declared.labels.Labelled as memory
 use Rattle.c_types.specs.declared.blocks.Body.{Body}
-use Rattle.c_types.specs.declared.local.Enclosing.{Enclosing}
+use Rattle.c_tree.specs.declared.enclosing.Enclosing.{Enclosing}
 use Rattle.c_types.specs.declared.fault.Rule.TheVariants.{Mismatch, Redeclared}
 use Rattle.c_types.specs.Kinds.{class_of, is_void}
 use Rattle.c_types.specs.Operands.{is_integer}

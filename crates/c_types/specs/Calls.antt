@@ -2,8 +2,8 @@
 use Rattle.std.specs.Prelude.{◌≡◌, ◌<◌, ◌↔◌, ℕ, ◌&&◌, nat_lt, Bool, true, List, [], ◌∷◌, ◌++◌, length, slice_get, slice_index, Some}
 use Rattle.std.specs.List.{Contains}
 use Rattle.std.specs.List.Sorted.{IsNonDecreasing}
-use Rattle.c_types.specs.declared.uses.Use.{Use}
-use Rattle.c_types.specs.declared.uses.Use.TheVariants.{Address, Call, Cases}
+use Rattle.c_tree.specs.declared.uses.Use.{Use}
+use Rattle.c_tree.specs.declared.uses.Use.TheVariants.{Address, Call, Cases}
 
 -- each function that is called is among these, and has a smaller number than the one that calls it
 pub record Falls (ranks : List ℕ) (lists : List (List Use)) : Type 0 where

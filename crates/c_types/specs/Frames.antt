@@ -2,7 +2,7 @@
 use Rattle.std.specs.Prelude.{◌≡◌, ◌<◌, ◌≤◌, ℕ, suc, ◌&&◌, not, Bool, false, if◌then◌else◌, List, [], ◌∷◌, ◌++◌, length, slice_index_or}
 use Rattle.c_tree.specs.declared.program.VarRef.{VarRef}
 use Rattle.c_tree.specs.declared.program.VarRef.TheVariants as refs
-use Rattle.c_types.specs.declared.uses.Use.{Use}
+use Rattle.c_tree.specs.declared.uses.Use.{Use}
 use Rattle.c_types.specs.declared.frames.Numbering.{Numbering}
 use Rattle.c_types.specs.declared.frames.Frame.{Frame}
 use Rattle.c_types.specs.declared.frames.Frame.TheVariants.{Known, TooMany}

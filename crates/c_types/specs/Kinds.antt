@@ -1,22 +1,14 @@
 -- Types of values: ISO 9899:1990 6.1.2.5, 6.2.1.5 and 6.3.2.2 (docs/LANGUAGE.md, "Types"). A type of a value is none where it
 -- is void.
-use Rattle.std.specs.Prelude.{ℕ, zero, ◌+◌, ◌-◌, ◌==◌, ◌&&◌, ◌||◌, Bool, true, false, if◌then◌else◌, Some, None}
+use Rattle.std.specs.Prelude.{ℕ, zero, ◌-◌, ◌==◌, ◌&&◌, ◌||◌, Bool, true, false, if◌then◌else◌, Some, None}
 use Rattle.c_tree.specs.declared.program.Base.{Base}
 use Rattle.c_tree.specs.declared.program.Base.TheVariants as base
 use Rattle.c_tree.specs.declared.program.ScalarType.{ScalarType}
 use Rattle.c_tree.specs.TypedTree.{Kind}
 use Rattle.c_tree.specs.Store.{is_pointer}
+pub use Rattle.c_tree.specs.Kinds.{int, unsigned, void_pointer, pointer_to}
 use Rattle.c_types.specs.declared.kinds.Class.{Class}
 use Rattle.c_types.specs.declared.kinds.Class.TheVariants.{Nothing, Integer, Pointer}
-
-abbrev pub int : ScalarType
-int = record { base = base.Int; stars = 0 }
-
-abbrev pub unsigned : ScalarType
-unsigned = record { base = base.Unsigned; stars = 0 }
-
-abbrev pub void_pointer : ScalarType
-void_pointer = record { base = base.Void; stars = 1 }
 
 -- nothing, an integer, or a pointer
 abbrev pub class_of : Kind → Class
@@ -47,9 +39,6 @@ is_void_pointer kind = same_kind kind (Some void_pointer)
 -- what int with unsigned gives
 abbrev pub common : ScalarType → ScalarType → ScalarType
 common a b = if same_type a unsigned || same_type b unsigned then unsigned else int
-
-abbrev pub pointer_to : ScalarType → ScalarType
-pointer_to kind = record { base = kind.base; stars = kind.stars + 1 }
 
 -- a base with its stars
 abbrev pub starred : Base → ℕ → Kind

@@ -12,7 +12,6 @@ pub mod Declarations
 pub mod Statements
 pub mod Bodies
 pub mod Renumbering
-pub mod Uses
 pub mod OperandForms
 pub mod Units
 pub mod Programs

@@ -7,6 +7,8 @@ use Rattle.c_tree.specs.declared.operator.BinaryOp.{BinaryOp}
 use Rattle.c_tree.specs.declared.operator.BinaryOp.TheVariants as op
 use Rattle.c_tree.specs.TypedTree.{Kind, Expr, Node, Lvalue, Named, At, Const, Read, AddressOf, Load, Unary, Binary, And, Or, Not, Pick, Assign, AssignOp, StepBefore, StepAfter, In, Out, Comma, Convert, Exprs, none, more}
 use Rattle.c_tree.specs.Eval.{kind_of, place_of}
+use Rattle.c_tree.specs.WellFormed.{is_comparison}
+pub use Rattle.c_tree.specs.WellFormed.{moves}
 use Rattle.c_types.specs.declared.fault.Rule.TheVariants.{Mismatch, NotLvalue, LongConstant, BadPort, ArgCount}
 use Rattle.c_types.specs.declared.kinds.Class.{Class}
 use Rattle.c_types.specs.declared.kinds.Class.TheVariants.{Nothing, Integer, Pointer}
@@ -215,14 +217,9 @@ assigned_as (Some kind) at x y = given kind at y >>= λ v. written at (lvalue_of
 abbrev pub assigned : ℕ → Expr → Operand → Outcome Expr
 assigned at x y = assigned_as (kind_of x) at x y
 
--- whether `op=` takes operands of these classes: 6.3.16.2
-abbrev pub moves : BinaryOp → Bool
-moves op.Add = true
-moves op.Sub = true
-moves o = false
-
+-- whether `op=` takes operands of these classes: 6.3.16.2. No comparison has this form.
 abbrev pub takes : BinaryOp → Class → Class → Bool
-takes o Integer Integer = true
+takes o Integer Integer = not (is_comparison o)
 takes o Pointer Integer = moves o
 takes o c d = false
 

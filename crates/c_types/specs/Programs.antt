@@ -5,14 +5,14 @@ use Rattle.c_tree.specs.declared.program.ScalarType.{ScalarType}
 use Rattle.c_tree.specs.declared.program.VarRef.{VarRef}
 use Rattle.c_tree.specs.declared.program.VarRef.TheVariants as refs
 use Rattle.c_tree.specs.TypedTree.{ObjectTree, FunctionTree, ProgramTree}
-use Rattle.c_types.specs.declared.uses.Use.{Use}
-use Rattle.c_types.specs.declared.uses.Use.TheVariants.{Address, Call, Cases}
+use Rattle.c_tree.specs.declared.uses.Use.{Use}
+use Rattle.c_tree.specs.declared.uses.Use.TheVariants.{Address, Call, Cases}
 use Rattle.c_types.specs.declared.meaning.ObjectType.{ObjectType}
 use Rattle.c_types.specs.declared.meaning.ObjectType.TheVariants.{Single, Array}
 use Rattle.c_types.specs.Kinds.{int, same_kind}
 use Rattle.c_types.specs.Rounds.{HasNoRound}
 use Rattle.c_types.specs.Statements.{LocalTree}
-use Rattle.c_types.specs.Uses.{statement_uses}
+use Rattle.c_tree.specs.Uses.{statement_uses}
 use Rattle.c_types.specs.Renumbering as renumbering
 use Rattle.c_types.specs.Units.{StaticTree, TypedFunction, File}
 

@@ -1,14 +1,6 @@
--- Functions that reach others by calls.
+-- The first function that reaches itself by calls, and the first of its ways round.
 use Rattle.std.specs.Prelude.{◌≡◌, ◌<◌, ◌⊎◌, ℕ, List, [], ◌∷◌, length}
-
--- a function calls the first of these, that one the next, and so on to the last, which is that function
-abbrev pub IsWay : (ℕ → ℕ → Type 0) → ℕ → List ℕ → ℕ → Type 0
-IsWay calls n [] z = n ≡ z
-IsWay calls n (m ∷ ms) z = calls n m × IsWay calls m ms z
-
--- a function reaches itself over these
-abbrev pub IsRound : (ℕ → ℕ → Type 0) → ℕ → List ℕ → Type 0
-IsRound calls n ms = (0 < length ms) × IsWay calls n ms n
+pub use Rattle.c_tree.specs.Rounds.{IsWay, IsRound, HasNoRound}
 
 -- a list is less than another where they first differ
 abbrev pub IsLess : List ℕ → List ℕ → Type 0
@@ -35,10 +27,6 @@ pub record IsFirstChain (calls : ℕ → ℕ → Type 0) (numbers : List ℕ) : 
   pub over : List ℕ
   pub is : numbers ≡ number ∷ over
   pub is_first : IsFirstRound calls number over
-
--- no function reaches itself
-abbrev pub HasNoRound : (ℕ → ℕ → Type 0) → Type 0
-HasNoRound calls = (n : ℕ) (ms : List ℕ) → ¬ IsRound calls n ms
 
 -- no function below this number does
 abbrev pub NoneBelow : (ℕ → ℕ → Type 0) → ℕ → Type 0

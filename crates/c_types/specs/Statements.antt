@@ -1,6 +1,6 @@
 -- Statements and the bodies of functions: ISO 9899:1990 6.6 and 6.5.7 (docs/LANGUAGE.md, "Types"). The objects of a function
 -- are numbered in order of declaration.
-use Rattle.std.specs.Prelude.{ℕ, ◌==◌, ◌||◌, not, Bool, true, false, if◌then◌else◌, List, [], ◌∷◌, ◌++◌, length, is_some, Option, Some, None}
+use Rattle.std.specs.Prelude.{ℕ, ◌||◌, not, Bool, true, false, if◌then◌else◌, List, [], ◌∷◌, ◌++◌, length, is_some, Option, Some, None}
 use Rattle.c_tree.specs.declared.program.Base.{Base}
 use Rattle.c_tree.specs.declared.program.VarRef.{VarRef}
 use Rattle.c_tree.specs.declared.program.VarRef.TheVariants as refs
@@ -9,11 +9,12 @@ use Rattle.c_tree.specs.SyntaxTree as tree
 use Rattle.c_tree.specs.SyntaxTree.{Expression, ItemTree, ItemForm, InitialTree, DeclarationTree, Statement, Statements, no_statement, statement, no_choice, case_label, default_label, chosen}
 use Rattle.c_tree.specs.TypedTree.{Kind, Expr, Node, Assign, Named, Stmt, Block, Fill, Do_expr, If, While, Do_while, For, Switch, Break, Continue, Return, Stmts, done, both, Choices, no_more, case, default, body}
 use Rattle.c_tree.specs.Eval.{kind_of, points}
+pub use Rattle.c_tree.specs.Labels.{may_break, may_continue, in_switch, has_case, has_default, repeats_label}
 use Rattle.c_types.specs.declared.declarations.Declared.{Declared}
 use Rattle.c_types.specs.declared.declarations.Declared.TheVariants as declares
 use Rattle.c_types.specs.declared.fault.Rule.TheVariants.{Redeclared, Mismatch, Misplaced}
-use Rattle.c_types.specs.declared.local.Enclosing.{Enclosing}
-use Rattle.c_types.specs.declared.local.Enclosing.TheVariants as around
+use Rattle.c_tree.specs.declared.enclosing.Enclosing.{Enclosing}
+use Rattle.c_tree.specs.declared.enclosing.Enclosing.TheVariants as around
 use Rattle.c_types.specs.declared.meaning.Meaning.TheVariants as meanings
 use Rattle.c_types.specs.declared.meaning.ObjectType.{ObjectType}
 use Rattle.c_types.specs.declared.meaning.ObjectType.TheVariants.{Single, Array}
@@ -116,26 +117,6 @@ abbrev pub declarations : Opened → List DeclarationTree → Outcome Opened
 declarations o [] = Is o
 declarations o (d ∷ ds) = plain d.specs >>= λ b. block_items o b d.items >>= λ p. declarations p ds
 
--- what break and continue may leave
-abbrev pub may_break : Enclosing → Bool
-may_break around.Body = false
-may_break around.Switch = true
-may_break around.Loop = true
-may_break around.SwitchInLoop = true
-
-abbrev pub may_continue : Enclosing → Bool
-may_continue around.Body = false
-may_continue around.Switch = false
-may_continue around.Loop = true
-may_continue around.SwitchInLoop = true
-
--- within a switch
-abbrev pub in_switch : Enclosing → Enclosing
-in_switch around.Body = around.Switch
-in_switch around.Switch = around.Switch
-in_switch around.Loop = around.SwitchInLoop
-in_switch around.SwitchInLoop = around.SwitchInLoop
-
 -- statements with the objects of the function so far
 pub record Typed (A : Type 0) : Type 0 where
   pub tree : A
@@ -162,25 +143,6 @@ is_void_test (Some e) = is_void (kind_of e)
 abbrev pub returned : Kind → ℕ → Operand → Outcome Expr
 returned None at x = Broken Mismatch at
 returned (Some kind) at x = given kind at x
-
--- labels: a case that stands again further on, and a second default
-abbrev pub has_case : ℕ → Choices → Bool
-has_case w no_more = false
-has_case w (case v rest) = w == v || has_case w rest
-has_case w (default rest) = has_case w rest
-has_case w (body s rest) = has_case w rest
-
-abbrev pub has_default : Choices → Bool
-has_default no_more = false
-has_default (case v rest) = has_default rest
-has_default (default rest) = true
-has_default (body s rest) = has_default rest
-
-abbrev pub repeats_label : Choices → Bool
-repeats_label no_more = false
-repeats_label (case w rest) = has_case w rest || repeats_label rest
-repeats_label (default rest) = has_default rest || repeats_label rest
-repeats_label (body s rest) = repeats_label rest
 
 -- choices, and whether a label among them is a pointer
 pub record Labelled : Type 0 where

@@ -3,7 +3,7 @@ use Rattle.std.specs.Prelude.{List, [], ◌∷◌, map, Option, Some, None, Vec}
 use Rattle.c_tree.specs.declared.typed_statement.TypedStmt.{TypedStmt}
 use Rattle.std.specs.Global.{Global}
 use Rattle.c_tree.specs.declared.program.VarRef.{VarRef}
-use Rattle.c_tree.specs.TypedTree.{Stmt}
+use Rattle.c_tree.specs.TypedTree.{Stmt, ProgramTree}
 use Rattle.c_tree.specs.View.{stmt_of}
 use Rattle.c_types.specs.declared.functions.TypedFunction as functions
 use Rattle.c_types.specs.declared.initialisers.Entry as listed
@@ -17,9 +17,11 @@ use Rattle.c_types.specs.declared.units.Static as statics
 use Rattle.c_types.specs.declared.units.Starts as given
 use Rattle.c_types.specs.declared.units.Starts.TheVariants as first
 use Rattle.c_types.specs.declared.units.File as files
+use Rattle.c_types.specs.declared.units.Contents.{Contents}
 use Rattle.c_types.specs.OperandView.{operand_of}
 use Rattle.c_types.specs.Tables.{scope_of}
 use Rattle.c_types.specs.Declarations.{Entry}
+use Rattle.c_types.specs.Programs.{static_object, functions_with}
 use Rattle.c_types.specs.Units.{TypedFunction, StaticTree, Starts, NoStart, One, Braced, File}
 use Rattle.c_types.specs.Statements.{LocalTree, Initialiser, Absent, Value, Listed, Misbraced, Start, Opened}
 
@@ -84,3 +86,10 @@ file_of f = record {
 -- what the objects of each function stand for
 abbrev pub frame_lists : List (Vec VarRef Global) → List (List VarRef)
 frame_lists frames = map (λ v. v.items) frames
+
+-- the program of a file whose functions' objects stand for these
+abbrev pub made_of : List (Vec VarRef Global) → Contents → ProgramTree
+made_of frames contents = record {
+  statics = map static_object (map static_tree_of contents.statics.items);
+  functions = functions_with (frame_lists frames) (map typed_function_of contents.functions.items);
+}

@@ -6,9 +6,10 @@ use Rattle.c_types.specs.declared.fault.LimitName.{LimitName}
 use Rattle.c_types.specs.declared.fault.LimitName.TheVariants.{Functions, Parameters, Scalars, Cases}
 use Rattle.c_types.specs.declared.fault.TypeFault.{TypeFault}
 use Rattle.c_types.specs.declared.fault.TypeFault.TheVariants as faults
-use Rattle.c_types.specs.declared.uses.Use.{Use}
-use Rattle.c_types.specs.declared.uses.Use.TheVariants as kind
-use Rattle.c_types.specs.Uses.{statement_uses}
+use Rattle.c_tree.specs.declared.uses.Use.{Use}
+use Rattle.c_tree.specs.declared.uses.Use.TheVariants as kind
+use Rattle.c_tree.specs.Uses.{statement_uses}
+pub use Rattle.c_tree.specs.Uses.{case_counts}
 use Rattle.c_types.specs.Units.{TypedFunction}
 use Rattle.c_types.specs.Frames.{frame_scalars}
 use Rattle.c_types.specs.Programs.{frame}
@@ -39,12 +40,6 @@ missing_body fs = first_among (length fs) (map uses_of fs)
 -- what a limit counts: frame scalars with the temporaries of each function, and the cases of each switch
 abbrev pub frame_size : TypedFunction → ℕ
 frame_size f = frame_scalars (frame f) + statement_temporaries f.body
-
-abbrev pub case_counts : List Use → List ℕ
-case_counts [] = []
-case_counts (kind.Cases n ∷ us) = n ∷ case_counts us
-case_counts (kind.Call f at ∷ us) = case_counts us
-case_counts (kind.Address r ∷ us) = case_counts us
 
 abbrev pub all_cases : List (List Use) → List ℕ
 all_cases [] = []

@@ -2,7 +2,7 @@
 ghost use Rattle.std.specs.Prelude.{◌≡◌, length, map, vec_items, IfOk, IfSome};
 ghost use Rattle.c_types.specs.Calls.{Falls, call_below, calls_below, all_below};
 
-use crate::uses::Use;
+use c_tree::Use;
 use std::alloc::Global;
 use word_base::NoMemory;
 

@@ -7,8 +7,7 @@ ghost use Rattle.c_types.specs.View.{local_tree_of};
 
 use crate::local::Local;
 use crate::meaning::ObjectType;
-use crate::uses::Use;
-use c_tree::VarRef;
+use c_tree::{Use, VarRef};
 use std::alloc::Global;
 use word_base::NoMemory;
 

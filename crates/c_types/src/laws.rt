@@ -1,7 +1,11 @@
 //! Laws of typed programs.
-ghost use Rattle.std.specs.Prelude.{◌≡◌};
+ghost use Rattle.std.specs.Prelude.{◌≡◌, All};
+ghost use Rattle.word_base.specs.Name.{IsName};
+ghost use Rattle.c_tree.specs.Counts.{IsWithinLimits};
+ghost use Rattle.c_tree.specs.FunctionNames.{function_names};
 ghost use Rattle.c_tree.specs.SyntaxTree.{UnitTree};
 ghost use Rattle.c_tree.specs.TypedTree.{ProgramTree};
+ghost use Rattle.c_tree.specs.WellFormedProgram.{IsProgram};
 ghost use Rattle.c_types.specs.Checked.{IsTyped};
 ghost use Rattle.c_types.specs.Faults.{Says};
 ghost use Rattle.c_types.specs.declared.fault.TypeFault.{TypeFault};
@@ -20,4 +24,9 @@ pub fn typed_is_accepted()
 /// Of a source at most one fault is said, but for want of memory.
 pub fn one_fault()
     ensures { (unit : UnitTree) (a b : TypeFault) → Says unit a → Says unit b → ¬ (a ≡ faults.NoMemory) → ¬ (b ≡ faults.NoMemory) → a ≡ b }
+{}
+
+/// The typed program of a source is well formed, where its functions have names and its tree is within the limits of one.
+pub fn typed_is_well_formed()
+    ensures { (unit : UnitTree) (program : ProgramTree) → IsTyped unit program → All IsName (function_names unit) → IsWithinLimits unit → IsProgram program }
 {}

@@ -32,5 +32,5 @@ mod whole;
 mod writes;
 
 pub use fault::{LimitName, TypeFault};
-pub use laws::{one_fault, one_typed_program, typed_is_accepted};
+pub use laws::{one_fault, one_typed_program, typed_is_accepted, typed_is_well_formed};
 pub use program::check;

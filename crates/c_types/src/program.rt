@@ -1,11 +1,15 @@
 //! The check of a whole source, and its typed program.
-ghost use Rattle.std.specs.Prelude.{◌≡◌, map, IfOk, IfErr};
-ghost use Rattle.c_tree.specs.View.{program_of, function_of as function_view, object_of};
+ghost use Rattle.std.specs.Prelude.{◌≡◌, map, All, IfOk, IfErr};
+ghost use Rattle.word_base.specs.Name.{IsName};
+ghost use Rattle.c_tree.specs.FunctionNames.{function_names};
+ghost use Rattle.c_tree.specs.ProgramView.{program_of};
+ghost use Rattle.c_tree.specs.View.{function_of as function_view, object_of};
 ghost use Rattle.c_tree.specs.SyntaxView.{unit_of};
+ghost use Rattle.c_tree.specs.WellFormedProgram.{IsProgram};
 ghost use Rattle.c_types.specs.Checked.{IsTyped};
 ghost use Rattle.c_types.specs.Faults.{Says};
 ghost use Rattle.c_types.specs.Programs.{functions_with, static_object};
-ghost use Rattle.c_types.specs.View.{typed_function_of, static_tree_of, frame_lists};
+ghost use Rattle.c_types.specs.View.{typed_function_of, static_tree_of, frame_lists, made_of};
 
 use crate::fault::TypeFault;
 use crate::functions::{TypedFunction, function_of};
@@ -17,8 +21,10 @@ use std::alloc::Global;
 use word_base::{Items, NoMemory};
 
 /// The typed program of a tree, or the first fault: that of the first node in walking order that breaks a rule of ISO 9899:1990
-/// 6.1 to 6.7, as docs/LANGUAGE.md, "Types", has them, and then what is wanted of the whole source.
+/// 6.1 to 6.7, as docs/LANGUAGE.md, "Types", has them, and then what is wanted of the whole source. The names of functions are names
+/// as tokens have them.
 pub fn check(alloc: Global, unit: &Unit) -> Result<Program, TypeFault>
+    requires names { All IsName (function_names (unit_of unit.now)) }
     ensures typed { IfOk result (λ p. IsTyped (unit_of unit.now) (program_of p)) }
     ensures refused { IfErr result (Says (unit_of unit.now)) }
 {
@@ -29,7 +35,8 @@ pub fn check(alloc: Global, unit: &Unit) -> Result<Program, TypeFault>
 
 // The program of a source whose functions' objects are known.
 fn program(alloc: Global, contents: Contents, frames: Vec<Vec<VarRef>>) -> Result<Program, NoMemory>
-    ensures { IfOk result (λ p. program_of p ≡ record { statics = map static_object (map static_tree_of contents.statics.items); functions = functions_with (frame_lists frames.items) (map typed_function_of contents.functions.items) }) }
+    requires { IsProgram (made_of frames.items contents) }
+    ensures { IfOk result (λ p. program_of p ≡ made_of frames.items contents) }
 {
     Ok(Program {
         statics: Items::new(objects(alloc, contents.statics)?),

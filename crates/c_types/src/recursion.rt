@@ -8,7 +8,7 @@ ghost use Rattle.c_types.specs.Trails.{Reached, IsLinked, HasSearched, trail_of,
 ghost use Rattle.c_types.specs.View.{typed_function_of};
 
 use crate::functions::TypedFunction;
-use crate::uses::Use;
+use c_tree::Use;
 use std::alloc::Global;
 use word_base::{Items, NoMemory, Text};
 

@@ -7,7 +7,7 @@ ghost use Rattle.c_tree.specs.TypedTree.{Block, done};
 ghost use Rattle.c_tree.specs.View.{expr_of, option_expr_of, statement_list, stmt_of};
 ghost use Rattle.c_types.specs.declared.fault.Refusal.TheVariants as refusals;
 ghost use Rattle.c_types.specs.declared.fault.Rule.TheVariants as rule;
-ghost use Rattle.c_types.specs.declared.local.Enclosing.TheVariants as enclosings;
+ghost use Rattle.c_tree.specs.declared.enclosing.Enclosing.TheVariants as enclosings;
 ghost use Rattle.c_types.specs.Answers.{Refuses};
 ghost use Rattle.c_types.specs.Bodies.{behind, behind_choices, block_in, choices_in, else_in, labelled_of, parts_of, statement_in, statements_in, test_in};
 ghost use Rattle.c_types.specs.Kinds.{is_void};
@@ -23,10 +23,10 @@ use crate::conversions::given;
 use crate::expressions::word_at;
 use crate::fault::{Refusal, Rule, mismatch};
 use crate::labels::{Labelled, switched};
-use crate::local::Enclosing;
 use crate::operands::Operand;
 use c_tree::{
-    Choice, Decl, Expr, ScalarType, Stmt, StmtKind, SwitchPart, TypedExpr, TypedStmt, points,
+    Choice, Decl, Enclosing, Expr, ScalarType, Stmt, StmtKind, SwitchPart, TypedExpr, TypedStmt,
+    points,
 };
 use std::alloc::Global;
 

@@ -2,22 +2,11 @@
 ghost use Rattle.std.specs.Prelude.{◌≡◌, ◌≤◌, ◌++◌, ◌∷◌, [], IfOk};
 ghost use Rattle.c_tree.specs.View.{expr_of, lvalue_of, argument_list, option_expr_of, stmt_of, statement_list, choice_list, else_of, choice_before};
 ghost use Rattle.c_tree.specs.TypedTree.{no_more};
-ghost use Rattle.c_types.specs.Uses as uses;
+ghost use Rattle.c_tree.specs.Uses as uses;
 
-use c_tree::{Choice, ExprForm, Target, TargetForm, TypedExpr, TypedStmt, VarRef};
+use c_tree::{Choice, ExprForm, Target, TargetForm, TypedExpr, TypedStmt, Use};
 use std::alloc::Global;
 use word_base::NoMemory;
-
-/// A use.
-#[derive(Clone, Copy, Debug, PartialEq, Eq)]
-pub(crate) enum Use {
-    /// The address of what a name stands for is taken.
-    Address(VarRef),
-    /// A function is called, at a place in bytes.
-    Call { function: u16, at: u32 },
-    /// A switch has so many cases.
-    Cases(usize),
-}
 
 /// The uses of a function, in order.
 #[derive(Drop)]

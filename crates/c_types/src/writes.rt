@@ -1,6 +1,7 @@
 //! Lvalues, and what is read and written through them: ISO 9899:1990 6.3.2.1, 6.3.2.4, 6.3.3.1, 6.3.3.2 and 6.3.16.
 ghost use Rattle.std.specs.Prelude.{◌≡◌, Some, None, IfOk, IfErr};
 ghost use Rattle.c_tree.specs.View.{expr_of, lvalue_of};
+ghost use Rattle.c_tree.specs.WellFormed as well_formed;
 ghost use Rattle.c_types.specs.Outcome.{Is};
 ghost use Rattle.c_types.specs.Answers.{Refuses};
 ghost use Rattle.c_types.specs.Operands as rules;
@@ -70,12 +71,21 @@ pub(crate) fn assigned(
     })
 }
 
-// Whether `op=` takes operands of these classes: 6.3.16.2.
+fn is_comparison(op: BinaryOp) -> bool
+    ensures { result ≡ well_formed.is_comparison op }
+{
+    matches!(
+        op,
+        BinaryOp::Eq | BinaryOp::Ne | BinaryOp::Lt | BinaryOp::Gt | BinaryOp::Le | BinaryOp::Ge
+    )
+}
+
+// Whether `op=` takes operands of these classes: 6.3.16.2. No comparison has this form.
 fn takes(op: BinaryOp, to: Class, value: Class) -> bool
     ensures { result ≡ rules.takes op to value }
 {
     match (to, value) {
-        (Class::Integer, Class::Integer) => true,
+        (Class::Integer, Class::Integer) => !is_comparison(op),
         (Class::Pointer, Class::Integer) => matches!(op, BinaryOp::Add | BinaryOp::Sub),
         _ => false,
     }

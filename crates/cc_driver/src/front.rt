@@ -1,6 +1,6 @@
 //! The typed program of a source.
 ghost use Rattle.std.specs.Prelude.{◌<◌, ◌^◌, length, IfOk, IfErr};
-ghost use Rattle.c_tree.specs.View.{program_of};
+ghost use Rattle.c_tree.specs.ProgramView.{program_of};
 ghost use Rattle.cc_driver.specs.SourceFaults.{HasProgram, FrontRefused};
 
 use crate::fault::FrontFault;

@@ -2,10 +2,8 @@
 //!
 //! A node is its form, its type and its place, and then its parts; a place counts the bytes behind what stands before each row.
 //! `s`, `l`, `g` and `f` are the numbers of scalars, local objects, static objects and functions. A block names first what it declares.
+use crate::front::typed_program;
 use crate::typed_text::program_text;
-use c_lexer::lex;
-use c_parser::parse;
-use c_types::check;
 use std::process::Abort;
 use std::test::Fail;
 
@@ -368,16 +366,13 @@ const SOURCES: [(&str, &str); 21] = [
     ),
 ];
 
-// The program of a source as a line, or why it has none, with places from `base` on.
+// The program of a source as a line, or that it has none, with places from `base` on.
 fn shown<R: AllocGlobal + Abort>(rt: &R, source: &str, base: u32) -> Result<String, Fail> {
     let alloc = rt.alloc();
     assert!(rt; source.len() < 4_294_967_296);
-    let tokens = lex(alloc, source.as_bytes())?;
-    assert!(rt; tokens.len() <= 200_000);
-    let unit = parse(alloc, &tokens)?;
-    match check(alloc, &unit) {
+    match typed_program(alloc, source.as_bytes()) {
         Ok(program) => program_text(alloc, &program, base),
-        Err(fault) => Ok(format!(in alloc; "{fault:?}")?),
+        Err(_) => Ok(format!(in alloc; "no program")?),
     }
 }
 

@@ -1,5 +1,6 @@
 use Rattle.std.proofs.Common.{[], Some, length}
-use Rattle.c_tree.specs.View.{function_of, program_of}
+use Rattle.c_tree.specs.ProgramView.{program_of}
+use Rattle.c_tree.specs.View.{function_of}
 use Rattle.c_tree.specs.SourceRun.{call_function, call_within}
 use Rattle.c_means.specs.Runs.{main_run}
 use Rattle.c_means.specs.Worlds.{world_of}

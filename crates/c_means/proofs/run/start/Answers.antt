@@ -1,6 +1,7 @@
 use Rattle.std.proofs.Common.{List, map, ap, ◌∙◌}
 use Rattle.word_base.specs.Ports.{input_of}
-use Rattle.c_tree.specs.View.{object_of, program_of}
+use Rattle.c_tree.specs.ProgramView.{program_of}
+use Rattle.c_tree.specs.View.{object_of}
 use Rattle.c_tree.specs.declared.program.Object.{Object}
 use Rattle.c_means.specs.Inputs.{input_left}
 use Rattle.c_means.specs.Runs.{statics_of}

@@ -1,8 +1,14 @@
 use Rattle.c_tree.specs.SyntaxView.{unit_of}
-use Rattle.c_tree.specs.View.{program_of}
+use Rattle.c_tree.specs.ProgramView.{program_of}
 use Rattle.c_types.specs.Faults.{Says}
 use Rattle.c_types.proofs.ProgramLemmas.{says_source, typed_source, fault_says}
+use Rattle.c_types.proofs.Formed.FormedSource.{made_is_formed}
 use Rattle.c_types.proofs.program.check.Goals as goal
+
+pub program-requires : goal.program-requires
+program-requires c =
+    made_is_formed c.args.unit.now c.in_ok-file.file c.in_ok-frames.frames.items c.externals.ensures.externals c.in_ok-file.ensures.typed c.deref.ensures.value
+    c.in_ok-frames.ensures.whole c.in_ok-frames.ensures.frames c.contents.ensures c.requires.names c.externals.ensures.limits
 
 pub returns-in_err-frames-clause-refused : goal.returns-in_err-frames-clause-refused
 returns-in_err-frames-clause-refused c =

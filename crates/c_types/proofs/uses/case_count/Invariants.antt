@@ -1,6 +1,6 @@
 use Rattle.std.proofs.Common.{◌≡◌, ◌≤◌, take}
 use Rattle.c_tree.specs.View.{choice_list}
-use Rattle.c_types.specs.Uses as uses
+use Rattle.c_tree.specs.Uses as uses
 use Rattle.c_types.proofs.uses.case_count.Given as goal
 
 abbrev pub invariant-loop-choice : goal.invariant-loop-choice

@@ -1,6 +1,6 @@
 use Rattle.std.proofs.Common.{◌≡◌, map, take, vec_items}
 use Rattle.c_tree.specs.View.{stmt_of}
-use Rattle.c_types.specs.Uses.{statement_uses}
+use Rattle.c_tree.specs.Uses.{statement_uses}
 use Rattle.c_types.proofs.whole.all_uses.Given as goal
 
 abbrev pub invariant-loop-f : goal.invariant-loop-f

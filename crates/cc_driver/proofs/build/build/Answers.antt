@@ -1,7 +1,7 @@
 use Rattle.std.proofs.Common.{◌∙◌, ℕ, List, Some, ap, sym, subst, arith}
 use Rattle.c_tree.specs.SourceRun.{source_run}
 use Rattle.c_tree.specs.TypedTree.{ProgramTree}
-use Rattle.c_tree.specs.View.{program_of}
+use Rattle.c_tree.specs.ProgramView.{program_of}
 use Rattle.c25_isa.specs.Agrees.{Agrees}
 use Rattle.c25_image.specs.ImageText.{image_text}
 use Rattle.c25_image.specs.ImageFaults.{IsWhole}

@@ -1,6 +1,6 @@
 use Rattle.std.proofs.Common.{◌∙◌, sym, ap}
 use Rattle.word_base.specs.Ports.{input_of}
-use Rattle.c_tree.specs.View.{program_of}
+use Rattle.c_tree.specs.ProgramView.{program_of}
 use Rattle.c_tree.specs.SourceRun.{source_run}
 use Rattle.cc_driver.proofs.MeansLemmas.{refusal_is_memory}
 use Rattle.cc_driver.proofs.SourceFaultLemmas.{same_program}

@@ -2,7 +2,7 @@ use Rattle.std.proofs.Common.{◌+◌, ◌||◌, ◌∙◌, false, ap, sym, refl
 use Rattle.c_tree.specs.SyntaxView.{body_of, declaration_of, expression_of, statement_of}
 use Rattle.c_tree.specs.View.{expr_of, stmt_of}
 use Rattle.std.specs.Prelude.{map}
-use Rattle.c_types.specs.declared.local.Enclosing.TheVariants as around
+use Rattle.c_tree.specs.declared.enclosing.Enclosing.TheVariants as around
 use Rattle.c_types.specs.Answers.{Refuses}
 use Rattle.c_types.specs.Bodies.{behind, behind_choices, choices_in, labelled_of, parts_of, statements_in}
 use Rattle.c_types.proofs.StatementsSoFar.{turn, ended, refused_here, block_typed, block_is_typed, block_is_refused, do_rest, else_rest, same_typed, same_refused}

@@ -1,6 +1,6 @@
 use Rattle.std.proofs.Common.{◌++◌, ap, ◌∙◌}
 use Rattle.c_tree.specs.View.{argument_list}
-use Rattle.c_types.specs.Uses.{list_uses}
+use Rattle.c_tree.specs.Uses.{list_uses}
 use Rattle.std.proofs.lemmas.Result.{IfOk-equal}
 use Rattle.c_types.proofs.UsesLemmas.{one_further, with_call}
 use Rattle.c_types.proofs.uses.Uses.+expressions.Goals as goal

@@ -1,6 +1,6 @@
 use Rattle.std.proofs.Common.{◌≡◌, ◌++◌, take}
 use Rattle.c_tree.specs.View.{argument_list}
-use Rattle.c_types.specs.Uses as uses
+use Rattle.c_tree.specs.Uses as uses
 use Rattle.c_types.proofs.uses.Uses.+expressions.Given as goal
 
 abbrev pub invariant-expressions-loop-e : goal.invariant-expressions-loop-e

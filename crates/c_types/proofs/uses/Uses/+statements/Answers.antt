@@ -1,6 +1,6 @@
 use Rattle.std.proofs.Common.{ap, sym, ◌∙◌}
 use Rattle.c_tree.specs.View.{choice_list}
-use Rattle.c_types.specs.Uses.{case_count}
+use Rattle.c_tree.specs.Uses.{case_count}
 use Rattle.std.proofs.lemmas.Result.{IfOk-equal}
 use Rattle.c_types.proofs.UsesLemmas.{one_statement_further, choice_further, with_block, with_switch}
 use Rattle.c_types.proofs.uses.Uses.+statements.Goals as goal

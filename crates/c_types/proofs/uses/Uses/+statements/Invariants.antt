@@ -1,6 +1,6 @@
 use Rattle.std.proofs.Common.{◌≡◌, ◌++◌, take}
 use Rattle.c_tree.specs.View.{statement_list, choice_list}
-use Rattle.c_types.specs.Uses as uses
+use Rattle.c_tree.specs.Uses as uses
 use Rattle.c_types.proofs.uses.Uses.+statements.Given as goal
 
 abbrev pub invariant-statements-loop-s : goal.invariant-statements-loop-s

@@ -3,8 +3,8 @@
 use Rattle.std.specs.Prelude.{ℕ, suc, List, [], ◌∷◌, ◌++◌, Option, Some, None}
 use Rattle.c_tree.specs.TypedTree as tree
 use Rattle.c_tree.specs.TypedTree.{Expr, Node, Lvalue, Named, At, Form, Exprs, Stmt, Stmts, Choices}
-use Rattle.c_types.specs.declared.uses.Use.{Use}
-use Rattle.c_types.specs.declared.uses.Use.TheVariants.{Address, Call, Cases}
+use Rattle.c_tree.specs.declared.uses.Use.{Use}
+use Rattle.c_tree.specs.declared.uses.Use.TheVariants.{Address, Call, Cases}
 
 abbrev mutual
   pub uses : Expr → List Use
@@ -73,3 +73,10 @@ abbrev mutual
   choices_uses (tree.case w rest) = choices_uses rest
   choices_uses (tree.default rest) = choices_uses rest
   choices_uses (tree.body s rest) = statement_uses s ++ choices_uses rest
+
+-- the numbers of cases of the switches
+abbrev pub case_counts : List Use → List ℕ
+case_counts [] = []
+case_counts (Cases n ∷ us) = n ∷ case_counts us
+case_counts (Call f at ∷ us) = case_counts us
+case_counts (Address r ∷ us) = case_counts us

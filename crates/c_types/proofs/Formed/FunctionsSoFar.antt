@@ -1,0 +1,124 @@
+-- A function with its body keeps what is so of a file.
+use Rattle.std.proofs.Common.{◌≡◌, ◌≤◌, ◌||◌, true, false, not, List, ◌∷◌, map, take, length, slice_get, Some, sym, refl, ap, ◌∙◌, subst, arith}
+use Rattle.std.specs.Prelude.{All}
+use Rattle.std.proofs.lemmas.Bool.{or_parts, not-false}
+use Rattle.std.proofs.lemmas.List.Elements.{All-append, All-push}
+use Rattle.c_tree.specs.declared.program.Base.{Base}
+use Rattle.c_tree.specs.declared.program.ScalarType.{ScalarType}
+use Rattle.c_tree.specs.declared.program.VarRef.TheVariants as refs
+use Rattle.c_tree.specs.SyntaxTree.{FunctionSyntax, Defined, UnitTree}
+use Rattle.c_tree.specs.TypedTree.{Stmt}
+use Rattle.c_types.specs.declared.declarations.Declared.TheVariants as declares
+use Rattle.c_types.specs.declared.fault.Rule.TheVariants.{Redeclared}
+use Rattle.c_types.specs.declared.local.Naming.TheVariants.{Needed}
+use Rattle.c_types.specs.declared.meaning.Meaning.TheVariants as meanings
+use Rattle.c_types.specs.declared.meaning.FunctionType.{FunctionType}
+use Rattle.c_types.specs.Outcome.{Outcome, Is, breaks, ◌>>=◌}
+use Rattle.c_types.specs.Declarations.{parameters}
+use Rattle.c_types.specs.Kinds.{starred}
+use Rattle.c_types.specs.Programs.{is_single}
+use Rattle.c_types.specs.Scopes.{Scope, open_scope}
+use Rattle.c_types.specs.Statements.{LocalTree, Typed, typed_body}
+use Rattle.c_types.specs.Typing.{spelled}
+use Rattle.c_types.specs.Units.{TypedFunction, File, may_declare, with_parameters, parameter_locals}
+use Rattle.c_types.specs.Units.{with_function, with_body, is_defined, behind_name, function_as, file_function}
+use Rattle.c_tree.specs.Kinds.{IsType, IsKind}
+use Rattle.c_tree.specs.WellFormed.{Names}
+use Rattle.c_types.proofs.Formed.OperandKinds.{starred_is_kind}
+use Rattle.c_types.proofs.Formed.Context.{Gives, is, behind, unless, Fits, Holds, IsLocal, shape_of}
+use Rattle.c_types.proofs.Formed.FileContext.{local_kind}
+use Rattle.c_types.proofs.Formed.GivesLemmas.{anything}
+use Rattle.c_types.proofs.Formed.StatementTypes.{IsBody, well_formed_body}
+use Rattle.c_types.proofs.Formed.FileSoFar.{IsFunctionIn, IsFileSoFar}
+use Rattle.c_types.proofs.Formed.BodyNumbers.{new_name, bodies_pushed, names_still_differ}
+use Rattle.c_types.proofs.Formed.DeclaredNames.{function_declared}
+use Rattle.c_types.proofs.Formed.ParametersAsLocals.{typed_parameters, kinds_of_locals, first_locals, locals_within, single_locals, right_locals, AreThere, fits_parameters}
+use Rattle.c_types.proofs.PlaceLemmas.{place_kept}
+
+module _ (f : FunctionSyntax) (type : FunctionType) (result : IsKind type.result) (types : All IsType type.parameters)
+    (many : length type.parameters ≡ length f.parameters.list) where
+  abbrev of_parameters : List LocalTree
+  of_parameters = parameter_locals f.parameters.list type.parameters
+
+  abbrev inside : Scope → Scope
+  inside t = with_parameters (open_scope t) 0 f.parameters.list type.parameters
+
+  abbrev made : Typed Stmt → TypedFunction
+  made r = record { name = f.name; result = type.result; parameters = length type.parameters; locals = r.locals; body = r.tree }
+
+  module _ (t : Scope) (named : t.meaning f.name ≡ Some (meanings.Function type)) (r : Typed Stmt) (right : IsBody type.result (inside t) of_parameters r) where
+    first_are : take (length type.parameters) r.locals ≡ of_parameters
+    first_are = ap (take (length type.parameters)) right.grown ∙ first_locals f.parameters.list type.parameters right.others many
+
+    parameters_there : (names : Names) → Holds r.locals names → AreThere names 0 of_parameters
+    parameters_there names holds k l found =
+        let there : slice_get r.locals k ≡ Some l = ap (λ ls. slice_get ls k) right.grown ∙ place_kept of_parameters right.others k l found in
+        subst (λ n. names.object (refs.Local n) ≡ Some (shape_of l.object_type)) (omega arith) (holds.object k l there)
+
+    fits_inside : (names : Names) → Fits names t → Holds r.locals names → Fits names (inside t)
+    fits_inside names fits holds = fits_parameters names (open_scope t) 0 f.parameters.list type.parameters fits types (parameters_there names holds)
+
+    locals_right : (names : Names) → Fits names t → Holds r.locals names → All (IsLocal names) r.locals
+    locals_right names fits holds =
+        subst (All (IsLocal names)) (sym right.grown)
+        (All-append (IsLocal names) of_parameters right.others (right_locals names f.parameters.list type.parameters types)
+        (right.locals names (fits_inside names fits holds) holds))
+
+    function_made : IsFunctionIn t (made r)
+    function_made = record {
+      type = type;
+      named = named;
+      result = refl;
+      kind = result;
+      parameters = ap (map local_kind) first_are ∙ kinds_of_locals f.parameters.list type.parameters many;
+      within = subst (λ ls. length type.parameters ≤ length ls) (sym right.grown) (locals_within f.parameters.list type.parameters right.others many);
+      single = subst (All (λ (l : LocalTree). is_single l.object_type ≡ true)) (sym first_are) (single_locals f.parameters.list type.parameters);
+      locals = locals_right;
+      tree = λ names fits holds. right.tree names (fits_inside names fits holds) holds;
+    }
+
+  module _ (file : File) (rest : UnitTree) (known : IsFileSoFar (Defined f ∷ rest) file) where
+    abbrev after : File
+    after = behind_name file f.name type
+
+    -- a file that has the function
+    record HasBody (g : File) : Type 0 where
+      body : Typed Stmt
+      pushed : with_function after f.name type.result type.parameters body ≡ g
+      right : IsBody type.result (inside after.scope) of_parameters body
+
+    body_made : Gives HasBody (with_body after f type.result type.parameters)
+    body_made =
+        behind (typed_body type.result (inside after.scope) of_parameters f.declarations f.statements) (λ r. Is (with_function after f.name type.result type.parameters r))
+        (well_formed_body type.result (inside after.scope) of_parameters f.declarations f.statements result)
+        (λ r right. is (with_function after f.name type.result type.parameters r) (record { body = r; pushed = refl; right = right }))
+
+    module _ (may : may_declare file.scope f.name (declares.Function type) ≡ true) (new : is_defined file f.name ≡ false) where
+      body_pushed : (r : Typed Stmt) → IsBody type.result (inside after.scope) of_parameters r → IsFileSoFar rest (with_function after f.name type.result type.parameters r)
+      body_pushed r right =
+          let declared = function_declared (Defined f ∷ rest) file known f.name type result types 0 may in
+          let unlike = new_name f.name file.functions (Defined f ∷ rest) file.scope.bodies known.bodies new in
+          record {
+            names = declared.0.names;
+            statics = declared.0.statics;
+            functions = All-push (IsFunctionIn after.scope) file.functions (made r) declared.0.functions (function_made after.scope declared.1 r right);
+            bodies = declared.0.bodies ∙ bodies_pushed f file.functions (made r) rest refl unlike;
+            names_differ = names_still_differ file.functions (made r) unlike known.names_differ;
+          }
+
+    typed_function_as : Gives (IsFileSoFar rest) (function_as file f type)
+    typed_function_as =
+        let taken = not (may_declare file.scope f.name (declares.Function type)) in
+        behind (with_body after f type.result type.parameters) (λ g. breaks (taken || is_defined file f.name) Redeclared f.at (Is g)) body_made
+        (λ g made. unless (taken || is_defined file f.name) Redeclared f.at (Is g)
+        (λ kept. is g (let parts = or_parts taken (is_defined file f.name) kept in
+        subst (IsFileSoFar rest) made.pushed (body_pushed (not-false (may_declare file.scope f.name (declares.Function type)) parts.0) parts.1 made.body made.right))))
+
+pub typed_file_function : (f : FunctionSyntax) (file : File) (rest : UnitTree) → IsFileSoFar (Defined f ∷ rest) file → Gives (IsFileSoFar rest) (file_function file f)
+typed_file_function f file rest known =
+    let of_base : Base → List ScalarType → FunctionType = λ b kinds. record { result = starred b f.stars; parameters = kinds } in
+    let next : Base → Outcome File = λ b. parameters (open_scope file.scope) Needed f.parameters.list >>= λ kinds. function_as file f (of_base b kinds) in
+    behind (spelled f.specs) next (anything (spelled f.specs))
+    (λ b spelt. behind (parameters (open_scope file.scope) Needed f.parameters.list) (λ kinds. function_as file f (of_base b kinds))
+    (typed_parameters (open_scope file.scope) Needed f.parameters.list)
+    (λ kinds types. typed_function_as f (of_base b kinds) (starred_is_kind b f.stars) types.0 types.1 file rest known))
