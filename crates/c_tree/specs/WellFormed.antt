@@ -1,6 +1,6 @@
 -- Well-formed programs: types agree, references are in range, jumps stand where there is something to leave, and labels differ.
 -- The rules are those that the conversions of ISO 9899:1990 6.2 leave of 6.3 and 6.6: here they all stand in the tree.
-use Rattle.std.specs.Prelude.{◌≡◌, ◌<◌, ◌≤◌, ◌⊎◌, ⊤, ℕ, Bool, true, false, List, [], ◌∷◌, All, Option, Some, None}
+use Rattle.std.specs.Prelude.{◌≡◌, ◌≢◌, ◌<◌, ◌≤◌, ◌⊎◌, ◌==◌, ◌||◌, ⊤, ℕ, Bool, true, false, if◌then◌else◌, List, [], ◌∷◌, All, AllPairs, Option, Some, None}
 use Rattle.c_tree.specs.declared.program.ScalarType.{ScalarType}
 use Rattle.c_tree.specs.declared.program.VarRef.{VarRef}
 use Rattle.c_tree.specs.declared.program.VarRef.TheVariants.{Scalar, Local, Static}
@@ -165,42 +165,77 @@ module _ (names : Names) where
   IsOptionalTest None = ⊤
   IsOptionalTest (Some e) = IsTest e
 
-  -- a name that a block declares: an object of the function
-  abbrev pub IsDeclared : VarRef → Type 0
-  IsDeclared (Scalar n) = IsThere (names.object (Scalar n))
-  IsDeclared (Local n) = IsThere (names.object (Local n))
-  IsDeclared (Static n) = ⊥
-
   -- the value of a return from a function of this type
   abbrev pub IsReturned : Kind → Option Expr → Type 0
   IsReturned result None = result ≡ None
   IsReturned result (Some e) = IsTest e × (kind_of e ≡ result)
 
-  module _ (result : Kind) where
-    abbrev mutual
-      -- a statement of a function of this type, in what encloses it
-      pub IsWellFormed : Enclosing → Stmt → Type 0
-      IsWellFormed c (tree.Block declared ss) = All IsDeclared declared × AreWellFormed c ss
-      IsWellFormed c (tree.Fill n) = names.is_filled n ≡ true
-      IsWellFormed c (tree.Do_expr e) = IsWellTyped e
-      IsWellFormed c (tree.If e a b) = IsTest e × IsWellFormed c a × IsWellFormed c b
-      IsWellFormed c (tree.While e a) = IsTest e × IsWellFormed around.Loop a
-      IsWellFormed c (tree.Do_while a e) = IsWellFormed around.Loop a × IsTest e
-      IsWellFormed c (tree.For x y z a) = IsOptional x × IsOptionalTest y × IsOptional z × IsWellFormed around.Loop a
-      IsWellFormed c (tree.Switch e cs) = IsWellTyped e × IsInteger (kind_of e) × (repeats_label cs ≡ false) × HasChoices (in_switch c) cs
-      IsWellFormed c tree.Break = may_break c ≡ true
-      IsWellFormed c tree.Continue = may_continue c ≡ true
-      IsWellFormed c (tree.Return e) = IsReturned result e
+-- two names that are one, and a name that is among others
+abbrev pub same_reference : VarRef → VarRef → Bool
+same_reference (Scalar m) (Scalar n) = m == n
+same_reference (Local m) (Local n) = m == n
+same_reference (Static m) (Static n) = m == n
+same_reference v w = false
 
-      pub AreWellFormed : Enclosing → Stmts → Type 0
-      AreWellFormed c tree.done = ⊤
-      AreWellFormed c (tree.both s rest) = IsWellFormed c s × AreWellFormed c rest
+abbrev pub is_among : VarRef → List VarRef → Bool
+is_among v [] = false
+is_among v (w ∷ ws) = same_reference w v || is_among v ws
 
-      pub HasChoices : Enclosing → Choices → Type 0
-      HasChoices c tree.no_more = ⊤
-      HasChoices c (tree.case w rest) = HasChoices c rest
-      HasChoices c (tree.default rest) = HasChoices c rest
-      HasChoices c (tree.body s rest) = IsWellFormed c s × HasChoices c rest
+-- the names within a block that declares these, where the objects of the function are known: a name stands for its object within
+-- the block that declares it alone
+abbrev pub opened : (VarRef → Option Shape) → List VarRef → Names → Names
+opened objects declared names = record {
+  object = λ v. if is_among v declared then objects v else names.object v;
+  function = names.function;
+  is_filled = names.is_filled;
+}
+
+-- a block may declare an object of the function that no block around it declares
+abbrev pub IsAutomatic : VarRef → Type 0
+IsAutomatic (Scalar n) = ⊤
+IsAutomatic (Local n) = ⊤
+IsAutomatic (Static n) = ⊥
+
+pub record IsNew (objects : VarRef → Option Shape) (names : Names) (v : VarRef) : Type 0 where
+  pub automatic : IsAutomatic v
+  pub there : IsThere (objects v)
+  pub new : names.object v ≡ None
+
+pub record AreNew (objects : VarRef → Option Shape) (names : Names) (declared : List VarRef) : Type 0 where
+  pub differ : AllPairs (λ a b. a ≢ b) declared
+  pub each : All (IsNew objects names) declared
+
+-- an array that lives may be filled with its list
+pub record IsFilled (names : Names) (n : ℕ) : Type 0 where
+  pub lives : IsThere (names.object (Local n))
+  pub filled : names.is_filled n ≡ true
+
+-- the statements of a function with these objects and a result of this type
+module _ (objects : VarRef → Option Shape) (result : Kind) where
+  abbrev mutual
+    -- a statement where these names are known, in what encloses it
+    pub IsWellFormed : Names → Enclosing → Stmt → Type 0
+    IsWellFormed names c (tree.Block declared ss) = AreNew objects names declared × AreWellFormed (opened objects declared names) c ss
+    IsWellFormed names c (tree.Fill n) = IsFilled names n
+    IsWellFormed names c (tree.Do_expr e) = IsWellTyped names e
+    IsWellFormed names c (tree.If e a b) = IsTest names e × IsWellFormed names c a × IsWellFormed names c b
+    IsWellFormed names c (tree.While e a) = IsTest names e × IsWellFormed names around.Loop a
+    IsWellFormed names c (tree.Do_while a e) = IsWellFormed names around.Loop a × IsTest names e
+    IsWellFormed names c (tree.For x y z a) = IsOptional names x × IsOptionalTest names y × IsOptional names z × IsWellFormed names around.Loop a
+    IsWellFormed names c (tree.Switch e cs) = IsWellTyped names e × IsInteger (kind_of e) × (repeats_label cs ≡ false) × HasChoices names (in_switch c) cs
+    IsWellFormed names c tree.Break = may_break c ≡ true
+    IsWellFormed names c tree.Continue = may_continue c ≡ true
+    IsWellFormed names c (tree.Return e) = IsReturned names result e
+
+    pub AreWellFormed : Names → Enclosing → Stmts → Type 0
+    AreWellFormed names c tree.done = ⊤
+    AreWellFormed names c (tree.both s rest) = IsWellFormed names c s × AreWellFormed names c rest
+
+    pub HasChoices : Names → Enclosing → Choices → Type 0
+    HasChoices names c tree.no_more = ⊤
+    HasChoices names c (tree.case w rest) = HasChoices names c rest
+    HasChoices names c (tree.default rest) = HasChoices names c rest
+    HasChoices names c (tree.body s rest) = IsWellFormed names c s × HasChoices names c rest
 
 -- what a cell of this type starts with, where these are the statics: a word, null, or the address of a cell of an object of the type
 -- that it points to, or of the place behind its last

@@ -13,7 +13,7 @@ use Rattle.c_tree.specs.declared.uses.Use.TheVariants.{Call}
 use Rattle.c_tree.specs.Kinds.{int, IsType, IsKind}
 use Rattle.c_tree.specs.Rounds.{HasNoRound}
 use Rattle.c_tree.specs.Uses.{statement_uses, case_counts}
-use Rattle.c_tree.specs.WellFormed.{Shape, Signature, Names, IsInitial, IsWellFormed}
+use Rattle.c_tree.specs.WellFormed.{Shape, Signature, Names, IsInitial, IsWellFormed, opened}
 
 -- the objects that names stand for: a frame scalar is one cell
 abbrev pub scalar_shape : Kind → Option Shape
@@ -46,9 +46,15 @@ abbrev pub signature : Option FunctionTree → Option Signature
 signature None = None
 signature (Some f) = Some (record { parameters = map (parameter_kind f) f.params; result = f.result })
 
+-- what is known everywhere in a function: statics and functions
+abbrev pub static_names : ProgramTree → VarRef → Option Shape
+static_names p (Scalar n) = None
+static_names p (Local n) = None
+static_names p (Static n) = static_in p n
+
 abbrev pub names_of : ProgramTree → FunctionTree → Names
 names_of p f = record {
-  object = object_in p f;
+  object = static_names p;
   function = λ n. signature (slice_get p.functions n);
   is_filled = λ n. nat_lt n (length f.locals);
 }
@@ -73,7 +79,7 @@ pub record IsFunction (p : ProgramTree) (f : FunctionTree) : Type 0 where
   pub locals : All (IsObject p) f.locals
   pub parameters : All (IsParameter f) f.params
   pub differ : AllPairs (λ a b. a ≢ b) f.params
-  pub body : IsWellFormed (names_of p f) f.result around.Body f.body
+  pub body : IsWellFormed (object_in p f) f.result (opened (object_in p f) f.params (names_of p f)) around.Body f.body
 
 -- what the counts of a program may be at most
 pub record IsLimited (fs : List FunctionTree) : Type 0 where

@@ -1,5 +1,5 @@
 -- At most one fault is said of a source.
-use Rattle.std.proofs.Common.{◌≡◌, ◌⊎◌, ◌∙◌, sym, refl, ap, subst, ℕ, List, Some, None, inl, inr, false, true, true≢false}
+use Rattle.std.proofs.Common.{◌≡◌, ◌⊎◌, ◌∙◌, sym, refl, ap, subst, ℕ, List, Option, Some, None, inl, inr, false, true, true≢false}
 use Rattle.c_tree.specs.SyntaxTree.{UnitTree}
 use Rattle.c_types.specs.declared.fault.LimitName.{LimitName}
 use Rattle.c_types.specs.declared.fault.LimitName.TheVariants as limit
@@ -7,20 +7,23 @@ use Rattle.c_types.specs.declared.fault.Rule.{Rule}
 use Rattle.c_types.specs.declared.fault.Rule.TheVariants as rules
 use Rattle.c_types.specs.declared.fault.TypeFault.{TypeFault}
 use Rattle.c_types.specs.declared.fault.TypeFault.TheVariants as faults
-use Rattle.c_types.specs.Outcome.{Is, Broken}
-use Rattle.c_types.specs.Checked.{Holds}
+use Rattle.c_types.specs.Visits.{Break}
+use Rattle.c_types.specs.Checked.{Breaks, Holds}
 use Rattle.c_types.specs.Faults.{Says, SaysOf, IsMissing, IsCyclic, IsLarge, rule_fault}
 use Rattle.c_types.specs.Programs.{has_main}
-use Rattle.c_types.specs.Units.{TypedFunction, File, typed_unit}
+use Rattle.c_types.specs.Units.{TypedFunction, typed_unit}
 use Rattle.c_types.specs.Whole.{IsPassed}
 use Rattle.c_types.proofs.ChainLaws.{chain_is_one, chain_or_none}
-use Rattle.c_types.proofs.LawLemmas.{one_file}
+use Rattle.c_types.proofs.LawLemmas.{one_file, broken_or_typed}
+
+one_break : (found : Option Break) (a b : Break) → found ≡ Some a → found ≡ Some b → a ≡ b
+one_break found a b one other = let same : Some a ≡ Some b = sym one ∙ other in cc same
 
 -- a fault of a rule of a node
 record RuleSaid (unit : UnitTree) (fault : TypeFault) : Type 0 where
   rule : Rule
   at : ℕ
-  broken : typed_unit unit ≡ Broken rule at
+  broken : Breaks unit rule at
   is : fault ≡ rule_fault rule at
 
 -- a fault of the whole source, by its kind
@@ -140,13 +143,8 @@ said unit faults.NoMemory says some = absurd (some refl)
 module _ (unit : UnitTree) (a b : TypeFault) where
   both_rules : RuleSaid unit a → RuleSaid unit b → a ≡ b
   both_rules one other =
-      let same : Broken one.rule one.at ≡ Broken other.rule other.at = sym one.broken ∙ other.broken in
-      let rule : one.rule ≡ other.rule = cc same in
-      let at : one.at ≡ other.at = cc same in
-      one.is ∙ ap (λ r. rule_fault r one.at) rule ∙ ap (rule_fault other.rule) at ∙ sym other.is
-
-  rule_or_whole : {A : Type 0} {rule : Rule} {at : ℕ} {file : File} → typed_unit unit ≡ Broken rule at → typed_unit unit ≡ Is file → A
-  rule_or_whole {rule = rule} {at = at} {file = file} broken typed = let same : Is file ≡ Broken rule at = sym typed ∙ broken in absurd (cc same)
+      let same : ◌≡◌ {A = Break} (record { rule = one.rule; at = one.at }) (record { rule = other.rule; at = other.at }) = one_break _ _ _ one.broken other.broken in
+      one.is ∙ ap (λ b. rule_fault b.rule b.at) same ∙ sym other.is
 
   both_whole : ¬ (a ≡ faults.NoMemory) → ¬ (b ≡ faults.NoMemory) → Holds unit (λ fs. SaysOf fs a) → Holds unit (λ fs. SaysOf fs b) → a ≡ b
   both_whole p q one other =
@@ -158,10 +156,10 @@ module _ (unit : UnitTree) (a b : TypeFault) where
       elim (said unit a says p) [
         | inl one ↦ elim (said unit b also q) [
           | inl other ↦ both_rules one other
-          | inr other ↦ rule_or_whole one.broken other.typed
+          | inr other ↦ broken_or_typed unit one.rule one.at other.file one.broken other.typed
         ]
         | inr one ↦ elim (said unit b also q) [
-          | inl other ↦ rule_or_whole other.broken one.typed
+          | inl other ↦ broken_or_typed unit other.rule other.at one.file other.broken one.typed
           | inr other ↦ both_whole p q one other
         ]
       ]

@@ -1,6 +1,7 @@
 pub mod Context
 pub mod GivesLemmas
 pub mod FileContext
+pub mod OpenedNames
 pub mod OperandKinds
 pub mod OperandTypes
 pub mod OperatorTypes
@@ -25,6 +26,8 @@ pub mod ItemsSoFar
 pub mod ParametersAsLocals
 pub mod FunctionsSoFar
 pub mod UnitTypes
+pub mod SameReferences
+pub mod RenumberedNames
 pub mod RenumberedTypes
 pub mod RenumberedUses
 pub mod RenumberedTemporaries

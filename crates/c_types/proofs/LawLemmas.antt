@@ -7,12 +7,14 @@ use Rattle.c_types.specs.declared.fault.LimitName.TheVariants as limit
 use Rattle.c_types.specs.declared.fault.Rule.{Rule}
 use Rattle.c_types.specs.declared.fault.TypeFault.{TypeFault}
 use Rattle.c_types.specs.declared.fault.TypeFault.TheVariants as faults
-use Rattle.c_types.specs.Outcome.{Outcome, Is, Broken}
+use Rattle.c_types.specs.Outcome.{Outcome, Is}
 use Rattle.c_types.specs.Checked.{AreWhole, IsTyped, Breaks, Holds}
 use Rattle.c_types.specs.Faults.{Says, SaysOf}
 use Rattle.c_types.specs.Programs.{program_tree}
 use Rattle.c_types.specs.Units.{TypedFunction, File, typed_unit}
+use Rattle.c_types.specs.Visits.{broken_in}
 use Rattle.c_types.specs.Whole.{passed, IsPassed}
+use Rattle.c_types.proofs.Walked.SourceWalked.{walk_finds}
 
 pub one_file : (o : Outcome File) (a b : File) → o ≡ Is a → o ≡ Is b → a ≡ b
 one_file o a b first second = let same : Is a ≡ Is b = sym first ∙ second in cc same
@@ -20,8 +22,12 @@ one_file o a b first second = let same : Is a ≡ Is b = sym first ∙ second in
 pub one_program : (unit : UnitTree) (a b : ProgramTree) → IsTyped unit a → IsTyped unit b → a ≡ b
 one_program unit a b first second = first.tree ∙ ap program_tree (one_file (typed_unit unit) first.file second.file first.typed second.typed) ∙ sym second.tree
 
+-- a source that breaks a rule isn't typed
+pub broken_or_typed : {A : Type 0} (unit : UnitTree) (rule : Rule) (at : ℕ) (file : File) → Breaks unit rule at → typed_unit unit ≡ Is file → A
+broken_or_typed unit rule at file broken typed = absurd (cc (sym broken ∙ walk_finds unit ∙ ap broken_in typed))
+
 no_rule : {rule : Rule} {at : ℕ} (unit : UnitTree) (program : ProgramTree) (fault : TypeFault) → IsTyped unit program → Breaks unit rule at → fault ≡ faults.NoMemory
-no_rule {rule = rule} {at = at} unit program fault typed broken = let same : Is typed.file ≡ Broken rule at = sym typed.typed ∙ broken in absurd (cc same)
+no_rule {rule = rule} {at = at} unit program fault typed broken = broken_or_typed unit rule at typed.file broken typed.typed
 
 none_passed : (fs : List TypedFunction) (which : LimitName) (n : ℕ) → ((name : LimitName) → passed name fs ≡ None) → IsPassed fs which n → Some n ≡ None
 none_passed fs limit.Functions n limits is = sym is ∙ limits limit.Functions

@@ -36,3 +36,5 @@ pub mod ChainLemmas
 pub mod ChainLaws
 pub mod LawLemmas
 pub mod Formed
+pub mod Walked
+pub mod Examples

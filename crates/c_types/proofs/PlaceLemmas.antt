@@ -1,11 +1,17 @@
 -- What stands at a place of a list, behind a push and a write.
-use Rattle.std.proofs.Common.{◌≡◌, ◌<◌, ℕ, zero, suc, List, [], ◌∷◌, ◌++◌, length, set, ap, refl, inl, inr, arith, ◌⊎◌, Some}
+use Rattle.std.proofs.Common.{◌≡◌, ◌<◌, ℕ, zero, suc, ◌+◌, List, [], ◌∷◌, ◌++◌, length, set, ap, subst, refl, inl, inr, arith, ◌⊎◌, Some}
 use Rattle.std.specs.Prelude.{slice_get}
 
 pub place_kept : {A : Type 0} (xs ys : List A) (p : ℕ) (x : A) → slice_get xs p ≡ Some x → slice_get (xs ++ ys) p ≡ Some x
 place_kept [] ys p x there = absurd (cc there)
 place_kept (z ∷ xs) ys zero x there = there
 place_kept (z ∷ xs) ys (suc p) x there = place_kept xs ys p x there
+
+pub place_behind : {A : Type 0} (xs ys : List A) (p : ℕ) (x : A) → slice_get ys p ≡ Some x → slice_get (xs ++ ys) (length xs + p) ≡ Some x
+place_behind [] ys p x there = let same : p ≡ 0 + p = omega arith in subst (λ n. slice_get ys n ≡ Some x) same there
+place_behind (z ∷ xs) ys p x there =
+    let same : suc (length xs + p) ≡ suc (length xs) + p = omega arith in
+    subst (λ n. slice_get (z ∷ (xs ++ ys)) n ≡ Some x) same (place_behind xs ys p x there)
 
 pub place_last : {A : Type 0} (xs : List A) (y : A) → slice_get (xs ++ y ∷ []) (length xs) ≡ Some y
 place_last [] y = refl

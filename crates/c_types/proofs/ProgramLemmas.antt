@@ -1,5 +1,5 @@
 -- The typed program of a source, and what its faults say.
-use Rattle.std.proofs.Common.{◌≡◌, ◌++◌, ◌∷◌, [], List, map, ap, ◌∙◌, sym, refl, subst, append-nil}
+use Rattle.std.proofs.Common.{◌≡◌, ℕ, ◌++◌, ◌∷◌, [], List, map, ap, ◌∙◌, sym, refl, subst, append-nil}
 use Rattle.std.specs.Prelude.{Vec, Result, Ok, Err, IfErr}
 use Rattle.std.specs.Result.{IsErrAnd}
 use Rattle.std.specs.Global.{Global}
@@ -13,12 +13,35 @@ use Rattle.c_types.specs.declared.fault.TypeFault.TheVariants as faults
 use Rattle.c_types.specs.declared.functions.TypedFunction as memory
 use Rattle.c_types.specs.declared.units.File as files
 use Rattle.c_types.specs.declared.units.Contents.{Contents}
-use Rattle.c_types.specs.Checked.{AreWhole, IsTyped}
-use Rattle.c_types.specs.Faults.{Says, SaysOf}
+use Rattle.c_types.specs.declared.fault.Rule.{Rule}
+use Rattle.c_types.specs.declared.fault.Rule.TheVariants as rules
+use Rattle.c_types.specs.declared.fault.Refusal.{Refusal}
+use Rattle.c_types.specs.declared.fault.Refusal.TheVariants as refusals
+use Rattle.c_types.specs.Answers.{Refuses}
+use Rattle.c_types.specs.Checked.{AreWhole, IsTyped, Breaks}
+use Rattle.c_types.specs.Faults.{Says, SaysOf, rule_fault, fault_of}
+use Rattle.c_types.specs.Visits.{broken_in}
+use Rattle.c_types.proofs.Walked.SourceWalked.{walk_finds}
 use Rattle.c_types.specs.Outcome.{Is}
 use Rattle.c_types.specs.Programs.{frame, function_tree, functions_with, program_tree, static_object}
 use Rattle.c_types.specs.Units.{TypedFunction, File, typed_unit}
 use Rattle.c_types.specs.View.{typed_function_of, static_tree_of, file_of, frame_lists, made_of}
+
+-- what a refusal of a node says of its source
+broken_says : (unit : UnitTree) (rule : Rule) (at : ℕ) → Breaks unit rule at → Says unit (rule_fault rule at)
+broken_says unit rules.Undeclared at broken = broken
+broken_says unit rules.Redeclared at broken = broken
+broken_says unit rules.Mismatch at broken = broken
+broken_says unit rules.NotLvalue at broken = broken
+broken_says unit rules.NotConstant at broken = broken
+broken_says unit rules.LongConstant at broken = broken
+broken_says unit rules.BadPort at broken = broken
+broken_says unit rules.ArgCount at broken = broken
+broken_says unit rules.Misplaced at broken = broken
+
+pub refusal_says : (unit : UnitTree) (r : Refusal) → Refuses (typed_unit unit) r → Says unit (fault_of r)
+refusal_says unit (refusals.Broken rule at) broken = broken_says unit rule at (walk_finds unit ∙ ap broken_in broken)
+refusal_says unit refusals.NoMemory nothing = tt
 
 -- what a fault says of functions it says of their source
 says_of : (unit : UnitTree) (file : File) (f : TypeFault) → typed_unit unit ≡ Is file → SaysOf file.functions f → Says unit f

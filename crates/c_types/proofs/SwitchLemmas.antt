@@ -9,7 +9,7 @@ use Rattle.c_tree.specs.declared.stmt.SwitchPart.{SwitchPart}
 use Rattle.c_tree.specs.declared.typed_statement.Choice as choice
 use Rattle.c_tree.specs.declared.typed_statement.Choice.{Choice}
 use Rattle.c_tree.specs.declared.typed_statement.TypedStmt.{TypedStmt}
-use Rattle.c_tree.specs.Eval.{kind_of}
+use Rattle.c_tree.specs.Eval.{kind_of, points}
 use Rattle.c_tree.specs.SyntaxTree as tree
 use Rattle.c_tree.specs.SyntaxTree.{Expression, Statement}
 use Rattle.c_tree.specs.SyntaxView.{expression_of, part_before, statement_of}
@@ -26,9 +26,9 @@ use Rattle.c_types.specs.Bodies.{behind_choices, choices_in, parts_of, statement
 use Rattle.c_types.specs.Kinds.{class_of}
 use Rattle.c_types.specs.Operands.{is_integer}
 use Rattle.c_types.specs.Outcome.{Outcome, Is, ◌>>=◌, breaks}
-use Rattle.c_types.specs.Statements.{LocalTree, Labelled, Typed, just, behind_body, in_switch, repeats_label, typed_choices}
+use Rattle.c_types.specs.Statements.{LocalTree, Labelled, Typed, just, behind_case, behind_body, in_switch, repeats_label, typed_choices}
 use Rattle.c_types.specs.Tables.{scope_of, tables_of}
-use Rattle.c_types.specs.Typing.{typing}
+use Rattle.c_types.specs.Typing.{typing, constant_typing, word_at}
 use Rattle.c_types.specs.View.{locals_of}
 use Rattle.c_types.proofs.ChoicesSoFar.{choices_kept, from_here}
 use Rattle.c_types.proofs.SyntaxRows.{switch_of}
@@ -67,6 +67,16 @@ body_typed b n tables bodies returned c x s t is h rest =
     ap (λ p. choices_in b c (part_before p rest)) is
     ∙ ap (λ o. o >>= λ p. typed_choices b.result (scope_of b.scopes) c p.locals rest >>= λ r. Is (behind_body p.tree r)) h
     ∙ ap (λ o. o >>= λ r. Is (behind_body (stmt_of t) r)) (sym (choices_kept b n tables bodies returned c (locals_of n) rest))
+
+-- a label among the choices
+pub label_typed : (b : Body) (c : Enclosing) (x : SwitchPart) (label : syntax.Expr) (e : Expr) (w : ℕ) (p : Bool) → x ≡ part.Case label
+    → constant_typing (scope_of b.scopes) (expression_of label) ≡ Is e → word_at (expression_of label) e ≡ Is w → p ≡ points (kind_of e)
+    → (rest : tree.Choices) → choices_in b c (part_before x rest) ≡ behind_choices (choice.Case w ∷ []) p (choices_in b c rest)
+label_typed b c x label e w p is typed word pointer rest =
+    ap (λ q. choices_in b c (part_before q rest)) is
+    ∙ ap (λ o. o >>= λ y. word_at (expression_of label) y >>= λ v. choices_in b c rest >>= λ r. Is (behind_case v (points (kind_of y)) r)) typed
+    ∙ ap (λ o. o >>= λ v. choices_in b c rest >>= λ r. Is (behind_case v (points (kind_of e)) r)) word
+    ∙ ap (λ q. choices_in b c rest >>= λ r. Is (behind_case w q r)) (sym pointer)
 
 -- objects beside what is broken by three rules or none
 beside : (a b d : Bool) (place at : ℕ) (t : typed.Stmt) (ls : List LocalTree)

@@ -1,13 +1,15 @@
 -- The typed program of a source (docs/LANGUAGE.md, "Types").
-use Rattle.std.specs.Prelude.{◌≡◌, ℕ, true, List, None}
+use Rattle.std.specs.Prelude.{◌≡◌, ℕ, true, List, Some, None}
 use Rattle.c_tree.specs.SyntaxTree.{UnitTree}
 use Rattle.c_tree.specs.TypedTree.{ProgramTree}
 use Rattle.c_types.specs.declared.fault.LimitName.{LimitName}
 use Rattle.c_types.specs.declared.fault.Rule.{Rule}
-use Rattle.c_types.specs.Outcome.{Is, Broken}
+use Rattle.c_types.specs.Outcome.{Is}
 use Rattle.c_types.specs.Units.{TypedFunction, File, typed_unit}
 use Rattle.c_types.specs.Programs.{program_tree, has_main, HasNoCycle}
 use Rattle.c_types.specs.Whole.{missing_body, passed}
+use Rattle.c_types.specs.Visits.{first}
+use Rattle.c_types.specs.Walk.{walk}
 
 -- the functions of a source: `int main(void)` is there, no call is of one without a body, none calls itself through any chain, and
 -- the limits hold
@@ -24,9 +26,9 @@ pub record IsTyped (unit : UnitTree) (program : ProgramTree) : Type 0 where
   pub whole : AreWhole file.functions
   pub tree : program ≡ program_tree file
 
--- a node of a source breaks a rule, the first in walking order
+-- the first node of a source, in walking order, that breaks a rule stands at this place, and this is the least that it breaks
 abbrev pub Breaks : UnitTree → Rule → ℕ → Type 0
-Breaks unit rule at = typed_unit unit ≡ Broken rule at
+Breaks unit rule at = first (walk unit) ≡ Some (record { rule = rule; at = at })
 
 -- no node breaks a rule, and this is so of the functions
 pub record Holds (unit : UnitTree) (P : List TypedFunction → Type 0) : Type 0 where

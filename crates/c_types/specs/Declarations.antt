@@ -9,7 +9,7 @@ use Rattle.c_tree.specs.declared.program.Initial.TheVariants as initial
 use Rattle.c_tree.specs.declared.operator.BinaryOp.TheVariants as op
 use Rattle.c_tree.specs.declared.syntax.PrefixOp.TheVariants as prefix
 use Rattle.c_tree.specs.SyntaxTree as tree
-use Rattle.c_tree.specs.SyntaxTree.{Expression, ArrayMark, ParameterTree, ParametersTree, ItemTree, ItemForm, InitialTree}
+use Rattle.c_tree.specs.SyntaxTree.{Expression, ArrayMark, ParameterTree, ParametersTree, ItemForm, InitialTree}
 use Rattle.c_tree.specs.TypedTree.{Kind, Expr, Node, Binary}
 use Rattle.c_tree.specs.Eval.{kind_of, points}
 use Rattle.c_types.specs.declared.declarations.Declared.{Declared}
@@ -25,7 +25,7 @@ use Rattle.c_types.specs.Kinds.{starred}
 use Rattle.c_types.specs.Operands.{Operand, given, address_kind}
 use Rattle.c_types.specs.Constants.{constant}
 use Rattle.c_types.specs.Scopes.{Scope, open_scope, declare, is_taken}
-use Rattle.c_types.specs.Typing.{plain, typing, operand, place, as_constant, word_at}
+use Rattle.c_types.specs.Typing.{plain, operand, place, constant_typing, word_at}
 
 -- a length of 1 to 32,767
 abbrev pub length_within : ℕ → Option ℕ
@@ -33,7 +33,7 @@ length_within n = if n == 0 || nat_lt 32767 n then None else Some n
 
 -- a constant length, where it may be one
 abbrev pub typed_length : Scope → Expression → Outcome (Option ℕ)
-typed_length s e = as_constant e (typing s e) >>= λ x. word_at e x >>= λ w. Is (length_within w)
+typed_length s e = constant_typing s e >>= λ x. word_at e x >>= λ w. Is (length_within w)
 
 -- parameters: an array is a pointer, whose length is only looked at: 6.7.1
 abbrev pub parameter_kind : Base → ParameterTree → Kind
@@ -144,7 +144,7 @@ pub record Entry : Type 0 where
   pub initial : Initial
 
 abbrev pub entry : Scope → Expression → Outcome Entry
-entry s e = as_constant e (typing s e) >>= λ x. there_or NotConstant (place e) (static_value s e x) >>= λ i.
+entry s e = constant_typing s e >>= λ x. there_or NotConstant (place e) (static_value s e x) >>= λ i.
     Is (record { operand = operand e x; initial = i })
 
 abbrev pub entries : Scope → List Expression → Outcome (List Entry)

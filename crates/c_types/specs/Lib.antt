@@ -24,3 +24,8 @@ pub mod Calls
 pub mod Rounds
 pub mod Trails
 pub mod Chains
+pub mod Visits
+pub mod ExpressionWalk
+pub mod DeclarationWalk
+pub mod StatementWalk
+pub mod Walk

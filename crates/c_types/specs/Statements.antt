@@ -23,7 +23,7 @@ use Rattle.c_types.specs.Kinds.{class_of, is_void}
 use Rattle.c_types.specs.Operands.{Operand, given, is_integer}
 use Rattle.c_types.specs.Renumbering.{number_in}
 use Rattle.c_types.specs.Scopes.{Scope, open_scope, declare, is_taken}
-use Rattle.c_types.specs.Typing.{plain, typing, operand, as_constant, word_at}
+use Rattle.c_types.specs.Typing.{plain, typing, operand, constant_typing, word_at}
 use Rattle.c_types.specs.Declarations.{declarator, Entry, entries, listed}
 
 -- an object of a function: its name, its type, and the list of an initialised array
@@ -199,7 +199,7 @@ module _ (result : Kind) where
 
     pub typed_choices : Scope → Enclosing → List LocalTree → tree.Choices → Outcome (Typed Labelled)
     typed_choices s c ls no_choice = just (record { choices = no_more; pointer = false }) ls
-    typed_choices s c ls (case_label e rest) = as_constant e (typing s e) >>= λ x. word_at e x >>= λ w. typed_choices s c ls rest >>= λ r.
+    typed_choices s c ls (case_label e rest) = constant_typing s e >>= λ x. word_at e x >>= λ w. typed_choices s c ls rest >>= λ r.
         Is (behind_case w (points (kind_of x)) r)
     typed_choices s c ls (default_label rest) = typed_choices s c ls rest >>= λ r. Is (behind_default r)
     typed_choices s c ls (chosen a rest) = typed_statement s c ls a >>= λ p. typed_choices s c p.locals rest >>= λ r.

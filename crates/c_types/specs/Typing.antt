@@ -15,6 +15,7 @@ use Rattle.c_tree.specs.TypedTree.{Kind, Expr, Node, Const, Read, AddressOf, Cal
 use Rattle.c_tree.specs.Eval.{kind_of}
 use Rattle.c_types.specs.declared.fault.Rule.{Rule}
 use Rattle.c_types.specs.declared.fault.Rule.TheVariants.{Undeclared, Redeclared, Mismatch, NotLvalue, NotConstant, LongConstant, BadPort, ArgCount, Misplaced}
+use Rattle.c_types.specs.declared.kinds.Class.{Class}
 use Rattle.c_types.specs.declared.meaning.Meaning.{Meaning}
 use Rattle.c_types.specs.declared.meaning.Meaning.TheVariants as meanings
 use Rattle.c_types.specs.declared.meaning.ObjectType.TheVariants.{Single, Array}
@@ -135,11 +136,23 @@ takes_address prefix.Not = false
 abbrev pub of_object : Bool → ℕ → Expr → Outcome Expr
 of_object no_object at x = breaks no_object NotLvalue at (Is x)
 
--- a call isn't constant, which comes before its own port and the number of its arguments
-abbrev pub is_call : Expression → Bool
-is_call (tree.Node (tree.Call name es) at) = true
-is_call e = false
+-- what a call has once its arguments are typed: the operands of a function; of a port nothing, or its number with the operands behind it
+pub data Arguments : Type 0 where
+  Operands : List Operand → Arguments
+  NoPort : Arguments
+  Port : Class → ℕ → List Operand → Arguments
 
+-- the arguments of a call, from what they are as those of a port and as those of a function
+abbrev pub arguments_from : List ℕ → Outcome Arguments → Outcome (List Operand) → Outcome Arguments
+arguments_from name port operands = if is_in name || is_out name then port else (operands >>= λ xs. Is (Operands xs))
+
+-- a call with these arguments
+abbrev pub call_of : Scope → List ℕ → ℕ → Arguments → Outcome Expr
+call_of s name at (Operands xs) = called (number_of s name) (s.meaning name) at xs
+call_of s name at NoPort = Broken ArgCount at
+call_of s name at (Port class port xs) = if is_in name then input at class port xs else output at class port xs
+
+-- rules that calls alone break
 abbrev pub is_of_calls : Rule → Bool
 is_of_calls Undeclared = false
 is_of_calls Redeclared = false
@@ -151,9 +164,11 @@ is_of_calls BadPort = true
 is_of_calls ArgCount = true
 is_of_calls Misplaced = false
 
-abbrev pub as_constant : Expression → Outcome Expr → Outcome Expr
-as_constant e (Is x) = Is x
-as_constant e (Broken rule at) = if is_call e && at == place e && is_of_calls rule then Broken NotConstant at else Broken rule at
+-- a call that has to be constant: that it isn't comes before its own port and the number of its arguments. Of one that is typed `word_at`
+-- says so.
+abbrev pub no_constant : Outcome Expr → Outcome Expr
+no_constant (Is x) = Is x
+no_constant (Broken rule at) = if is_of_calls rule then Broken NotConstant at else Broken rule at
 
 -- the word of an expression that has to be constant
 abbrev pub word_at : Expression → Expr → Outcome ℕ
@@ -175,10 +190,7 @@ module _ (s : Scope) where
     typing_form (tree.Character value) at = Is (Node (Const value) (Some int) at)
     -- behind an operand
     typing_form (tree.Index a b) at = typing a >>= λ x. typing b >>= λ y. indexed at x y
-    typing_form (tree.Call name arguments) at =
-        if is_in name then typing_input arguments at
-        else if is_out name then typing_output arguments at
-        else (operands arguments >>= λ xs. called (number_of s name) (s.meaning name) at xs)
+    typing_form (tree.Call name es) at = arguments_from name (port_arguments es) (operands es) >>= λ a. call_of s name at a
     typing_form (tree.StepAfter up a) at = typing a >>= λ x. stepped_after up at x >>= λ y. of_object (is_address a) at y
     -- before an operand
     typing_form (tree.StepBefore up a) at = typing a >>= λ x. stepped_before up at x >>= λ y. of_object (is_address a) at y
@@ -200,11 +212,23 @@ module _ (s : Scope) where
     operands no_argument = Is []
     operands (argument e rest) = typing e >>= λ x. operands rest >>= λ xs. Is (operand e x ∷ xs)
 
-    -- ports, which have to be constant
-    pub typing_input : Expressions → ℕ → Outcome Expr
-    typing_input no_argument at = Broken ArgCount at
-    typing_input (argument e rest) at = as_constant e (typing e) >>= λ x. word_at e x >>= λ port. operands rest >>= λ xs. input at (class_of (kind_of x)) port xs
+    -- a port has to be constant
+    pub port_arguments : Expressions → Outcome Arguments
+    port_arguments no_argument = Is NoPort
+    port_arguments (argument e rest) = as_constant e (typing e) >>= λ x. word_at e x >>= λ port. operands rest >>= λ xs. Is (Port (class_of (kind_of x)) port xs)
 
-    pub typing_output : Expressions → ℕ → Outcome Expr
-    typing_output no_argument at = Broken ArgCount at
-    typing_output (argument e rest) at = as_constant e (typing e) >>= λ x. word_at e x >>= λ port. operands rest >>= λ xs. output at (class_of (kind_of x)) port xs
+    -- an expression that has to be constant, by what its typing comes to elsewhere
+    pub as_constant : Expression → Outcome Expr → Outcome Expr
+    as_constant (tree.Node form at) typed = form_as_constant form at typed
+
+    pub form_as_constant : ExpressionForm → ℕ → Outcome Expr → Outcome Expr
+    form_as_constant (tree.Call name es) at typed = arguments_from name (port_arguments es) (operands es) >>= λ a. no_constant (call_of s name at a)
+    form_as_constant form at typed = typed
+
+  -- what stands between the parentheses of a call
+  abbrev pub arguments : List ℕ → Expressions → Outcome Arguments
+  arguments name es = arguments_from name (port_arguments es) (operands es)
+
+  -- an expression that has to be constant
+  abbrev pub constant_typing : Expression → Outcome Expr
+  constant_typing e = as_constant e (typing e)

@@ -6,7 +6,7 @@ use Rattle.c_tree.specs.declared.program.ScalarType.{ScalarType}
 use Rattle.c_tree.specs.declared.program.VarRef.TheVariants as refs
 use Rattle.c_tree.specs.declared.program.Initial.{Initial}
 use Rattle.c_tree.specs.SyntaxTree as tree
-use Rattle.c_tree.specs.SyntaxTree.{ParameterTree, ItemTree, InitialTree, DeclarationTree, FunctionSyntax, ExternalTree, Defined, UnitTree}
+use Rattle.c_tree.specs.SyntaxTree.{ParameterTree, ItemTree, InitialTree, FunctionSyntax, ExternalTree, Defined, UnitTree}
 use Rattle.c_tree.specs.TypedTree.{Kind, Stmt}
 use Rattle.c_types.specs.declared.fault.Rule.{Rule}
 use Rattle.c_types.specs.declared.fault.Rule.TheVariants.{Redeclared, Mismatch}

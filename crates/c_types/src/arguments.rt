@@ -20,7 +20,8 @@ use c_tree::{ExprForm, ScalarType, TypedExpr};
 use std::alloc::Global;
 use std::vec::IntoIter;
 
-fn wrong_count(at: u32) -> Refusal
+/// Another number of arguments than a call takes.
+pub(crate) fn wrong_count(at: u32) -> Refusal
     ensures { result ≡ refusals.Broken rule.ArgCount at }
 {
     Refusal::Broken {

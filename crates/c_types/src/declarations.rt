@@ -8,7 +8,7 @@ ghost use Rattle.c_types.specs.Declarations as rules;
 ghost use Rattle.c_types.specs.Outcome.{Is};
 ghost use Rattle.c_types.specs.Tables.{scope_of, tables_of, around_of};
 
-use crate::expressions::word_at;
+use crate::call_arguments::word_at;
 use crate::fault::{Refusal, Rule, mismatch};
 use crate::kinds::{pointer_to, starred};
 use crate::local::Naming;

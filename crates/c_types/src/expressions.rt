@@ -1,28 +1,23 @@
 //! The typed tree of an expression: ISO 9899:1990 6.3.
-ghost use Rattle.std.specs.Prelude.{◌≡◌, IfOk, IfErr, map, Some};
+ghost use Rattle.std.specs.Prelude.{◌≡◌, IfOk, IfErr, Some};
 ghost use Rattle.c_tree.specs.View.{expr_of};
-ghost use Rattle.c_tree.specs.TypedTree as typed;
 ghost use Rattle.c_tree.specs.TypedTree.{Node, Const};
 ghost use Rattle.c_tree.specs.SyntaxTree as tree;
 ghost use Rattle.c_tree.specs.SyntaxView.{expression_of, trees_of, type_of};
 ghost use Rattle.c_types.specs.declared.fault.Rule.TheVariants as rule;
-ghost use Rattle.c_types.specs.Outcome.{Outcome, Is, breaks};
+ghost use Rattle.c_types.specs.Outcome.{Is, breaks};
 ghost use Rattle.c_types.specs.Answers.{Refuses};
 ghost use Rattle.c_types.specs.Kinds.{int, is_void, unsigned};
-ghost use Rattle.c_types.specs.Operands as operators;
 ghost use Rattle.c_types.specs.Tables.{scope_of};
 ghost use Rattle.c_types.specs.Typing as rules;
-ghost use Rattle.c_types.specs.OperandView.{operand_of};
 
-use crate::arguments::{input, output};
-use crate::constants::constant;
 use crate::conversions::cast;
 use crate::fault::{Refusal, Rule};
-use crate::kinds::{Class, INT, UNSIGNED, class_of};
+use crate::kinds::{INT, UNSIGNED};
 use crate::operands::{
     Operand, behind, binary, both_true, either_true, negated, number, picked, sized, unary,
 };
-use crate::scopes::{Scopes, is_in, is_out};
+use crate::scopes::Scopes;
 use crate::type_words::{is_null, type_named};
 use crate::writes::{
     address, assigned, assigned_by, indexed, loaded, not_lvalue, stepped_after, stepped_before,
@@ -31,14 +26,6 @@ use c_tree::{
     BinaryOp, Expr, ExprForm, ExprKind, PrefixOp, ScalarType, TypeName, TypedExpr, UnaryOp,
 };
 use std::alloc::Global;
-
-/// The port of a call of `__in` or `__out`, and the operands behind it.
-#[derive(Drop)]
-struct PortCall {
-    class: Class,
-    port: u16,
-    behind: Vec<Operand>,
-}
 
 impl<'a> Scopes<'a> {
     /// The typed tree of an expression.
@@ -222,81 +209,6 @@ impl<'a> Scopes<'a> {
         let right = self.expression(right)?;
         behind(self.alloc, at, left, right)
     }
-
-    #[cycle(expressions)]
-    fn call(&self, name: &str, at: u32, arguments: &[Expr]) -> Result<TypedExpr, Refusal>
-        ensures typed { IfOk result (λ x. rules.typing_form (scope_of self.now) (tree.Call name.now (trees_of arguments.now)) at ≡ Is (expr_of x)) }
-        ensures refused { IfErr result (Refuses (rules.typing_form (scope_of self.now) (tree.Call name.now (trees_of arguments.now)) at)) }
-    {
-        if is_in(name) {
-            let call = self.port_call(at, arguments)?;
-            return input(at, call.class, call.port, &call.behind);
-        }
-        if is_out(name) {
-            let call = self.port_call(at, arguments)?;
-            return output(self.alloc, at, call.class, call.port, call.behind);
-        }
-        let operands = self.operands(arguments)?;
-        self.called(name, at, operands)
-    }
-
-    // The arguments of a call of a port, which begin with its number.
-    #[cycle(expressions)]
-    fn port_call(&self, at: u32, arguments: &[Expr]) -> Result<PortCall, Refusal>
-        ensures input { IfOk result (λ p. rules.typing_input (scope_of self.now) (trees_of arguments.now) at ≡ operators.input at p.class p.port (map operand_of p.behind.items)) }
-        ensures output { IfOk result (λ p. rules.typing_output (scope_of self.now) (trees_of arguments.now) at ≡ operators.output at p.class p.port (map operand_of p.behind.items)) }
-        ensures no_input { IfErr result (Refuses (rules.typing_input (scope_of self.now) (trees_of arguments.now) at)) }
-        ensures no_output { IfErr result (Refuses (rules.typing_output (scope_of self.now) (trees_of arguments.now) at)) }
-    {
-        let Some((first, rest)) = arguments.split_first() else {
-            return Err(Refusal::Broken {
-                rule: Rule::ArgCount,
-                at,
-            });
-        };
-        let value = match self.expression(first) {
-            Ok(value) => value,
-            Err(refusal) => return Err(self.refused_as_constant(first, refusal)),
-        };
-        let port = word_at(first, &value)?;
-        Ok(PortCall {
-            class: class_of(value.kind),
-            port,
-            behind: self.operands(rest)?,
-        })
-    }
-
-    /// Arguments, from left to right.
-    #[cycle(expressions)]
-    pub(crate) fn operands(&self, list: &[Expr]) -> Result<Vec<Operand>, Refusal>
-        ensures typed { IfOk result (λ xs. rules.operands (scope_of self.now) (trees_of list.now) ≡ Is (map operand_of xs.items)) }
-        ensures refused { IfErr result (Refuses (rules.operands (scope_of self.now) (trees_of list.now))) }
-    {
-        let mut operands = Vec::new(self.alloc);
-        for e in list {
-            operands.push(self.operand(e)?)?;
-        }
-        Ok(operands)
-    }
-
-    // How an expression that has to be constant is refused, where its tree is refused as this.
-    fn refused_as_constant(&self, e: &Expr, refusal: Refusal) -> Refusal
-        requires { Refuses (rules.typing (scope_of self.now) (expression_of e.now)) refusal }
-        ensures { Refuses (rules.as_constant (expression_of e.now) (rules.typing (scope_of self.now) (expression_of e.now))) result }
-    {
-        as_constant(e, refusal)
-    }
-
-    /// The typed tree of an expression that has to be constant.
-    pub(crate) fn constant_tree(&self, e: &Expr) -> Result<TypedExpr, Refusal>
-        ensures typed { IfOk result (λ x. rules.as_constant (expression_of e.now) (rules.typing (scope_of self.now) (expression_of e.now)) ≡ Is (expr_of x)) }
-        ensures refused { IfErr result (Refuses (rules.as_constant (expression_of e.now) (rules.typing (scope_of self.now) (expression_of e.now)))) }
-    {
-        match self.expression(e) {
-            Ok(value) => Ok(value),
-            Err(refusal) => Err(self.refused_as_constant(e, refusal)),
-        }
-    }
 }
 
 // A character constant, which is an int.
@@ -381,56 +293,4 @@ fn of_object(no_object: bool, at: u32, typed: TypedExpr) -> Result<TypedExpr, Re
         return Err(not_lvalue(at));
     }
     Ok(typed)
-}
-
-// What a refusal becomes where an expression has to be constant: a call isn't, whatever its port and the number of its arguments.
-fn as_constant(e: &Expr, refusal: Refusal) -> Refusal
-    ensures { (o : Outcome typed.Expr) → Refuses o refusal → Refuses (rules.as_constant (expression_of e.now) o) result }
-{
-    let Refusal::Broken { rule, at } = refusal else {
-        return refusal;
-    };
-    if is_call(e) && at == e.at && is_of_calls(rule) {
-        return Refusal::Broken {
-            rule: Rule::NotConstant,
-            at,
-        };
-    }
-    refusal
-}
-
-fn is_call(e: &Expr) -> bool
-    ensures { result ≡ rules.is_call (expression_of e.now) }
-{
-    match &e.kind {
-        ExprKind::Call { .. } => true,
-        _ => false,
-    }
-}
-
-// The rules that calls alone break.
-fn is_of_calls(rule: Rule) -> bool
-    ensures { result ≡ rules.is_of_calls rule }
-{
-    match rule {
-        Rule::BadPort | Rule::ArgCount => true,
-        Rule::Undeclared
-        | Rule::Redeclared
-        | Rule::Mismatch
-        | Rule::NotLvalue
-        | Rule::NotConstant
-        | Rule::LongConstant
-        | Rule::Misplaced => false,
-    }
-}
-
-/// The word of an expression that has to be constant, which is typed as this.
-pub(crate) fn word_at(e: &Expr, x: &TypedExpr) -> Result<u16, Refusal>
-    ensures word { IfOk result (λ w. rules.word_at (expression_of e.now) (expr_of x.now) ≡ Is w) }
-    ensures refused { IfErr result (Refuses (rules.word_at (expression_of e.now) (expr_of x.now))) }
-{
-    constant(e, x).ok_or(Refusal::Broken {
-        rule: Rule::NotConstant,
-        at: e.at,
-    })
 }

@@ -3,6 +3,7 @@
 
 mod arguments;
 mod blocks;
+mod call_arguments;
 mod calls;
 mod constants;
 mod conversions;

@@ -19,8 +19,8 @@ ghost use Rattle.c_types.specs.OperandView.{operand_of};
 ghost use Rattle.c_types.specs.View.{locals_of};
 
 use crate::blocks::{Body, Opening};
+use crate::call_arguments::word_at;
 use crate::conversions::given;
-use crate::expressions::word_at;
 use crate::fault::{Refusal, Rule, mismatch};
 use crate::labels::{Labelled, switched};
 use crate::operands::Operand;

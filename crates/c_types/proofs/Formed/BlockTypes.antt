@@ -1,5 +1,6 @@
 -- What the declarations of a block make: objects of these types, and statements that give them their first values.
-use Rattle.std.proofs.Common.{◌≡◌, ℕ, List, [], ◌∷◌, ◌++◌, length, is_some, refl, sym, ap, subst, ◌∙◌, append-nil, append_assoc}
+use Rattle.std.proofs.Common.{◌≡◌, ℕ, zero, suc, ◌+◌, List, [], ◌∷◌, ◌++◌, length, is_some, Option}
+use Rattle.std.proofs.Common.{refl, sym, ap, subst, ◌∙◌, append-nil, append_assoc, length-append, arith}
 use Rattle.std.specs.Prelude.{All}
 use Rattle.std.proofs.lemmas.List.Elements.{All-nil, All-push, All-append}
 use Rattle.c_tree.specs.declared.program.Base.{Base}
@@ -17,38 +18,43 @@ use Rattle.c_types.specs.Typing.{plain}
 use Rattle.c_types.specs.Declarations.{declarator}
 use Rattle.c_types.specs.Statements.{LocalTree, Initialiser, initialiser, is_array, Start, started}
 use Rattle.c_types.specs.Statements.{Opened, opened_in, with_object, placed, declared_as, block_item, block_items, declarations}
-use Rattle.c_tree.specs.WellFormed.{Names, IsDeclared, IsThere, IsWellFormed}
-use Rattle.c_types.proofs.Formed.Context.{Gives, is, broken, behind, unless, Fits, Holds, IsLocal}
+use Rattle.c_tree.specs.WellFormed.{Shape, Names, IsWellFormed}
+use Rattle.c_types.proofs.Formed.Context.{Gives, is, broken, behind, unless, Fits, IsLocal, numbers_from}
+use Rattle.c_types.proofs.Formed.OpenedNames.{Knows}
 use Rattle.c_types.proofs.Formed.GivesLemmas.{anything, for_all}
 use Rattle.c_types.proofs.Formed.DeclarationTypes.{IsObjectType, IsDeclaredType, declared_type}
-use Rattle.c_types.proofs.Formed.LocalTypes.{holds_first, IsHeld, held_last, fits_with_object, IsInitialiser, typed_initialiser, IsStart, typed_start}
+use Rattle.c_types.proofs.Formed.LocalTypes.{knows_first, IsHeld, held_last, fits_with_object, IsInitialiser, typed_initialiser, IsStart, typed_start}
 
 -- what declarations have made so far, where these are the objects that they declare
 pub record AreOpened (names : Names) (others : List LocalTree) (o : Opened) : Type 0 where
   pub fits : Fits names o.scope
   pub locals : All (IsLocal names) others
-  pub declared : All (IsDeclared names) o.declared
-  pub statements : (result : Kind) (c : Enclosing) → All (IsWellFormed names result c) o.statements
+  pub statements : (objects : VarRef → Option Shape) (result : Kind) (c : Enclosing) → All (IsWellFormed objects result names c) o.statements
 
 pub record Opens (s : Scope) (ls : List LocalTree) (o : Opened) : Type 0 where
   pub others : List LocalTree
   pub grown : o.locals ≡ ls ++ others
-  pub made : (names : Names) → Fits names s → Holds o.locals names → AreOpened names others o
+  pub numbered : o.declared ≡ numbers_from (length ls) (length others)
+  pub made : (names : Names) → Fits names s → Knows names (length ls) others → AreOpened names others o
 
 opens : (s t : Scope) (ls : List LocalTree) → ((names : Names) → Fits names s → Fits names t) → Opens s ls (opened_in t ls)
 opens s t ls within = record {
   others = [];
   grown = sym (append-nil ls);
-  made = λ names fits holds. record {
+  numbered = refl;
+  made = λ names fits knows. record {
     fits = within names fits;
     locals = All-nil (IsLocal names);
-    declared = All-nil (IsDeclared names);
-    statements = λ result c. All-nil (IsWellFormed names result c);
+    statements = λ objects result c. All-nil (IsWellFormed objects result names c);
   };
 }
 
-there_is : (names : Names) (n : ℕ) (type : ObjectType) → IsHeld names (refs.Local n) type → IsDeclared names (refs.Local n)
-there_is names n type held = subst IsThere (sym held.object) tt
+-- one more number
+numbers_pushed : (first count : ℕ) → numbers_from first count ++ refs.Local (first + count) ∷ [] ≡ numbers_from first (suc count)
+numbers_pushed first zero = ap (λ n. refs.Local n ∷ []) (omega arith)
+numbers_pushed first (suc count) =
+    ap (λ rs. refs.Local first ∷ rs)
+    (ap (λ n. numbers_from (suc first) count ++ refs.Local n ∷ []) (omega arith) ∙ numbers_pushed (suc first) count)
 
 module _ (s : Scope) (ls : List LocalTree) (o : Opened) (opened : Opens s ls o) (item : ItemTree) where
   abbrev number : VarRef
@@ -60,39 +66,51 @@ module _ (s : Scope) (ls : List LocalTree) (o : Opened) (opened : Opens s ls o) 
   abbrev local : ObjectType → Start → LocalTree
   local type start = record { name = item.name; object_type = type; values = start.values }
 
+  -- its number is behind those of the block so far
+  many : length o.locals ≡ length ls + length opened.others
+  many = ap length opened.grown ∙ length-append ls opened.others
+
   -- names that know the object, and the scope with it
-  record Knows (type : ObjectType) (names : Names) : Type 0 where
+  record Sees (type : ObjectType) (names : Names) : Type 0 where
     fits : Fits names (seen type)
-    held : IsHeld names number type
+    held : IsHeld names (length o.locals) type
 
   module _ (type : ObjectType) (object : IsObjectType (cell_count type) (cell_kind type)) where
-    known : (names : Names) → Fits names o.scope → IsHeld names number type → Knows type names
-    known names fits held = record {
-      fits = fits_with_object names o.scope item.name number type object.is_type tt held fits;
-      held = held;
-    }
+    sees : (names : Names) → Fits names o.scope → IsHeld names (length o.locals) type → Sees type names
+    sees names fits held = record { fits = fits_with_object names o.scope item.name (length o.locals) type object.is_type held fits; held = held }
 
-    module _ (start : Start) (starts : (names : Names) → Knows type names → IsStart names type start) where
-      placed_object : (names : Names) → Fits names s → Holds (o.locals ++ local type start ∷ []) names
-          → AreOpened names (opened.others ++ local type start ∷ []) (placed o (seen type) item.name number type start)
-      placed_object names fits holds =
-          let before : AreOpened names opened.others o =
-          opened.made names fits (holds_first names (o.locals ++ local type start ∷ []) o.locals (local type start ∷ []) refl holds) in
-          let held : IsHeld names number type = held_last names o.locals (local type start) holds in
-          let knows : Knows type names = known names before.fits held in
-          let it : IsStart names type start = starts names knows in
+    module _ (start : Start) (starts : (names : Names) → Sees type names → IsStart names type start) where
+      abbrev others : List LocalTree
+      others = opened.others ++ local type start ∷ []
+
+      numbered : o.declared ++ number ∷ [] ≡ numbers_from (length ls) (length others)
+      numbered =
+          let longer : suc (length opened.others) ≡ length others = omega (arith, length-append opened.others (local type start ∷ [])) in
+          ap (λ rs. rs ++ number ∷ []) opened.numbered
+          ∙ ap (λ n. numbers_from (length ls) (length opened.others) ++ refs.Local n ∷ []) many
+          ∙ numbers_pushed (length ls) (length opened.others)
+          ∙ ap (numbers_from (length ls)) longer
+
+      placed_object : (names : Names) → Fits names s → Knows names (length ls) others → AreOpened names others (placed o (seen type) item.name number type start)
+      placed_object names fits knows =
+          let before : AreOpened names opened.others o = opened.made names fits (knows_first names (length ls) opened.others (local type start ∷ []) knows) in
+          let held : IsHeld names (length o.locals) type =
+          subst (λ n. IsHeld names n type) (sym many) (held_last names (length ls) opened.others (local type start) knows) in
+          let now : Sees type names = sees names before.fits held in
+          let it : IsStart names type start = starts names now in
           record {
-            fits = knows.fits;
+            fits = now.fits;
             locals = All-push (IsLocal names) opened.others (local type start) before.locals
                 (record { is_type = object.is_type; from_one = object.from_one; most = object.most; within = it.within; starts = it.starts });
-            declared = All-push (IsDeclared names) o.declared number before.declared (there_is names (length o.locals) type held);
-            statements = λ result c. All-append (IsWellFormed names result c) o.statements start.statements (before.statements result c) (it.statements result c);
+            statements = λ objects result c.
+                All-append (IsWellFormed objects result names c) o.statements start.statements (before.statements objects result c) (it.statements objects result c);
           }
 
       placed_opens : Opens s ls (placed o (seen type) item.name number type start)
       placed_opens = record {
-        others = opened.others ++ local type start ∷ [];
+        others = others;
         grown = ap (λ l. l ++ local type start ∷ []) opened.grown ∙ append_assoc ls opened.others (local type start ∷ []);
+        numbered = numbered;
         made = placed_object;
       }
 
@@ -103,7 +121,8 @@ module _ (s : Scope) (ls : List LocalTree) (o : Opened) (opened : Opens s ls o) 
   declared_opens (declares.Function type) i function typed = unless (is_some item.initial) _ _ _ λ none. broken _ item.at
   declared_opens (declares.Object type) i object typed =
       behind (started number type item.at i) _
-      (for_all {F = Knows type} (started number type item.at i) (λ names knows. typed_start names number item.at type i object.is_type knows.held (typed names knows.fits)))
+      (for_all {F = Sees type} (started number type item.at i)
+      (λ names now. typed_start names (length o.locals) item.at type i object.is_type now.held (typed names now.fits)))
       λ start starts. is _ (placed_opens type object start starts)
 
   item_opens : (b : Base) → Gives (Opens s ls) (block_item o b item)

@@ -1,7 +1,8 @@
 -- What the names in scope stand for while a body is typed, where its objects are numbered together, and what an outcome gives.
-use Rattle.std.proofs.Common.{◌≡◌, ◌≤◌, ℕ, refl, subst, false, true, Bool, List, map, length, slice_get, Option, Some, None}
+use Rattle.std.proofs.Common.{◌≡◌, ◌≤◌, ℕ, zero, suc, refl, subst, false, true, Bool, List, [], ◌∷◌, map, length, slice_get, Option, Some, None}
 use Rattle.std.specs.Prelude.{⊤, All}
 use Rattle.c_tree.specs.declared.program.Initial.{Initial}
+use Rattle.c_tree.specs.declared.program.VarRef.{VarRef}
 use Rattle.c_tree.specs.declared.program.VarRef.TheVariants as refs
 use Rattle.c_types.specs.declared.meaning.Meaning.{Meaning}
 use Rattle.c_types.specs.declared.meaning.Meaning.TheVariants as meanings
@@ -63,9 +64,19 @@ abbrev pub Fits : Names → Scope → Type 0
 Fits names s = (name : List ℕ) (m : Meaning) → s.meaning name ≡ Some m → IsMeaning names (number_of s name) m
 
 -- the objects of a function so far are those of these numbers
-pub record Holds (locals : List LocalTree) (names : Names) : Type 0 where
-  pub object : (n : ℕ) (l : LocalTree) → slice_get locals n ≡ Some l → names.object (refs.Local n) ≡ Some (shape_of l.object_type)
+pub record Holds (locals : List LocalTree) (objects : VarRef → Option Shape) (names : Names) : Type 0 where
+  pub object : (n : ℕ) (l : LocalTree) → slice_get locals n ≡ Some l → objects (refs.Local n) ≡ Some (shape_of l.object_type)
   pub filled : (n : ℕ) (l : LocalTree) → slice_get locals n ≡ Some l → is_single l.object_type ≡ false → names.is_filled n ≡ true
+
+-- names stand for these objects alone, and for no local object from a number on
+pub record Lies (names : Names) (objects : VarRef → Option Shape) (first : ℕ) : Type 0 where
+  pub within : (v : VarRef) (shape : Shape) → names.object v ≡ Some shape → objects v ≡ Some shape
+  pub below : (k : ℕ) → first ≤ k → names.object (refs.Local k) ≡ None
+
+-- so many objects, by their numbers from one on
+abbrev pub numbers_from : ℕ → ℕ → List VarRef
+numbers_from first zero = []
+numbers_from first (suc count) = refs.Local first ∷ numbers_from (suc first) count
 
 -- an object of this type with this list, where these are the statics
 pub record IsStored (static : ℕ → Option Shape) (type : ObjectType) (values : List Initial) : Type 0 where

@@ -7,18 +7,17 @@ use Rattle.c_tree.specs.declared.operator.UnaryOp.TheVariants as unary_op
 use Rattle.c_tree.specs.SyntaxTree as tree
 use Rattle.c_tree.specs.SyntaxTree.{Expression, ExpressionForm, Expressions, no_argument, argument}
 use Rattle.c_tree.specs.TypedTree.{Expr}
-use Rattle.c_tree.specs.Eval.{kind_of}
 use Rattle.c_tree.specs.Uses.{list_uses}
 use Rattle.c_tree.specs.declared.uses.Use.TheVariants.{Call}
 use Rattle.c_types.specs.declared.meaning.Meaning.{Meaning}
 use Rattle.c_types.specs.declared.meaning.Meaning.TheVariants as meanings
 use Rattle.c_types.specs.declared.meaning.ObjectType.TheVariants.{Single, Array}
 use Rattle.c_types.specs.Outcome.{Outcome, ◌>>=◌}
-use Rattle.c_types.specs.Kinds.{is_void, class_of}
+use Rattle.c_types.specs.Kinds.{is_void}
 use Rattle.c_types.specs.Operands.{Operand, stepped_after, stepped_before, assigned, assigned_by, passed}
 use Rattle.c_types.specs.Scopes.{Scope, is_in, is_out}
-use Rattle.c_types.specs.Typing.{type_named, named_as, named, number_of, called, array_length, prefixed, is_address, takes_address, of_object, as_constant, word_at, operand}
-use Rattle.c_types.specs.Typing.{typing, typing_form, operands, typing_input, typing_output}
+use Rattle.c_types.specs.Typing.{type_named, named_as, named, number_of, called, array_length, prefixed, is_address, takes_address, of_object, word_at, operand, Arguments, Operands, NoPort, Port, arguments_from, call_of}
+use Rattle.c_types.specs.Typing.{typing, typing_form, operands, port_arguments, constant_typing}
 use Rattle.c_types.proofs.Formed.Context.{Gives, is, broken, behind, unless}
 use Rattle.c_types.proofs.Formed.GivesLemmas.{anything, one_of}
 use Rattle.c_types.proofs.Formed.CountedUses.{addresses_joined}
@@ -48,6 +47,22 @@ called_few f (Some (meanings.Function type)) at xs =
     behind (passed type.parameters at xs) _ (passed_few type.parameters at xs) λ es few.
     is _ (omega (arith, few, addresses_joined (list_uses es) (Call f at ∷ [])))
 
+-- a call, whose arguments take this many
+abbrev taken_by : Arguments → ℕ
+taken_by (Operands xs) = all_taken xs
+taken_by NoPort = 0
+taken_by (Port class port xs) = all_taken xs
+
+arguments_few : (n : ℕ) (name : List ℕ) (port : Outcome Arguments) (xs : Outcome (List Operand)) → Gives (λ a. taken_by a ≤ n) port
+    → Gives (λ xs. all_taken xs ≤ n) xs → Gives (λ a. taken_by a ≤ n) (arguments_from name port xs)
+arguments_few n name port xs first second = one_of (is_in name || is_out name) _ _ first (behind xs _ second λ xs few. is _ few)
+
+call_of_few : (s : Scope) (name : List ℕ) (at : ℕ) (a : Arguments) → Takes (taken_by a) (call_of s name at a)
+call_of_few s name at (Operands xs) = called_few (number_of s name) (s.meaning name) at xs
+call_of_few s name at NoPort = broken _ _
+call_of_few s name at (Port class port xs) =
+    one_of (is_in name) _ _ (at_most 0 _ (omega arith) (input_few at class port xs)) (output_few at class port xs)
+
 -- operators before an operand
 prefixed_few : (o : PrefixOp) (is_array : Bool) (at : ℕ) (x : Expr) → Takes (suc (taken x)) (prefixed o is_array at x)
 prefixed_few prefix.Address is_array at x = address_few at x is_array
@@ -76,11 +91,9 @@ module _ (s : Scope) where
         behind (typing s a) _ (expression_few a) λ x first.
         behind (typing s b) _ (expression_few b) λ y second.
         at_most (taken x + taken y) _ (omega (arith, first, second)) (indexed_few at x y)
-    form_few (tree.Call name arguments) at =
-        one_of (is_in name) _ _ (at_most (arguments_weight code arguments) _ (omega arith) (input_of_few arguments at))
-        (one_of (is_out name) _ _ (at_most (arguments_weight code arguments) _ (omega arith) (output_of_few arguments at))
-        (behind (operands s arguments) _ (operands_few arguments) λ xs few.
-        at_most (all_taken xs) _ (omega (arith, few)) (called_few (number_of s name) (s.meaning name) at xs)))
+    form_few (tree.Call name es) at =
+        behind (arguments_from name (port_arguments s es) (operands s es)) _ (arguments_few _ name _ _ (port_few es) (operands_few es)) λ a few.
+        at_most (taken_by a) _ (omega (arith, few)) (call_of_few s name at a)
     form_few (tree.StepAfter up a) at =
         behind (typing s a) _ (expression_few a) λ x first.
         of_object_few _ (is_address a) at (stepped_after up at x) (at_most (taken x) _ (omega (arith, first)) (stepped_after_few at x up))
@@ -138,17 +151,9 @@ module _ (s : Scope) where
         behind (typing s e) _ (expression_few e) λ x first.
         behind (operands s rest) _ (operands_few rest) λ xs others. is _ (omega (arith, first, others))
 
-    input_of_few : (es : Expressions) (at : ℕ) → Takes (arguments_weight code es) (typing_input s es at)
-    input_of_few no_argument at = broken _ _
-    input_of_few (argument e rest) at =
-        behind (as_constant e (typing s e)) _ (anything _) λ x known.
+    port_few : (es : Expressions) → Gives (λ a. taken_by a ≤ arguments_weight code es) (port_arguments s es)
+    port_few no_argument = is _ (omega arith)
+    port_few (argument e rest) =
+        behind (constant_typing s e) _ (anything _) λ x known.
         behind (word_at e x) _ (anything _) λ port word.
-        behind (operands s rest) _ (operands_few rest) λ xs others. at_most 0 _ (omega arith) (input_few at (class_of (kind_of x)) port xs)
-
-    output_of_few : (es : Expressions) (at : ℕ) → Takes (arguments_weight code es) (typing_output s es at)
-    output_of_few no_argument at = broken _ _
-    output_of_few (argument e rest) at =
-        behind (as_constant e (typing s e)) _ (anything _) λ x known.
-        behind (word_at e x) _ (anything _) λ port word.
-        behind (operands s rest) _ (operands_few rest) λ xs others.
-        at_most (all_taken xs) _ (omega (arith, others)) (output_few at (class_of (kind_of x)) port xs)
+        behind (operands s rest) _ (operands_few rest) λ xs others. is _ (omega (arith, others))

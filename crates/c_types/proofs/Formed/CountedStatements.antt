@@ -21,7 +21,7 @@ use Rattle.c_types.specs.declared.meaning.ObjectType.TheVariants.{Single, Array}
 use Rattle.c_types.specs.Kinds.{is_void, class_of}
 use Rattle.c_types.specs.Operands.{Operand, given, is_integer}
 use Rattle.c_types.specs.Scopes.{Scope, open_scope, is_taken}
-use Rattle.c_types.specs.Typing.{plain, typing, operand, as_constant, word_at}
+use Rattle.c_types.specs.Typing.{plain, typing, operand, constant_typing, word_at}
 use Rattle.c_types.specs.Declarations.{declarator, entries, listed}
 use Rattle.c_types.specs.Statements.{LocalTree, Initialiser, Absent, Value, Listed, Misbraced, all_typed, initialiser, is_array, Start, started, Opened, opened_in}
 use Rattle.c_types.specs.Statements.{with_object, declared_as, block_item, block_items, declarations, before, optional, is_void_test, returned}
@@ -222,7 +222,7 @@ module _ (result : Kind) where
         → Gives (λ r. choices_taken r ≤ arrays ls + choices_weight code cs) (typed_choices result s c ls cs)
     choices_few s c ls no_choice = is _ (omega arith)
     choices_few s c ls (case_label e rest) =
-        behind (as_constant e (typing s e)) _ (anything _) λ x label.
+        behind (constant_typing s e) _ (anything _) λ x label.
         behind (word_at e x) _ (anything _) λ w word.
         behind (typed_choices result s c ls rest) _ (choices_few s c ls rest) λ r others. is _ (omega (arith, others))
     choices_few s c ls (default_label rest) = behind (typed_choices result s c ls rest) _ (choices_few s c ls rest) λ r others. is _ others

@@ -18,7 +18,7 @@ use Rattle.c_types.specs.Kinds.{starred}
 use Rattle.c_types.specs.Operands.{address_kind}
 use Rattle.c_types.specs.Programs.{cell_kind, cell_count}
 use Rattle.c_types.specs.Scopes.{Scope, open_scope}
-use Rattle.c_types.specs.Typing.{plain, typing, as_constant, word_at}
+use Rattle.c_types.specs.Typing.{plain, constant_typing, word_at}
 use Rattle.c_types.specs.Declarations.{length_within, typed_length, listed_length, single, array, prototype, declarator}
 use Rattle.c_types.specs.Declarations.{parameter_kind, is_bad_length, is_name_taken, lacks_name, parameter, with_single, parameters}
 use Rattle.c_tree.specs.Kinds.{IsType, IsKind}
@@ -61,7 +61,7 @@ length_in n = length_as (n == 0) (nat_lt 32767 n) n (above_zero n) (ltb-false 32
 
 length_typed : (s : Scope) (e : Expression) → Gives IsLength (typed_length s e)
 length_typed s e =
-    behind (as_constant e (typing s e)) _ (anything _) λ x constant.
+    behind (constant_typing s e) _ (anything _) λ x constant.
     behind (word_at e x) _ (anything _) λ w word. is (length_within w) (length_in w)
 
 length_listed : (i : Option InitialTree) → IsLength (listed_length i)

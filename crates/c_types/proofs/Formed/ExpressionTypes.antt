@@ -41,7 +41,7 @@ module _ (names : Names) where
   module _ (s : Scope) (fits : Fits names s) where
     pub typed_entry : (e : Expression) → Gives (IsEntry names) (entry s e)
     typed_entry e =
-        behind _ _ (constant_kept e (typing s e) (together (typing s e) (typed_expression names s fits e) (known_value names s fits e)))
+        behind _ _ (constant_kept s e (together (typing s e) (typed_expression names s fits e) (known_value names s fits e)))
         (λ x known. behind _ _ (if_there NotConstant (place e) (static_value s e x) known.1) (λ i starts. is _ (record { typed = known.0; starts = starts })))
 
     pub typed_entries : (es : List Expression) → Gives (All (IsEntry names)) (entries s es)

@@ -3,15 +3,17 @@ use Rattle.std.proofs.Common.{◌≡◌, ℕ, not, refl, List, [], slice_get, Op
 use Rattle.std.proofs.lemmas.List.Elements.{All-weaker}
 use Rattle.std.proofs.lemmas.Option.{none-some, same_Some}
 use Rattle.c_tree.specs.TypedTree.{Break}
+use Rattle.c_tree.specs.declared.program.VarRef.{VarRef}
 use Rattle.c_tree.specs.declared.program.VarRef.TheVariants as refs
 use Rattle.c_types.specs.declared.meaning.Meaning.{Meaning}
 use Rattle.c_types.specs.declared.meaning.Meaning.TheVariants as meanings
 use Rattle.c_types.specs.declared.meaning.FunctionType.{FunctionType}
 use Rattle.c_types.specs.Typing.{number_of}
 use Rattle.c_types.specs.Units.{StaticTree, TypedFunction, File}
-use Rattle.c_tree.specs.WellFormed.{Signature}
+use Rattle.c_tree.specs.WellFormed.{Shape, Signature}
 use Rattle.c_types.proofs.Formed.Context.{Fits, Holds, IsMeaning, signature_of}
-use Rattle.c_types.proofs.Formed.FileContext.{local_shape, signature, is_array, names_in, IsTypedFunction, IsStatic, IsTypedFile}
+use Rattle.c_types.proofs.Formed.OpenedNames.{Suits}
+use Rattle.c_types.proofs.Formed.FileContext.{local_shape, object_in, static_names, signature, is_array, names_in, IsTypedFunction, IsStatic, IsTypedFile}
 use Rattle.c_types.proofs.Formed.FileSoFar.{at_place, Stands, IsStaticIn, IsFunctionIn, IsFileSoFar}
 use Rattle.c_types.proofs.Formed.BodyNumbers.{place_of, function_named}
 
@@ -46,19 +48,28 @@ module _ (file : File) (known : IsFileSoFar [] file) where
     names_fit : Fits (names_in file f) file.scope
     names_fit name m there = meaning_fits name m there (known.names name m there)
 
-    locals_held : Holds f.locals (names_in file f)
+    locals_held : Holds f.locals (object_in file f) (names_in file f)
     locals_held = record {
       object = λ n l there. ap local_shape there;
       filled = λ n l there array. ap is_array there ∙ ap not array;
     }
+
+    -- what is known everywhere: statics alone
+    statics_lie : (v : VarRef) (shape : Shape) → static_names file v ≡ Some shape → object_in file f v ≡ Some shape
+    statics_lie (refs.Scalar n) shape there = there
+    statics_lie (refs.Local n) shape there = absurd (none-some shape there)
+    statics_lie (refs.Static n) shape there = there
+
+    names_suit : Suits file.scope f.locals 0 (object_in file f) (names_in file f)
+    names_suit = record { fits = names_fit; holds = locals_held; lies = record { within = statics_lie; below = λ k low. refl } }
 
     typed_function : IsFunctionIn file.scope f → IsTypedFunction file f
     typed_function right = record {
       result = right.kind;
       parameters = right.within;
       single = right.single;
-      locals = right.locals (names_in file f) names_fit locals_held;
-      tree = right.tree (names_in file f) names_fit locals_held;
+      locals = right.locals (object_in file f) (names_in file f) names_suit;
+      tree = right.tree (object_in file f) (names_in file f) names_suit;
     }
 
   -- an object has the names of any function

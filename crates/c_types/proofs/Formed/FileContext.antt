@@ -9,8 +9,8 @@ use Rattle.c_types.specs.Programs.{cell_kind, is_single}
 use Rattle.c_types.specs.Statements.{LocalTree}
 use Rattle.c_types.specs.Units.{StaticTree, TypedFunction, File}
 use Rattle.c_tree.specs.Kinds.{IsKind}
-use Rattle.c_tree.specs.WellFormed.{Shape, Signature, Names, IsWellFormed}
-use Rattle.c_types.proofs.Formed.Context.{shape_of, IsStored, IsLocal}
+use Rattle.c_tree.specs.WellFormed.{Shape, Signature, Names, IsWellFormed, opened}
+use Rattle.c_types.proofs.Formed.Context.{shape_of, IsStored, IsLocal, numbers_from}
 
 -- objects
 abbrev pub local_shape : Option LocalTree → Option Shape
@@ -25,6 +25,12 @@ abbrev pub object_in : File → TypedFunction → VarRef → Option Shape
 object_in file f (refs.Scalar n) = None
 object_in file f (refs.Local n) = local_shape (slice_get f.locals n)
 object_in file f (refs.Static n) = static_shape (slice_get file.statics n)
+
+-- what is known everywhere: statics
+abbrev pub static_names : File → VarRef → Option Shape
+static_names file (refs.Scalar n) = None
+static_names file (refs.Local n) = None
+static_names file (refs.Static n) = static_shape (slice_get file.statics n)
 
 -- the first objects of a function are its parameters
 abbrev pub local_kind : LocalTree → Kind
@@ -41,7 +47,7 @@ is_array (Some l) = not (is_single l.object_type)
 
 abbrev pub names_in : File → TypedFunction → Names
 names_in file f = record {
-  object = object_in file f;
+  object = static_names file;
   function = λ n. signature (slice_get file.functions n);
   is_filled = λ n. is_array (slice_get f.locals n);
 }
@@ -51,7 +57,7 @@ pub record IsTypedFunction (file : File) (f : TypedFunction) : Type 0 where
   pub parameters : f.parameters ≤ length f.locals
   pub single : All (λ l. is_single l.object_type ≡ true) (take f.parameters f.locals)
   pub locals : All (IsLocal (names_in file f)) f.locals
-  pub tree : IsWellFormed (names_in file f) f.result around.Body f.body
+  pub tree : IsWellFormed (object_in file f) f.result (opened (object_in file f) (numbers_from 0 f.parameters) (names_in file f)) around.Body f.body
 
 abbrev pub IsStatic : File → StaticTree → Type 0
 IsStatic file o = IsStored (λ n. static_shape (slice_get file.statics n)) o.object_type (unwrap_or o.initial [])

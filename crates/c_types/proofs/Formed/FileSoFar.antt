@@ -8,6 +8,7 @@ use Rattle.std.proofs.lemmas.List.Elements.{All-nil, All-weaker}
 use Rattle.std.proofs.lemmas.Option.{none-some, same_Some, get_or_from_slice_get, slice_get_within}
 use Rattle.std.proofs.lemmas.Slice.Eq.{bytes_eq-Decides}
 use Rattle.c_tree.specs.SyntaxTree.{UnitTree}
+use Rattle.c_tree.specs.declared.program.VarRef.{VarRef}
 use Rattle.c_tree.specs.declared.program.VarRef.TheVariants as refs
 use Rattle.c_tree.specs.declared.enclosing.Enclosing.TheVariants as around
 use Rattle.c_types.specs.declared.meaning.Meaning.{Meaning}
@@ -15,11 +16,13 @@ use Rattle.c_types.specs.declared.meaning.Meaning.TheVariants as meanings
 use Rattle.c_types.specs.declared.meaning.FunctionType.{FunctionType}
 use Rattle.c_types.specs.Programs.{cell_kind, is_single}
 use Rattle.c_types.specs.Scopes.{Scope, declare}
+use Rattle.c_types.specs.Statements.{LocalTree}
 use Rattle.c_types.specs.Typing.{number_of}
 use Rattle.c_types.specs.Units.{StaticTree, TypedFunction, File, bodies_behind, empty_file}
 use Rattle.c_tree.specs.Kinds.{IsType, IsKind}
-use Rattle.c_tree.specs.WellFormed.{Names, IsWellFormed}
-use Rattle.c_types.proofs.Formed.Context.{shape_of, Fits, IsMeaning, Holds, IsStored, IsLocal, static_in}
+use Rattle.c_tree.specs.WellFormed.{Shape, Names, IsWellFormed, opened}
+use Rattle.c_types.proofs.Formed.Context.{shape_of, Fits, IsMeaning, IsStored, IsLocal, static_in, numbers_from}
+use Rattle.c_types.proofs.Formed.OpenedNames.{Suits}
 use Rattle.c_types.proofs.Formed.FileContext.{static_shape, local_kind}
 
 -- what holds of all of a list holds at a place
@@ -46,8 +49,9 @@ pub record IsFunctionIn (s : Scope) (f : TypedFunction) : Type 0 where
   pub parameters : map local_kind (take f.parameters f.locals) ≡ map Some type.parameters
   pub within : f.parameters ≤ length f.locals
   pub single : All (λ l. is_single l.object_type ≡ true) (take f.parameters f.locals)
-  pub locals : (names : Names) → Fits names s → Holds f.locals names → All (IsLocal names) f.locals
-  pub tree : (names : Names) → Fits names s → Holds f.locals names → IsWellFormed names f.result around.Body f.body
+  pub locals : (objects : VarRef → Option Shape) (names : Names) → Suits s f.locals 0 objects names → All (IsLocal names) f.locals
+  pub tree : (objects : VarRef → Option Shape) (names : Names) → Suits s f.locals 0 objects names
+      → IsWellFormed objects f.result (opened objects (numbers_from 0 f.parameters) names) around.Body f.body
 
 -- the names of functions
 abbrev pub function_names : List TypedFunction → List (List ℕ)
@@ -84,6 +88,9 @@ module _ (s t : Scope) (grows : Grows s t) where
       let same : number_of t name ≡ number_of s name = ap (position_or_len (λ body. bytes_eq body name)) grows.bodies in
       subst (λ n. IsMeaning names n m) same (fits name m (grows.kept name m there))
 
+  suits_fewer : (all : List LocalTree) (objects : VarRef → Option Shape) (names : Names) → Suits t all 0 objects names → Suits s all 0 objects names
+  suits_fewer all objects names suits = record { fits = fits_fewer names suits.fits; holds = suits.holds; lies = suits.lies }
+
   pub static_kept : (o : StaticTree) → IsStaticIn s o → IsStaticIn t o
   static_kept o known names fits = known names (fits_fewer names fits)
 
@@ -96,8 +103,8 @@ module _ (s t : Scope) (grows : Grows s t) where
     parameters = known.parameters;
     within = known.within;
     single = known.single;
-    locals = λ names fits holds. known.locals names (fits_fewer names fits) holds;
-    tree = λ names fits holds. known.tree names (fits_fewer names fits) holds;
+    locals = λ objects names suits. known.locals objects names (suits_fewer f.locals objects names suits);
+    tree = λ objects names suits. known.tree objects names (suits_fewer f.locals objects names suits);
   }
 
 -- a file with more names and objects

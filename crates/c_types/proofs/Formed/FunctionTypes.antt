@@ -1,10 +1,11 @@
 -- What a function's objects and its type are once each object has its number among its own kind.
-use Rattle.std.proofs.Common.{◌≡◌, ◌≤◌, ◌<◌, ◌⊎◌, inl, inr, ◌∷◌, [], ℕ, suc, zero, true, false, ◌||◌, not, List, take, length, slice_get, Option, Some, None, ap, ◌∙◌, sym, refl, subst, true≢false, arith}
-use Rattle.std.specs.Prelude.{All, unwrap_or, option_map, ◌==◌}
+use Rattle.std.proofs.Common.{◌≡◌, ◌≤◌, ◌<◌, ◌⊎◌, inl, inr, ◌∷◌, [], ◌+◌, ℕ, suc, zero, true, false, ◌||◌, not, List, map, take, length, slice_get, Option, Some, None, ap, ◌∙◌, sym, refl, subst, true≢false, arith}
+use Rattle.std.specs.Prelude.{All, AllPairs, ◌≢◌, unwrap_or, option_map, ◌==◌}
 use Rattle.std.proofs.Math.Bool.{or-true}
+use Rattle.std.proofs.Math.Seq.{take-length}
 use Rattle.std.proofs.lemmas.Bool.{lt-ltb, eq-eqb}
 use Rattle.std.proofs.lemmas.List.Elements.{All-cons, All-nil, All-head, All-tail}
-use Rattle.std.proofs.lemmas.Option.{slice_get-map, slice_get_within, slice_get_past}
+use Rattle.std.proofs.lemmas.Option.{slice_get-map, slice_get_within, slice_get_past, get_or_from_slice_get}
 use Rattle.c_tree.specs.declared.program.VarRef.{VarRef}
 use Rattle.c_tree.specs.declared.program.VarRef.TheVariants as refs
 use Rattle.c_types.specs.declared.meaning.ObjectType.{ObjectType}
@@ -16,13 +17,14 @@ use Rattle.c_types.specs.Renumbering as by
 use Rattle.c_types.specs.Statements.{LocalTree}
 use Rattle.c_types.specs.Units.{StaticTree, TypedFunction, File}
 use Rattle.c_tree.specs.Uses.{statement_uses}
-use Rattle.c_tree.specs.WellFormed.{Shape, Names, IsAddressable, IsDeclared, IsThere}
+use Rattle.c_tree.specs.WellFormed.{Shape, Names, IsAddressable, IsAutomatic, IsThere, opened}
 use Rattle.c_tree.specs.WellFormedProgram as whole
 use Rattle.c_tree.specs.WellFormedProgram.{IsParameter, parameter_kind, names_of, scalar_shape, object_shape, object_kind}
-use Rattle.c_types.proofs.Formed.Context.{shape_of}
-use Rattle.c_types.proofs.Formed.FileContext.{names_in, local_shape, static_shape, local_kind, signature, is_array}
-use Rattle.c_types.proofs.Formed.FrameTypes.{IsPlaced, placed, frame_length, same_taken}
-use Rattle.c_types.proofs.Formed.RenumberedTypes.{Carries, HaveAddresses}
+use Rattle.c_types.proofs.Formed.Context.{shape_of, numbers_from}
+use Rattle.c_types.proofs.Formed.FileContext.{names_in, object_in, static_names, local_shape, static_shape, local_kind, signature, is_array}
+use Rattle.c_types.proofs.Formed.FrameTypes.{IsPlaced, placed, frame_differs, frame_length, same_taken}
+use Rattle.c_types.proofs.Formed.RenumberedNames.{Renumbers, Carries, opened_carries}
+use Rattle.c_types.proofs.Formed.RenumberedTypes.{HaveAddresses}
 
 -- an object of a function as a frame scalar, and as an object in memory
 record InFrame (f : TypedFunction) (k : ℕ) (l : LocalTree) : Type 0 where
@@ -58,31 +60,101 @@ single_count : (t : ObjectType) → is_single t ≡ true → cell_count t ≡ 1
 single_count (Single kind) single = refl
 single_count (Array kind n) single = absurd (cc single)
 
-pub static_carried : (o : Option StaticTree) → object_shape (option_map static_object o) ≡ static_shape o
+static_carried : (o : Option StaticTree) → object_shape (option_map static_object o) ≡ static_shape o
 static_carried None = refl
 static_carried (Some o) = refl
 
+pub static_kept : (file : File) (n : ℕ) → whole.static_in (program_tree file) n ≡ static_shape (slice_get file.statics n)
+static_kept file n = ap object_shape (slice_get-map static_object file.statics n) ∙ static_carried (slice_get file.statics n)
+
+-- no object is called what another is
+one_place : (rs : List VarRef) → AllPairs (λ a b. a ≢ b) rs → (i j : ℕ) (r : VarRef) → slice_get rs i ≡ Some r → slice_get rs j ≡ Some r → i ≡ j
+one_place [] differ i j r first second = absurd (cc first)
+one_place (s ∷ rs) differ zero zero r first second = refl
+one_place (s ∷ rs) differ zero (suc j) r first second =
+    let same : s ≡ r = cc first
+    in let below : j < length rs = slice_get_within rs j r second
+    in absurd (differ 0 (suc j) r (omega arith) (omega (arith, below)) (same ∙ sym (get_or_from_slice_get rs j r r second)))
+one_place (s ∷ rs) differ (suc i) zero r first second =
+    let same : s ≡ r = cc second
+    in let below : i < length rs = slice_get_within rs i r first
+    in absurd (differ 0 (suc i) r (omega arith) (omega (arith, below)) (same ∙ sym (get_or_from_slice_get rs i r r first)))
+one_place (s ∷ rs) differ (suc i) (suc j) r first second =
+    ap suc (one_place rs (λ k l d less below. differ (suc k) (suc l) d (omega (arith, less)) (omega (arith, below))) i j r first second)
+
+all_differ : (f : TypedFunction) → AllPairs (λ a b. a ≢ b) (frame f)
+all_differ f = subst (AllPairs (λ a b. a ≢ b)) (take-length (frame f)) (frame_differs (statement_uses f.body) 0 0 0 (length (frame f)) f.locals)
+
+module _ (f : TypedFunction) where
+  named_in_frame : (k : ℕ) (l : LocalTree) → InFrame f k l ⊎ InMemory f k l → slice_get (frame f) k ≡ Some (by.numbered (frame f) k)
+  named_in_frame k l (inl is) = is.reference ∙ ap Some (sym (called f k (refs.Scalar is.number) is.reference))
+  named_in_frame k l (inr is) = is.reference ∙ ap Some (sym (called f k (refs.Local is.number) is.reference))
+
+  -- what an object is called is automatic
+  automatic_as : (k : ℕ) (l : LocalTree) → InFrame f k l ⊎ InMemory f k l → IsAutomatic (by.numbered (frame f) k)
+  automatic_as k l (inl is) = subst IsAutomatic (sym (called f k (refs.Scalar is.number) is.reference)) tt
+  automatic_as k l (inr is) = subst IsAutomatic (sym (called f k (refs.Local is.number) is.reference)) tt
+
+  is_automatic : (k : ℕ) (o : Option LocalTree) → slice_get f.locals k ≡ o → IsThere (local_shape o) → IsAutomatic (by.numbered (frame f) k)
+  is_automatic k None is there = absurd there
+  is_automatic k (Some l) is there = automatic_as k l (object_of f k l is)
+
+  one_local : (k m : ℕ) (o p : Option LocalTree) → slice_get f.locals k ≡ o → slice_get f.locals m ≡ p → IsThere (local_shape o) → IsThere (local_shape p)
+      → by.numbered (frame f) k ≡ by.numbered (frame f) m → k ≡ m
+  one_local k m None p first second there other same = absurd there
+  one_local k m (Some l) None first second there other same = absurd other
+  one_local k m (Some l) (Some n) first second there other same =
+      one_place (frame f) (all_differ f) k m (by.numbered (frame f) m) (named_in_frame k l (object_of f k l first) ∙ ap Some same) (named_in_frame m n (object_of f m n second))
+
 module _ (file : File) (f : TypedFunction) where
+  abbrev objects : VarRef → Option Shape
+  objects = object_in file f
+
+  abbrev later : VarRef → Option Shape
+  later = whole.object_in (program_tree file) (function_tree f)
+
   abbrev others : Names
   others = names_of (program_tree file) (function_tree f)
 
   -- an object in memory, and a frame scalar
-  object_carried : (k : ℕ) (l : LocalTree) → InFrame f k l ⊎ InMemory f k l → others.object (by.numbered (frame f) k) ≡ Some (shape_of l.object_type)
+  object_carried : (k : ℕ) (l : LocalTree) → InFrame f k l ⊎ InMemory f k l → later (by.numbered (frame f) k) ≡ Some (shape_of l.object_type)
   object_carried k l (inl is) =
-      ap others.object (called f k (refs.Scalar is.number) is.reference) ∙ ap scalar_shape is.kind
+      ap later (called f k (refs.Scalar is.number) is.reference) ∙ ap scalar_shape is.kind
       ∙ ap (λ n. Some (record { kind = cell_kind l.object_type; length = n })) (sym (single_count l.object_type is.single))
-  object_carried k l (inr is) = ap others.object (called f k (refs.Local is.number) is.reference) ∙ ap object_shape is.object
+  object_carried k l (inr is) = ap later (called f k (refs.Local is.number) is.reference) ∙ ap object_shape is.object
 
   local_carried : (k : ℕ) (o : Option LocalTree) (shape : Shape) → slice_get f.locals k ≡ o → local_shape o ≡ Some shape
-      → others.object (by.numbered (frame f) k) ≡ Some shape
+      → later (by.numbered (frame f) k) ≡ Some shape
   local_carried k None shape there is = absurd (cc is)
   local_carried k (Some l) shape there is = object_carried k l (object_of f k l there) ∙ is
 
-  carried : (r : VarRef) (shape : Shape) → (names_in file f).object r ≡ Some shape → others.object (by.renumbered (frame f) r) ≡ Some shape
+  carried : (v : VarRef) (shape : Shape) → objects v ≡ Some shape → later (by.renumbered (frame f) v) ≡ Some shape
   carried (refs.Scalar n) shape is = absurd (cc is)
   carried (refs.Local n) shape is = local_carried n (slice_get f.locals n) shape refl is
-  carried (refs.Static n) shape is =
-      ap object_shape (slice_get-map static_object file.statics n) ∙ static_carried (slice_get file.statics n) ∙ is
+  carried (refs.Static n) shape is = static_kept file n ∙ is
+
+  still_automatic : (v : VarRef) → IsThere (objects v) → IsAutomatic v → IsAutomatic (by.renumbered (frame f) v)
+  still_automatic (refs.Scalar n) there is = is
+  still_automatic (refs.Local n) there is = is_automatic f n (slice_get f.locals n) refl there
+  still_automatic (refs.Static n) there is = is
+
+  no_static : (n : ℕ) (v : VarRef) → IsAutomatic v → v ≢ refs.Static n
+  no_static n (refs.Scalar m) is = λ same. absurd (cc same)
+  no_static n (refs.Local m) is = λ same. absurd (cc same)
+  no_static n (refs.Static m) is = absurd is
+
+  one_object : (v w : VarRef) → IsThere (objects v) → IsThere (objects w) → by.renumbered (frame f) v ≡ by.renumbered (frame f) w → v ≡ w
+  one_object (refs.Scalar m) w there other same = absurd there
+  one_object (refs.Local m) (refs.Scalar n) there other same = absurd other
+  one_object (refs.Local m) (refs.Local n) there other same = ap refs.Local (one_local f m n (slice_get f.locals m) (slice_get f.locals n) refl refl there other same)
+  one_object (refs.Local m) (refs.Static n) there other same = absurd (no_static n (by.numbered (frame f) m) (is_automatic f m (slice_get f.locals m) refl there) same)
+  one_object (refs.Static m) (refs.Scalar n) there other same = absurd other
+  one_object (refs.Static m) (refs.Local n) there other same =
+      absurd (no_static m (by.numbered (frame f) n) (is_automatic f n (slice_get f.locals n) refl other) (sym same))
+  one_object (refs.Static m) (refs.Static n) there other same = same
+
+  pub renumbers : Renumbers (frame f) objects later
+  renumbers = record { object = carried; automatic = still_automatic; one = one_object }
 
   -- an array is no frame scalar
   filled_as : (k : ℕ) (l : LocalTree) → InFrame f k l ⊎ InMemory f k l → not (is_single l.object_type) ≡ true
@@ -96,18 +168,36 @@ module _ (file : File) (f : TypedFunction) where
   array_carried k None there array = absurd (true≢false (sym array))
   array_carried k (Some l) there array = filled_as k l (object_of f k l there) array
 
-  declared_as : (k : ℕ) (l : LocalTree) → InFrame f k l ⊎ InMemory f k l → IsDeclared others (by.numbered (frame f) k)
-  declared_as k l (inl is) = subst (IsDeclared others) (sym (called f k (refs.Scalar is.number) is.reference)) (subst IsThere (sym (ap scalar_shape is.kind)) tt)
-  declared_as k l (inr is) = subst (IsDeclared others) (sym (called f k (refs.Local is.number) is.reference)) (subst IsThere (sym (ap object_shape is.object)) tt)
+  in_memory_as : (k : ℕ) (l : LocalTree) → InFrame f k l ⊎ InMemory f k l → not (is_single l.object_type) ≡ true
+      → by.numbered (frame f) k ≡ refs.Local (by.number_in (by.numbered (frame f) k))
+  in_memory_as k l (inl is) array = absurd (true≢false (sym array ∙ ap not is.single))
+  in_memory_as k l (inr is) array = subst (λ r. r ≡ refs.Local (by.number_in r)) (sym (called f k (refs.Local is.number) is.reference)) refl
 
-  there_carried : (k : ℕ) (o : Option LocalTree) → slice_get f.locals k ≡ o → IsThere (local_shape o) → IsDeclared others (by.numbered (frame f) k)
-  there_carried k None there is = absurd is
-  there_carried k (Some l) there is = declared_as k l (object_of f k l there)
+  array_in_memory : (k : ℕ) (o : Option LocalTree) → slice_get f.locals k ≡ o → is_array o ≡ true
+      → by.numbered (frame f) k ≡ refs.Local (by.number_in (by.numbered (frame f) k))
+  array_in_memory k None there array = absurd (true≢false (sym array))
+  array_in_memory k (Some l) there array = in_memory_as k l (object_of f k l there) array
 
-  declared_carried : (r : VarRef) → IsDeclared (names_in file f) r → IsDeclared others (by.renumbered (frame f) r)
-  declared_carried (refs.Scalar n) is = absurd is
-  declared_carried (refs.Local n) is = there_carried n (slice_get f.locals n) refl is
-  declared_carried (refs.Static n) is = absurd is
+  -- everywhere in a function its statics alone are known
+  static_kept_as : (v : VarRef) (shape : Shape) → static_names file v ≡ Some shape → others.object (by.renumbered (frame f) v) ≡ Some shape
+  static_kept_as (refs.Scalar n) shape is = absurd (cc is)
+  static_kept_as (refs.Local n) shape is = absurd (cc is)
+  static_kept_as (refs.Static n) shape is = static_kept file n ∙ is
+
+  static_within : (v : VarRef) (shape : Shape) → static_names file v ≡ Some shape → objects v ≡ Some shape
+  static_within (refs.Scalar n) shape is = absurd (cc is)
+  static_within (refs.Local n) shape is = absurd (cc is)
+  static_within (refs.Static n) shape is = is
+
+  unknown : (v : VarRef) → IsAutomatic v → others.object v ≡ None
+  unknown (refs.Scalar n) is = refl
+  unknown (refs.Local n) is = refl
+  unknown (refs.Static n) is = absurd is
+
+  still_unknown : (v : VarRef) → IsThere (objects v) → static_names file v ≡ None → others.object (by.renumbered (frame f) v) ≡ None
+  still_unknown (refs.Scalar n) there is = refl
+  still_unknown (refs.Local n) there is = unknown (by.numbered (frame f) n) (is_automatic f n (slice_get f.locals n) refl there)
+  still_unknown (refs.Static n) there is = static_kept file n ∙ is
 
 -- the type of a function is that of its parameters
 one_reference : (o : Option VarRef) (r s : VarRef) → o ≡ Some r → o ≡ Some s → r ≡ s
@@ -128,13 +218,50 @@ same_signature (Some f) =
     ap (λ kinds. Some (record { parameters = kinds; result = f.result }))
     (same_taken (parameter_kind (function_tree f)) local_kind f.parameters (frame f) f.locals (frame_length (statement_uses f.body) 0 0 0 f.locals) (parameter_carried f))
 
-pub all_carried : (file : File) (f : TypedFunction) → Carries (frame f) (names_in file f) (names_of (program_tree file) (function_tree f))
+all_carried : (file : File) (f : TypedFunction) → Carries (frame f) (object_in file f) (names_in file f) (names_of (program_tree file) (function_tree f))
 all_carried file f = record {
-  object = carried file f;
+  object = static_kept_as file f;
   function = λ n. ap whole.signature (slice_get-map function_tree file.functions n) ∙ same_signature (slice_get file.functions n);
   is_filled = λ n is. array_carried file f n (slice_get f.locals n) refl is;
-  declared = declared_carried file f;
+  in_memory = λ n is. array_in_memory file f n (slice_get f.locals n) refl is;
+  within = static_within file f;
+  new = still_unknown file f;
 }
+
+-- the parameters are the first objects
+first_named : (rs : List VarRef) (first m : ℕ) (rest : List VarRef) → ((k : ℕ) → slice_get rs (first + k) ≡ slice_get rest k) → m ≤ length rest
+    → map (by.renumbered rs) (numbers_from first m) ≡ take m rest
+first_named rs first zero rest each within = refl
+first_named rs first (suc m) [] each within = absurd (omega (arith, within))
+first_named rs first (suc m) (r ∷ rest) each within =
+    let here : slice_get rs first ≡ Some r = subst (λ n. slice_get rs n ≡ Some r) (omega arith) (each 0)
+    in let behind : (k : ℕ) → slice_get rs (suc first + k) ≡ slice_get rest k = λ k. subst (λ n. slice_get rs n ≡ slice_get rest k) (omega arith) (each (suc k))
+    in ap (λ o. unwrap_or o (refs.Local first) ∷ map (by.renumbered rs) (numbers_from (suc first) m)) here
+    ∙ ap (λ ts. r ∷ ts) (first_named rs (suc first) m rest behind (omega (arith, within)))
+
+local_there : (ls : List LocalTree) (k : ℕ) → k < length ls → IsThere (local_shape (slice_get ls k))
+local_there [] k below = absurd (omega (arith, below))
+local_there (l ∷ ls) zero below = tt
+local_there (l ∷ ls) (suc k) below = local_there ls k (omega (arith, below))
+
+first_there : (file : File) (f : TypedFunction) (first m : ℕ) → first + m ≤ length f.locals → All (λ v. IsThere (object_in file f v)) (numbers_from first m)
+first_there file f first zero within = All-nil (λ v. IsThere (object_in file f v))
+first_there file f first (suc m) within =
+    All-cons (λ v. IsThere (object_in file f v)) (refs.Local first) (numbers_from (suc first) m) (local_there f.locals first (omega (arith, within)))
+    (first_there file f (suc first) m (omega (arith, within)))
+
+-- the names in the body
+pub body_carried : (file : File) (f : TypedFunction) → f.parameters ≤ length f.locals
+    → Carries (frame f) (object_in file f) (opened (object_in file f) (numbers_from 0 f.parameters) (names_in file f))
+    (opened (whole.object_in (program_tree file) (function_tree f)) (function_tree f).params (names_of (program_tree file) (function_tree f)))
+body_carried file f few =
+    let long = frame_length (statement_uses f.body) 0 0 0 f.locals
+    in let params : map (by.renumbered (frame f)) (numbers_from 0 f.parameters) ≡ (function_tree f).params
+    = first_named (frame f) 0 f.parameters (frame f) (λ k. ap (slice_get (frame f)) (omega arith)) (omega (arith, few, long))
+    in subst (λ ps. Carries (frame f) (object_in file f) (opened (object_in file f) (numbers_from 0 f.parameters) (names_in file f))
+    (opened (whole.object_in (program_tree file) (function_tree f)) ps (names_of (program_tree file) (function_tree f)))) params
+    (opened_carries (frame f) (object_in file f) (whole.object_in (program_tree file) (function_tree f)) (renumbers file f) (names_in file f)
+    (names_of (program_tree file) (function_tree f)) (all_carried file f) (numbers_from 0 f.parameters) (first_there file f 0 f.parameters (omega (arith, few))))
 
 past_all : {A : Type 0} (xs : List A) (k : ℕ) → slice_get xs k ≡ None → length xs ≤ k
 past_all [] k none = omega arith
@@ -163,12 +290,14 @@ module _ (f : TypedFunction) (single : All (λ l. is_single l.object_type ≡ tr
       subst (IsParameter (function_tree f)) (sym (one_reference _ r (refs.Local is.number) named is.reference))
       (local_object l, is.object, single_count l.object_type one)
 
-  parameter_at : (k : ℕ) (r : VarRef) (o : Option LocalTree) → k < f.parameters → slice_get (frame f) k ≡ Some r → slice_get f.locals k ≡ o → IsParameter (function_tree f) r
+  parameter_at : (k : ℕ) (r : VarRef) (o : Option LocalTree) → k < f.parameters → slice_get (frame f) k ≡ Some r → slice_get f.locals k ≡ o
+      → IsParameter (function_tree f) r
   parameter_at k r None less named there =
       let within = slice_get_within (frame f) k r named
       in let past = past_all f.locals k there
       in absurd (omega (arith, within, past, frame_length (statement_uses f.body) 0 0 0 f.locals))
-  parameter_at k r (Some l) less named there = one_cell k r l named (taken_at (λ x. is_single x.object_type ≡ true) f.parameters f.locals single k l less there) (object_of f k l there)
+  parameter_at k r (Some l) less named there =
+      one_cell k r l named (taken_at (λ x. is_single x.object_type ≡ true) f.parameters f.locals single k l less there) (object_of f k l there)
 
   pub all_parameters : All (IsParameter (function_tree f)) (function_tree f).params
   all_parameters = all_taken (IsParameter (function_tree f)) f.parameters (frame f) (λ k r less named. parameter_at k r (slice_get f.locals k) less named refl)

@@ -1,11 +1,12 @@
 -- A function with its body keeps what is so of a file.
-use Rattle.std.proofs.Common.{◌≡◌, ◌≤◌, ◌||◌, true, false, not, List, ◌∷◌, map, take, length, slice_get, Some, sym, refl, ap, ◌∙◌, subst, arith}
+use Rattle.std.proofs.Common.{◌≡◌, ◌≤◌, ◌||◌, true, false, not, List, ◌∷◌, ◌+◌, map, take, length, slice_get, Option, Some}
+use Rattle.std.proofs.Common.{sym, refl, ap, ◌∙◌, subst, arith}
 use Rattle.std.specs.Prelude.{All}
 use Rattle.std.proofs.lemmas.Bool.{or_parts, not-false}
 use Rattle.std.proofs.lemmas.List.Elements.{All-append, All-push}
 use Rattle.c_tree.specs.declared.program.Base.{Base}
 use Rattle.c_tree.specs.declared.program.ScalarType.{ScalarType}
-use Rattle.c_tree.specs.declared.program.VarRef.TheVariants as refs
+use Rattle.c_tree.specs.declared.program.VarRef.{VarRef}
 use Rattle.c_tree.specs.SyntaxTree.{FunctionSyntax, Defined, UnitTree}
 use Rattle.c_tree.specs.TypedTree.{Stmt}
 use Rattle.c_types.specs.declared.declarations.Declared.TheVariants as declares
@@ -23,16 +24,18 @@ use Rattle.c_types.specs.Typing.{spelled}
 use Rattle.c_types.specs.Units.{TypedFunction, File, may_declare, with_parameters, parameter_locals}
 use Rattle.c_types.specs.Units.{with_function, with_body, is_defined, behind_name, function_as, file_function}
 use Rattle.c_tree.specs.Kinds.{IsType, IsKind}
-use Rattle.c_tree.specs.WellFormed.{Names}
+use Rattle.c_tree.specs.WellFormed.{Shape, Names, opened}
 use Rattle.c_types.proofs.Formed.OperandKinds.{starred_is_kind}
-use Rattle.c_types.proofs.Formed.Context.{Gives, is, behind, unless, Fits, Holds, IsLocal, shape_of}
+use Rattle.c_types.proofs.Formed.Context.{Gives, is, behind, unless, Lies, IsLocal, numbers_from}
+use Rattle.c_types.proofs.Formed.OpenedNames.{Suits, StandFrom, Opening, opening}
+use Rattle.c_types.proofs.Formed.GrownLocals.{locals_right}
 use Rattle.c_types.proofs.Formed.FileContext.{local_kind}
 use Rattle.c_types.proofs.Formed.GivesLemmas.{anything}
 use Rattle.c_types.proofs.Formed.StatementTypes.{IsBody, well_formed_body}
 use Rattle.c_types.proofs.Formed.FileSoFar.{IsFunctionIn, IsFileSoFar}
 use Rattle.c_types.proofs.Formed.BodyNumbers.{new_name, bodies_pushed, names_still_differ}
 use Rattle.c_types.proofs.Formed.DeclaredNames.{function_declared}
-use Rattle.c_types.proofs.Formed.ParametersAsLocals.{typed_parameters, kinds_of_locals, first_locals, locals_within, single_locals, right_locals, AreThere, fits_parameters}
+use Rattle.c_types.proofs.Formed.ParametersAsLocals.{typed_parameters, length_locals, kinds_of_locals, first_locals, locals_within, single_locals, right_locals, fits_parameters}
 use Rattle.c_types.proofs.PlaceLemmas.{place_kept}
 
 module _ (f : FunctionSyntax) (type : FunctionType) (result : IsKind type.result) (types : All IsType type.parameters)
@@ -50,19 +53,36 @@ module _ (f : FunctionSyntax) (type : FunctionType) (result : IsKind type.result
     first_are : take (length type.parameters) r.locals ≡ of_parameters
     first_are = ap (take (length type.parameters)) right.grown ∙ first_locals f.parameters.list type.parameters right.others many
 
-    parameters_there : (names : Names) → Holds r.locals names → AreThere names 0 of_parameters
-    parameters_there names holds k l found =
+    parameters_first : StandFrom 0 of_parameters r.locals
+    parameters_first k l found =
         let there : slice_get r.locals k ≡ Some l = ap (λ ls. slice_get ls k) right.grown ∙ place_kept of_parameters right.others k l found in
-        subst (λ n. names.object (refs.Local n) ≡ Some (shape_of l.object_type)) (omega arith) (holds.object k l there)
+        let same : k ≡ 0 + k = omega arith in
+        subst (λ n. slice_get r.locals n ≡ Some l) same there
 
-    fits_inside : (names : Names) → Fits names t → Holds r.locals names → Fits names (inside t)
-    fits_inside names fits holds = fits_parameters names (open_scope t) 0 f.parameters.list type.parameters fits types (parameters_there names holds)
+    -- the names in the body know the parameters
+    module _ (objects : VarRef → Option Shape) (names : Names) (suits : Suits t r.locals 0 objects names) where
+      abbrev inner : Names
+      inner = opened objects (numbers_from 0 (length type.parameters)) names
 
-    locals_right : (names : Names) → Fits names t → Holds r.locals names → All (IsLocal names) r.locals
-    locals_right names fits holds =
-        subst (All (IsLocal names)) (sym right.grown)
-        (All-append (IsLocal names) of_parameters right.others (right_locals names f.parameters.list type.parameters types)
-        (right.locals names (fits_inside names fits holds) holds))
+      parameters_opened : Opening t r.locals of_parameters 0 objects names (numbers_from 0 (length type.parameters))
+      parameters_opened =
+          opening t r.locals of_parameters 0 parameters_first objects names suits (numbers_from 0 (length type.parameters))
+          (ap (numbers_from 0) (sym (length_locals f.parameters.list type.parameters many)))
+
+      suits_inside : Suits (inside t) r.locals (length of_parameters) objects inner
+      suits_inside =
+          let same : 0 + length of_parameters ≡ length of_parameters = omega arith in
+          record {
+            fits = fits_parameters inner (open_scope t) 0 f.parameters.list type.parameters parameters_opened.suits.fits types parameters_opened.knows.object;
+            holds = parameters_opened.suits.holds;
+            lies = subst (Lies inner objects) same parameters_opened.suits.lies;
+          }
+
+      all_right : All (IsLocal names) r.locals
+      all_right =
+          subst (All (IsLocal names)) (sym right.grown)
+          (All-append (IsLocal names) of_parameters right.others (right_locals names f.parameters.list type.parameters types)
+          (locals_right names inner parameters_opened.statics right.others (right.locals objects inner suits_inside)))
 
     function_made : IsFunctionIn t (made r)
     function_made = record {
@@ -73,8 +93,8 @@ module _ (f : FunctionSyntax) (type : FunctionType) (result : IsKind type.result
       parameters = ap (map local_kind) first_are ∙ kinds_of_locals f.parameters.list type.parameters many;
       within = subst (λ ls. length type.parameters ≤ length ls) (sym right.grown) (locals_within f.parameters.list type.parameters right.others many);
       single = subst (All (λ (l : LocalTree). is_single l.object_type ≡ true)) (sym first_are) (single_locals f.parameters.list type.parameters);
-      locals = locals_right;
-      tree = λ names fits holds. right.tree names (fits_inside names fits holds) holds;
+      locals = all_right;
+      tree = λ objects names suits. right.tree objects (inner objects names suits) (suits_inside objects names suits);
     }
 
   module _ (file : File) (rest : UnitTree) (known : IsFileSoFar (Defined f ∷ rest) file) where

@@ -1,5 +1,5 @@
 -- What the names in a block stand for, and what gives its objects their first values.
-use Rattle.std.proofs.Common.{◌≡◌, ◌≤◌, ℕ, false, true, Bool, if◌then◌else◌, List, [], ◌∷◌, ◌++◌, length, Option, Some, None, refl, subst, zero-le}
+use Rattle.std.proofs.Common.{◌≡◌, ◌≤◌, ℕ, ◌+◌, false, true, Bool, if◌then◌else◌, List, [], ◌∷◌, ◌++◌, length, Option, Some, None, refl, subst, zero-le}
 use Rattle.std.specs.Prelude.{⊤, All}
 use Rattle.std.specs.Str.{bytes_eq}
 use Rattle.std.proofs.lemmas.List.Elements.{All-nil, All-cons}
@@ -18,14 +18,14 @@ use Rattle.c_types.specs.declared.meaning.ObjectType.{ObjectType}
 use Rattle.c_types.specs.declared.meaning.ObjectType.TheVariants.{Single, Array}
 use Rattle.c_types.specs.Operands.{given}
 use Rattle.c_types.specs.Programs.{cell_kind, cell_count, is_single}
-use Rattle.c_types.specs.Renumbering.{number_in}
 use Rattle.c_types.specs.Scopes.{Scope, declare, is_taken}
 use Rattle.c_types.specs.Typing.{typing, number_of}
 use Rattle.c_types.specs.Declarations.{entries, listed}
 use Rattle.c_types.specs.Statements.{LocalTree, Initialiser, Absent, Value, Listed, Misbraced, all_typed, initialiser, Start, started, with_object}
 use Rattle.c_tree.specs.Kinds.{IsType}
-use Rattle.c_tree.specs.WellFormed.{Names, IsWellTyped, IsInitial, IsAddressable, IsWellFormed}
-use Rattle.c_types.proofs.Formed.Context.{Gives, is, broken, behind, shape_of, IsMeaning, Fits, Holds, static_in}
+use Rattle.c_tree.specs.WellFormed.{Shape, Names, IsWellTyped, IsInitial, IsFilled, IsWellFormed}
+use Rattle.c_types.proofs.Formed.Context.{Gives, is, broken, behind, shape_of, IsMeaning, Fits, static_in}
+use Rattle.c_types.proofs.Formed.OpenedNames.{Knows, there_is}
 use Rattle.c_types.proofs.Formed.ExpressionTypes.{IsEntry, typed_expression, typed_entries, given_value, typed_list}
 use Rattle.c_types.proofs.Formed.GivesLemmas.{anything}
 use Rattle.c_types.proofs.PlaceLemmas.{place_kept, place_last}
@@ -34,23 +34,21 @@ all_one : {A : Type 0} (P : A → Type 0) (x : A) → P x → All P (x ∷ [])
 all_one P x holds = All-cons P x [] holds (All-nil P)
 
 -- objects that were numbered before others
-pub holds_first : (names : Names) (all ls others : List LocalTree) → all ≡ ls ++ others → Holds all names → Holds ls names
-holds_first names all ls others grown holds =
-    let same : Holds (ls ++ others) names = subst (λ l. Holds l names) grown holds in
-    record {
-      object = λ n l there. same.object n l (place_kept ls others n l there);
-      filled = λ n l there. same.filled n l (place_kept ls others n l there);
-    }
+pub knows_first : (names : Names) (first : ℕ) (ls others : List LocalTree) → Knows names first (ls ++ others) → Knows names first ls
+knows_first names first ls others knows = record {
+  object = λ k l there. knows.object k l (place_kept ls others k l there);
+  filled = λ k l there. knows.filled k l (place_kept ls others k l there);
+}
 
 -- an object of this type, which may be filled with a list where it is an array
-pub record IsHeld (names : Names) (r : VarRef) (type : ObjectType) : Type 0 where
-  pub object : names.object r ≡ Some (shape_of type)
-  pub filled : is_single type ≡ false → names.is_filled (number_in r) ≡ true
+pub record IsHeld (names : Names) (n : ℕ) (type : ObjectType) : Type 0 where
+  pub object : names.object (refs.Local n) ≡ Some (shape_of type)
+  pub filled : is_single type ≡ false → names.is_filled n ≡ true
 
-pub held_last : (names : Names) (ls : List LocalTree) (l : LocalTree) → Holds (ls ++ l ∷ []) names → IsHeld names (refs.Local (length ls)) l.object_type
-held_last names ls l holds = record {
-  object = holds.object (length ls) l (place_last ls l);
-  filled = holds.filled (length ls) l (place_last ls l);
+pub held_last : (names : Names) (first : ℕ) (ls : List LocalTree) (l : LocalTree) → Knows names first (ls ++ l ∷ []) → IsHeld names (first + length ls) l.object_type
+held_last names first ls l knows = record {
+  object = knows.object (length ls) l (place_last ls l);
+  filled = knows.filled (length ls) l (place_last ls l);
 }
 
 -- one more name
@@ -68,11 +66,11 @@ fits_either : (names : Names) (s t : Scope) (b : Bool) → Fits names s → Fits
 fits_either names s t true first second = first
 fits_either names s t false first second = second
 
-pub fits_with_object : (names : Names) (s : Scope) (name : List ℕ) (r : VarRef) (type : ObjectType) → IsType (cell_kind type) → IsAddressable r → IsHeld names r type
-    → Fits names s → Fits names (with_object s name r (declares.Object type))
-fits_with_object names s name r type is_type there held fits =
-    fits_either names s (declare s name (meanings.Object r type)) (is_taken s name) fits
-    (fits_declared names s name (meanings.Object r type) (λ n. (held.object, is_type, there)) fits)
+pub fits_with_object : (names : Names) (s : Scope) (name : List ℕ) (n : ℕ) (type : ObjectType) → IsType (cell_kind type) → IsHeld names n type
+    → Fits names s → Fits names (with_object s name (refs.Local n) (declares.Object type))
+fits_with_object names s name n type is_type held fits =
+    let m : Meaning = meanings.Object (refs.Local n) type in
+    fits_either names s (declare s name m) (is_taken s name) fits (fits_declared names s name m (λ k. (held.object, is_type, tt {0})) fits)
 
 -- initialisers
 abbrev pub IsInitialiser : Names → Initialiser → Type 0
@@ -96,31 +94,37 @@ module _ (names : Names) (s : Scope) (fits : Fits names s) where
 pub record IsStart (names : Names) (type : ObjectType) (start : Start) : Type 0 where
   pub within : length start.values ≤ cell_count type
   pub starts : All (IsInitial (static_in names) (cell_kind type)) start.values
-  pub statements : (result : Kind) (c : Enclosing) → All (IsWellFormed names result c) start.statements
+  pub statements : (objects : VarRef → Option Shape) (result : Kind) (c : Enclosing) → All (IsWellFormed objects result names c) start.statements
 
-module _ (names : Names) (r : VarRef) (at : ℕ) where
-  assigned : (kind : ScalarType) (v : Expr) → IsType kind → IsHeld names r (Single kind) → IsWellTyped names v × (kind_of v ≡ Some kind)
-      → IsWellTyped names (Node (Assign (Named r at) v) (Some kind) at)
+module _ (names : Names) (n : ℕ) (at : ℕ) where
+  abbrev assignment : ScalarType → Expr → Expr
+  assignment kind v = Node (Assign (Named (refs.Local n) at) v) (Some kind) at
+
+  assigned : (kind : ScalarType) (v : Expr) → IsType kind → IsHeld names n (Single kind) → IsWellTyped names v × (kind_of v ≡ Some kind)
+      → IsWellTyped names (assignment kind v)
   assigned kind v is_type held typed = (is_type, (held.object, typed.0, typed.1))
 
-  pub typed_start : (type : ObjectType) (i : Initialiser) → IsType (cell_kind type) → IsHeld names r type → IsInitialiser names i
-      → Gives (IsStart names type) (started r type at i)
-  typed_start type Absent is_type held value = is _ (record { within = zero-le; starts = All-nil _; statements = λ result c. All-nil _ })
+  filled : (type : ObjectType) → IsHeld names n type → is_single type ≡ false → IsFilled names n
+  filled type held array = record { lives = there_is names.object (refs.Local n) (shape_of type) held.object; filled = held.filled array }
+
+  pub typed_start : (type : ObjectType) (i : Initialiser) → IsType (cell_kind type) → IsHeld names n type → IsInitialiser names i
+      → Gives (IsStart names type) (started (refs.Local n) type at i)
+  typed_start type Absent is_type held value = is _ (record { within = zero-le; starts = All-nil _; statements = λ objects result c. All-nil _ })
   typed_start (Single kind) (Value x) is_type held value =
       behind (given kind at x) _ (given_value names kind at x is_type value) λ v typed.
       is _ (record {
         within = zero-le;
         starts = All-nil _;
-        statements = λ result c. all_one (IsWellFormed names result c) (Do_expr (Node (Assign (Named r at) v) (Some kind) at)) (assigned kind v is_type held typed);
+        statements = λ objects result c. all_one (IsWellFormed objects result names c) (Do_expr (assignment kind v)) (assigned kind v is_type held typed);
       })
   typed_start (Single kind) (Listed es) is_type held value = broken _ at
   typed_start (Single kind) Misbraced is_type held value = broken _ at
-  typed_start (Array kind n) (Value x) is_type held value = broken _ at
-  typed_start (Array kind n) (Listed es) is_type held value =
-      behind (listed kind n at es) _ (typed_list names kind n at es is_type value) λ values typed.
+  typed_start (Array kind count) (Value x) is_type held value = broken _ at
+  typed_start (Array kind count) (Listed es) is_type held value =
+      behind (listed kind count at es) _ (typed_list names kind count at es is_type value) λ values typed.
       is _ (record {
         within = typed.0;
         starts = typed.1;
-        statements = λ result c. all_one (IsWellFormed names result c) (Fill (number_in r)) (held.filled refl);
+        statements = λ objects result c. all_one (IsWellFormed objects result names c) (Fill n) (filled (Array kind count) held refl);
       })
-  typed_start (Array kind n) Misbraced is_type held value = broken _ at
+  typed_start (Array kind count) Misbraced is_type held value = broken _ at

@@ -1,6 +1,6 @@
 -- The parameters of a function are its first objects, and stand in the scope of its body.
-use Rattle.std.proofs.Common.{◌≡◌, ◌≤◌, ℕ, suc, ◌+◌, true, List, [], ◌∷◌, ◌++◌, map, take, length}
-use Rattle.std.proofs.Common.{slice_get, Option, Some, None, refl, ap, sym, ◌∙◌, subst, inl, inr, length-append, arith}
+use Rattle.std.proofs.Common.{◌≡◌, ◌≤◌, ℕ, suc, true, List, [], ◌∷◌, ◌++◌, map, take, length}
+use Rattle.std.proofs.Common.{Option, Some, None, refl, ap, sym, ◌∙◌, subst, inl, inr, length-append, arith}
 use Rattle.std.specs.Prelude.{All, unwrap_or}
 use Rattle.std.proofs.Math.Seq.{take-append_seam}
 use Rattle.std.proofs.lemmas.List.Elements.{All-nil, All-cons, All-head, All-tail}
@@ -21,6 +21,7 @@ use Rattle.c_tree.specs.Kinds.{IsType}
 use Rattle.c_tree.specs.WellFormed.{Names, IsInitial}
 use Rattle.c_types.proofs.Formed.Context.{Gives, is, behind, Fits, IsMeaning, IsLocal, shape_of, static_in}
 use Rattle.c_types.proofs.Formed.FileContext.{local_kind}
+use Rattle.c_types.proofs.Formed.OpenedNames.{AreThere}
 use Rattle.c_types.proofs.Formed.GivesLemmas.{anything, together}
 use Rattle.c_types.proofs.Formed.StatementTypes.{parameter_types}
 use Rattle.c_types.proofs.Formed.FileSoFar.{declared_or_old}
@@ -40,7 +41,7 @@ typed_parameters s naming ps = together (parameters s naming ps) (parameter_type
 abbrev local_of : ParameterTree → ScalarType → LocalTree
 local_of p kind = record { name = unwrap_or p.name []; object_type = Single kind; values = [] }
 
-length_locals : (ps : List ParameterTree) (kinds : List ScalarType) → length kinds ≡ length ps → length (parameter_locals ps kinds) ≡ length kinds
+pub length_locals : (ps : List ParameterTree) (kinds : List ScalarType) → length kinds ≡ length ps → length (parameter_locals ps kinds) ≡ length kinds
 length_locals [] [] same = refl
 length_locals [] (kind ∷ kinds) same = absurd (omega (arith, same))
 length_locals (p ∷ ps) [] same = refl
@@ -89,10 +90,6 @@ fits_single names s (Some name) n kind fits type there = λ k m found.
       | inl new ↦ subst (IsMeaning names (number_of s k)) new (there, type, tt {0})
       | inr old ↦ fits k m old
     ]
-
--- objects of these numbers on
-abbrev pub AreThere : Names → ℕ → List LocalTree → Type 0
-AreThere names n ls = (k : ℕ) (l : LocalTree) → slice_get ls k ≡ Some l → names.object (refs.Local (n + k)) ≡ Some (shape_of l.object_type)
 
 pub fits_parameters : (names : Names) (s : Scope) (n : ℕ) (ps : List ParameterTree) (kinds : List ScalarType) → Fits names s → All IsType kinds
     → AreThere names n (parameter_locals ps kinds) → Fits names (with_parameters s n ps kinds)

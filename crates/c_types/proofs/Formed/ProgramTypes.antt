@@ -6,7 +6,6 @@ use Rattle.std.specs.Str.{bytes_eq}
 use Rattle.std.proofs.lemmas.Bool.{eqb-true, ltb-false}
 use Rattle.std.proofs.lemmas.List.{length-map, length-take}
 use Rattle.std.proofs.lemmas.List.Elements.{All-cons, All-nil, All-map, All-head, All-tail}
-use Rattle.std.proofs.lemmas.Option.{slice_get-map}
 use Rattle.std.proofs.lemmas.Slice.Eq.{bytes_eq-Decides}
 use Rattle.word_base.specs.Name.{IsName}
 use Rattle.c_tree.specs.declared.program.Base.{Base}
@@ -27,14 +26,14 @@ use Rattle.c_types.specs.Statements.{LocalTree}
 use Rattle.c_types.specs.Units.{StaticTree, TypedFunction, File}
 use Rattle.c_tree.specs.Uses.{statement_uses}
 use Rattle.c_tree.specs.Kinds.{IsType}
-use Rattle.c_tree.specs.WellFormed.{Shape, IsInitial, StartsAt}
+use Rattle.c_tree.specs.WellFormed.{Shape, IsInitial, StartsAt, opened}
 use Rattle.c_tree.specs.WellFormedProgram as whole
-use Rattle.c_tree.specs.WellFormedProgram.{IsObject, IsFunction, IsLimited, IsMain, IsProgram, object_count, names_of, object_shape}
+use Rattle.c_tree.specs.WellFormedProgram.{IsObject, IsFunction, IsLimited, IsMain, IsProgram, object_count, names_of}
 use Rattle.c_types.specs.Whole.{uses_of, case_counts, all_cases, first_above, frame_size}
-use Rattle.c_types.proofs.Formed.Context.{IsLocal}
-use Rattle.c_types.proofs.Formed.FileContext.{names_in, static_shape, IsTypedFunction, IsStatic, IsTypedFile}
+use Rattle.c_types.proofs.Formed.Context.{IsLocal, numbers_from}
+use Rattle.c_types.proofs.Formed.FileContext.{names_in, object_in, static_shape, IsTypedFunction, IsStatic, IsTypedFile}
 use Rattle.c_types.proofs.Formed.FrameTypes.{frame_length, frame_differs, scalar_count, all_scalars, all_objects}
-use Rattle.c_types.proofs.Formed.FunctionTypes.{all_carried, all_parameters, all_addresses, static_carried}
+use Rattle.c_types.proofs.Formed.FunctionTypes.{static_kept, renumbers, body_carried, all_parameters, all_addresses}
 use Rattle.c_types.proofs.Formed.RenumberedTypes.{kept_statement}
 use Rattle.c_types.proofs.Formed.RenumberedUses.{statement_kept, counts_kept, call_kept, IsCall}
 use Rattle.c_types.proofs.Formed.RenumberedTemporaries.{statement_needs}
@@ -52,7 +51,7 @@ module _ (file : File) where
   statics n = static_shape (slice_get file.statics n)
 
   same_statics : (n : ℕ) → statics n ≡ whole.static_in (program_tree file) n
-  same_statics n = sym (ap object_shape (slice_get-map static_object file.statics n) ∙ static_carried (slice_get file.statics n))
+  same_statics n = sym (static_kept file n)
 
   static_formed : (o : StaticTree) → IsStatic file o → IsObject (program_tree file) (static_object o)
   static_formed o is = record {
@@ -80,7 +79,10 @@ module _ (file : File) where
       locals = all_objects (IsLocal (names_in file f)) (IsObject (program_tree file)) local_formed (frame f) f.locals typed.locals;
       parameters = all_parameters f typed.single;
       differ = frame_differs (statement_uses f.body) 0 0 0 f.parameters f.locals;
-      body = kept_statement (frame f) (names_in file f) (names_of (program_tree file) (function_tree f)) (all_carried file f) f.result around.Body f.body (all_addresses f) typed.tree;
+      body = kept_statement (frame f) (object_in file f) (whole.object_in (program_tree file) (function_tree f)) (renumbers file f) f.result
+          (opened (object_in file f) (numbers_from 0 f.parameters) (names_in file f))
+          (opened (whole.object_in (program_tree file) (function_tree f)) (function_tree f).params (names_of (program_tree file) (function_tree f)))
+          (body_carried file f typed.parameters) around.Body f.body (all_addresses f) typed.tree;
     }
 
 -- the names of functions stay

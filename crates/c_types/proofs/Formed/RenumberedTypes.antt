@@ -1,7 +1,6 @@
 -- A well-formed body stays well-formed once each object of its function has its number among its own kind.
-use Rattle.std.proofs.Common.{◌≡◌, ◌++◌, ◌∷◌, [], ℕ, true, List, map, Option, Some, None, ap, ◌∙◌, sym, refl, subst}
-use Rattle.std.specs.Prelude.{⊤, All, ◌==◌, ◌||◌}
-use Rattle.std.proofs.lemmas.List.Elements.{All-map}
+use Rattle.std.proofs.Common.{◌≡◌, ◌++◌, ◌∷◌, [], ℕ, List, map, Option, Some, None, ap, ◌∙◌, sym, refl, subst}
+use Rattle.std.specs.Prelude.{⊤, ◌==◌, ◌||◌}
 use Rattle.c_tree.specs.declared.program.VarRef.{VarRef}
 use Rattle.c_tree.specs.declared.program.VarRef.TheVariants as refs
 use Rattle.c_tree.specs.TypedTree as tree
@@ -13,7 +12,8 @@ use Rattle.c_tree.specs.declared.uses.Use.TheVariants.{Address, Call, Cases}
 use Rattle.c_types.specs.Renumbering as by
 use Rattle.c_types.specs.Statements.{has_case, has_default, repeats_label, in_switch}
 use Rattle.c_tree.specs.Uses.{uses, form_uses, target_uses, list_uses, optional_uses, statement_uses, statements_uses, choices_uses, case_count}
-use Rattle.c_tree.specs.WellFormed.{Shape, Names, IsCell, IsAddressable, PointsTo, IsCall, kinds_of, IsWellTyped, HasForm, IsTarget, AreWellTyped, IsTest, IsOptional, IsOptionalTest, IsDeclared, IsReturned, IsWellFormed, AreWellFormed, HasChoices}
+use Rattle.c_tree.specs.WellFormed.{Shape, Names, IsCell, IsAddressable, PointsTo, IsCall, kinds_of, IsWellTyped, HasForm, IsTarget, AreWellTyped, IsTest, IsOptional, IsOptionalTest, IsReturned, IsWellFormed, AreWellFormed, HasChoices, opened}
+use Rattle.c_types.proofs.Formed.RenumberedNames.{Renumbers, Carries, opened_carries, all_there, new_kept, kept_fill}
 
 -- labels are kept
 module _ (frame : List VarRef) where
@@ -60,13 +60,6 @@ module _ (frame : List VarRef) where
   last_have [] vs have = have
   last_have (u ∷ us) vs have = last_have us vs have.1
 
--- what a name stood for it stands for behind it
-pub record Carries (frame : List VarRef) (names others : Names) : Type 0 where
-  pub object : (r : VarRef) (shape : Shape) → names.object r ≡ Some shape → others.object (by.renumbered frame r) ≡ Some shape
-  pub function : (n : ℕ) → others.function n ≡ names.function n
-  pub is_filled : (n : ℕ) → names.is_filled n ≡ true → others.is_filled (by.number_in (by.numbered frame n)) ≡ true
-  pub declared : (r : VarRef) → IsDeclared names r → IsDeclared others (by.renumbered frame r)
-
 same_cell : (o p : Option Shape) (kind : Kind) → ((shape : Shape) → o ≡ Some shape → p ≡ Some shape) → IsCell o kind → IsCell p kind
 same_cell o p None carries cell = cell
 same_cell o p (Some kind) carries cell = carries (record { kind = kind; length = 1 }) cell
@@ -80,7 +73,7 @@ kept_address frame (refs.Local n) have is = have
 kept_address frame (refs.Scalar n) have is = is
 kept_address frame (refs.Static n) have is = is
 
-module _ (frame : List VarRef) (names others : Names) (carries : Carries frame names others) where
+module _ (frame : List VarRef) (objects : VarRef → Option Shape) (names others : Names) (carries : Carries frame objects names others) where
   kept_call : (f : ℕ) (es : Exprs) (kind : Kind) → IsCall (names.function f) (kinds_of es) kind → IsCall (others.function f) (kinds_of (by.arguments frame es)) kind
   kept_call f es kind call =
       subst (λ ks. IsCall (others.function f) ks kind) (sym (same_kinds frame es)) (subst (λ s. IsCall s (kinds_of es) kind) (sym (carries.function f)) call)
@@ -173,61 +166,68 @@ module _ (frame : List VarRef) (names others : Names) (carries : Carries frame n
   kept_returned result None have returned = returned
   kept_returned result (Some (Node f k x)) have returned = (kept_test (Node f k x) have returned.0, returned.1)
 
-  kept_declared : (rs : List VarRef) → All (IsDeclared names) rs → All (IsDeclared others) (map (by.renumbered frame) rs)
-  kept_declared rs declared = All-map (IsDeclared others) (by.renumbered frame) rs (λ k d below. carries.declared _ (declared k d below))
+-- the statements of a function
+module _ (frame : List VarRef) (objects later : VarRef → Option Shape) (renumbers : Renumbers frame objects later) (result : Kind) where
+  mutual
+    pub kept_statement : (names others : Names) → Carries frame objects names others → (c : Enclosing) (s : Stmt) → HaveAddresses frame (statement_uses s)
+        → IsWellFormed objects result names c s → IsWellFormed later result others c (by.statement frame s)
+    kept_statement names others carries c (tree.Block declared ss) have formed = (
+      new_kept frame objects later renumbers names others carries declared formed.0,
+      kept_statements (opened objects declared names) (opened later (map (by.renumbered frame) declared) others)
+          (opened_carries frame objects later renumbers names others carries declared (all_there frame objects later renumbers names declared formed.0)) c ss have formed.1,
+    )
+    kept_statement names others carries c (tree.Fill n) have formed = kept_fill frame objects names others carries n formed
+    kept_statement names others carries c (tree.Do_expr e) have formed = kept_expression frame objects names others carries e have formed
+    kept_statement names others carries c (tree.If e a b) have formed =
+        let rest = last_have frame (uses e) (statement_uses a ++ statement_uses b) have
+        in (
+          kept_test frame objects names others carries e (first_have frame (uses e) (statement_uses a ++ statement_uses b) have) formed.0,
+          kept_statement names others carries c a (first_have frame (statement_uses a) (statement_uses b) rest) formed.1,
+          kept_statement names others carries c b (last_have frame (statement_uses a) (statement_uses b) rest) formed.2,
+        )
+    kept_statement names others carries c (tree.While e a) have formed = (
+      kept_test frame objects names others carries e (first_have frame (uses e) (statement_uses a) have) formed.0,
+      kept_statement names others carries around.Loop a (last_have frame (uses e) (statement_uses a) have) formed.1,
+    )
+    kept_statement names others carries c (tree.Do_while a e) have formed = (
+      kept_statement names others carries around.Loop a (first_have frame (statement_uses a) (uses e) have) formed.0,
+      kept_test frame objects names others carries e (last_have frame (statement_uses a) (uses e) have) formed.1,
+    )
+    kept_statement names others carries c (tree.For x y z a) have formed =
+        let behind_first = last_have frame (optional_uses x) (optional_uses y ++ (optional_uses z ++ statement_uses a)) have
+        in let behind_test = last_have frame (optional_uses y) (optional_uses z ++ statement_uses a) behind_first
+        in (
+          kept_optional frame objects names others carries x (first_have frame (optional_uses x) (optional_uses y ++ (optional_uses z ++ statement_uses a)) have) formed.0,
+          kept_optional_test frame objects names others carries y (first_have frame (optional_uses y) (optional_uses z ++ statement_uses a) behind_first) formed.1,
+          kept_optional frame objects names others carries z (first_have frame (optional_uses z) (statement_uses a) behind_test) formed.2,
+          kept_statement names others carries around.Loop a (last_have frame (optional_uses z) (statement_uses a) behind_test) formed.3,
+        )
+    kept_statement names others carries c (tree.Switch (Node f k x) cs) have formed =
+        let counted : List Use = Cases (case_count cs) ∷ choices_uses cs
+        in (
+          kept_expression frame objects names others carries (Node f k x) (first_have frame (form_uses f x) counted have) formed.0,
+          formed.1,
+          same_labels frame cs ∙ formed.2,
+          kept_choices names others carries (in_switch c) cs (last_have frame (form_uses f x) counted have).1 formed.3,
+        )
+    kept_statement names others carries c tree.Break have formed = formed
+    kept_statement names others carries c tree.Continue have formed = formed
+    kept_statement names others carries c (tree.Return e) have formed = kept_returned frame objects names others carries result e have formed
 
-  module _ (result : Kind) where
-    mutual
-      pub kept_statement : (c : Enclosing) (s : Stmt) → HaveAddresses frame (statement_uses s) → IsWellFormed names result c s
-          → IsWellFormed others result c (by.statement frame s)
-      kept_statement c (tree.Block declared ss) have formed = (kept_declared declared formed.0, kept_statements c ss have formed.1)
-      kept_statement c (tree.Fill n) have formed = carries.is_filled n formed
-      kept_statement c (tree.Do_expr e) have formed = kept_expression e have formed
-      kept_statement c (tree.If e a b) have formed =
-          let rest = last_have frame (uses e) (statement_uses a ++ statement_uses b) have
-          in (
-            kept_test e (first_have frame (uses e) (statement_uses a ++ statement_uses b) have) formed.0,
-            kept_statement c a (first_have frame (statement_uses a) (statement_uses b) rest) formed.1,
-            kept_statement c b (last_have frame (statement_uses a) (statement_uses b) rest) formed.2,
-          )
-      kept_statement c (tree.While e a) have formed =
-          (kept_test e (first_have frame (uses e) (statement_uses a) have) formed.0, kept_statement around.Loop a (last_have frame (uses e) (statement_uses a) have) formed.1)
-      kept_statement c (tree.Do_while a e) have formed =
-          (kept_statement around.Loop a (first_have frame (statement_uses a) (uses e) have) formed.0, kept_test e (last_have frame (statement_uses a) (uses e) have) formed.1)
-      kept_statement c (tree.For x y z a) have formed =
-          let behind_first = last_have frame (optional_uses x) (optional_uses y ++ (optional_uses z ++ statement_uses a)) have
-          in let behind_test = last_have frame (optional_uses y) (optional_uses z ++ statement_uses a) behind_first
-          in (
-            kept_optional x (first_have frame (optional_uses x) (optional_uses y ++ (optional_uses z ++ statement_uses a)) have) formed.0,
-            kept_optional_test y (first_have frame (optional_uses y) (optional_uses z ++ statement_uses a) behind_first) formed.1,
-            kept_optional z (first_have frame (optional_uses z) (statement_uses a) behind_test) formed.2,
-            kept_statement around.Loop a (last_have frame (optional_uses z) (statement_uses a) behind_test) formed.3,
-          )
-      kept_statement c (tree.Switch (Node f k x) cs) have formed =
-          let counted : List Use = Cases (case_count cs) ∷ choices_uses cs
-          in (
-            kept_expression (Node f k x) (first_have frame (form_uses f x) counted have) formed.0,
-            formed.1,
-            same_labels frame cs ∙ formed.2,
-            kept_choices (in_switch c) cs (last_have frame (form_uses f x) counted have).1 formed.3,
-          )
-      kept_statement c tree.Break have formed = formed
-      kept_statement c tree.Continue have formed = formed
-      kept_statement c (tree.Return e) have formed = kept_returned result e have formed
+    kept_statements : (names others : Names) → Carries frame objects names others → (c : Enclosing) (ss : Stmts) → HaveAddresses frame (statements_uses ss)
+        → AreWellFormed objects result names c ss → AreWellFormed later result others c (by.statements frame ss)
+    kept_statements names others carries c tree.done have formed = tt
+    kept_statements names others carries c (tree.both s rest) have formed = (
+      kept_statement names others carries c s (first_have frame (statement_uses s) (statements_uses rest) have) formed.0,
+      kept_statements names others carries c rest (last_have frame (statement_uses s) (statements_uses rest) have) formed.1,
+    )
 
-      kept_statements : (c : Enclosing) (ss : Stmts) → HaveAddresses frame (statements_uses ss) → AreWellFormed names result c ss
-          → AreWellFormed others result c (by.statements frame ss)
-      kept_statements c tree.done have formed = tt
-      kept_statements c (tree.both s rest) have formed = (
-        kept_statement c s (first_have frame (statement_uses s) (statements_uses rest) have) formed.0,
-        kept_statements c rest (last_have frame (statement_uses s) (statements_uses rest) have) formed.1,
-      )
-
-      kept_choices : (c : Enclosing) (cs : Choices) → HaveAddresses frame (choices_uses cs) → HasChoices names result c cs → HasChoices others result c (by.choices frame cs)
-      kept_choices c tree.no_more have formed = tt
-      kept_choices c (tree.case w rest) have formed = kept_choices c rest have formed
-      kept_choices c (tree.default rest) have formed = kept_choices c rest have formed
-      kept_choices c (tree.body s rest) have formed = (
-        kept_statement c s (first_have frame (statement_uses s) (choices_uses rest) have) formed.0,
-        kept_choices c rest (last_have frame (statement_uses s) (choices_uses rest) have) formed.1,
-      )
+    kept_choices : (names others : Names) → Carries frame objects names others → (c : Enclosing) (cs : Choices) → HaveAddresses frame (choices_uses cs)
+        → HasChoices objects result names c cs → HasChoices later result others c (by.choices frame cs)
+    kept_choices names others carries c tree.no_more have formed = tt
+    kept_choices names others carries c (tree.case w rest) have formed = kept_choices names others carries c rest have formed
+    kept_choices names others carries c (tree.default rest) have formed = kept_choices names others carries c rest have formed
+    kept_choices names others carries c (tree.body s rest) have formed = (
+      kept_statement names others carries c s (first_have frame (statement_uses s) (choices_uses rest) have) formed.0,
+      kept_choices names others carries c rest (last_have frame (statement_uses s) (choices_uses rest) have) formed.1,
+    )

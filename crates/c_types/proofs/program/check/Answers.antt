@@ -1,7 +1,10 @@
 use Rattle.c_tree.specs.SyntaxView.{unit_of}
 use Rattle.c_tree.specs.ProgramView.{program_of}
-use Rattle.c_types.specs.Faults.{Says}
-use Rattle.c_types.proofs.ProgramLemmas.{says_source, typed_source, fault_says}
+use Rattle.std.proofs.Common.{subst}
+use Rattle.c_types.specs.Answers.{Refuses}
+use Rattle.c_types.specs.Faults.{Says, fault_of}
+use Rattle.c_types.specs.Units.{typed_unit}
+use Rattle.c_types.proofs.ProgramLemmas.{refusal_says, says_source, typed_source, fault_says}
 use Rattle.c_types.proofs.Formed.FormedSource.{made_is_formed}
 use Rattle.c_types.proofs.program.check.Goals as goal
 
@@ -9,6 +12,12 @@ pub program-requires : goal.program-requires
 program-requires c =
     made_is_formed c.args.unit.now c.in_ok-file.file c.in_ok-frames.frames.items c.externals.ensures.externals c.in_ok-file.ensures.typed c.deref.ensures.value
     c.in_ok-frames.ensures.whole c.in_ok-frames.ensures.frames c.contents.ensures c.requires.names c.externals.ensures.limits
+
+pub returns-in_err-file-clause-refused : goal.returns-in_err-file-clause-refused
+returns-in_err-file-clause-refused c =
+    let refused = refusal_says (unit_of c.args.unit.now) c.in_err-file.field-0.0
+    (subst (λ u. Refuses (typed_unit (unit_of u)) c.in_err-file.field-0.0) c.externals.ensures.externals c.in_err-file.ensures.refused)
+    in fault_says (Says (unit_of c.args.unit.now)) (fault_of c.in_err-file.field-0.0) c.from_residual.result c.from_residual.ensures.1 refused
 
 pub returns-in_err-frames-clause-refused : goal.returns-in_err-frames-clause-refused
 returns-in_err-frames-clause-refused c =

@@ -7,7 +7,7 @@ use Rattle.c_types.specs.Answers.{Refuses}
 use Rattle.c_types.specs.Bodies.{behind, behind_choices, choices_in, labelled_of, parts_of, statements_in}
 use Rattle.c_types.proofs.StatementsSoFar.{turn, ended, refused_here, block_typed, block_is_typed, block_is_refused, do_rest, else_rest, same_typed, same_refused}
 use Rattle.c_types.proofs.ChoicesSoFar.{none_behind, turn as choice_turn, ended as choices_ended}
-use Rattle.c_types.proofs.SwitchLemmas.{switch_is_typed, switch_is_refused, refused_here as choice_refused, switch_rest, with_locals_typed, with_locals_refused}
+use Rattle.c_types.proofs.SwitchLemmas.{label_typed, switch_is_typed, switch_is_refused, refused_here as choice_refused, switch_rest, with_locals_typed, with_locals_refused}
 use Rattle.c_types.proofs.blocks.Body.+statements.Goals as goal
 
 pub block_here-returns-clause-typed : goal.block_here-returns-clause-typed
@@ -117,3 +117,8 @@ switch-returns-clause-refused t c =
     with_locals_refused _ c.choices.new.self _ c.switched.result
     (switch_rest c.args.self.now c.choices.new.self c.args.enclosing (expression_of c.args.value.now) (parts_of c.args.parts.now) c.args.place c.args.at (expr_of c.in_ok-value.value) (labelled_of c.in_ok-labelled.labelled) c.in_ok-value.ensures.typed (rw c.in_switch.ensures at c.in_ok-labelled.ensures.typed))
     c.switched.ensures.refused
+
+pub label_or_body-returns-in_ok-word-in-Case-clause-typed : goal.label_or_body-returns-in_ok-word-in-Case-clause-typed
+label_or_body-returns-in_ok-word-in-Case-clause-typed t c =
+    label_typed c.args.self.now c.args.enclosing c.args.part.now c.in-Case.label (expr_of c.in_ok-value-in-Case.value) c.in_ok-word-in-Case.word c.points.result
+    c.in-Case.is c.in_ok-value-in-Case.ensures.typed c.in_ok-word-in-Case.ensures.word c.points.ensures

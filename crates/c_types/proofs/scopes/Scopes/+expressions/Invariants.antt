@@ -54,11 +54,20 @@ decreases-comma l = 8 * max (size-ExprKind l.left.now.kind) (size-ExprKind l.rig
 abbrev pub decreases-operands : goal.decreases-operands
 decreases-operands l = 8 * goal.size-operands l + 2
 
-abbrev pub decreases-port_call : goal.decreases-port_call
-decreases-port_call l = 8 * goal.size-port_call l + 3
+abbrev pub decreases-constant_tree : goal.decreases-constant_tree
+decreases-constant_tree l = 8 * size-ExprKind l.e.now.kind + 1
+
+abbrev pub decreases-port_arguments : goal.decreases-port_arguments
+decreases-port_arguments l = 8 * goal.size-port_arguments l + 3
+
+abbrev pub decreases-arguments : goal.decreases-arguments
+decreases-arguments l = 8 * goal.size-arguments l + 4
 
 abbrev pub decreases-call : goal.decreases-call
-decreases-call l = 8 * goal.size-call l + 4
+decreases-call l = 8 * goal.size-call l + 5
+
+abbrev pub decreases-constant_call : goal.decreases-constant_call
+decreases-constant_call l = 8 * goal.size-constant_call l + 5
 
 -- what the operands so far and those of the rest make together
 abbrev pub invariant-operands-loop-e : goal.invariant-operands-loop-e

@@ -1,0 +1,81 @@
+-- What a walk over a source comes to: nodes, each with its place and the rules that it breaks (docs/LANGUAGE.md, "Types"). A node's parts
+-- come before the node, in source order. Each rule of a node is looked at without regard to the others, and what it asks of a part once
+-- that part is typed. The walk comes to all nodes that may break a rule up to the first that breaks one; of those behind, only to some.
+use Rattle.std.specs.Prelude.{ℕ, nat_lt, Bool, true, false, if◌then◌else◌, List, [], ◌∷◌, Option, Some, None}
+use Rattle.c_types.specs.declared.fault.Rule.{Rule}
+use Rattle.c_types.specs.declared.fault.Rule.TheVariants.{Undeclared, Redeclared, Mismatch, NotLvalue, NotConstant, LongConstant, BadPort, ArgCount, Misplaced}
+use Rattle.c_types.specs.Outcome.{Outcome, Is, Broken}
+
+-- a node: its place, and the rules that it breaks
+pub record Visit : Type 0 where
+  pub at : ℕ
+  pub broken : List Rule
+
+abbrev pub visit : ℕ → List Rule → Visit
+visit at broken = record { at = at; broken = broken }
+
+-- a rule that is broken, and the place of the node that breaks it
+pub record Break : Type 0 where
+  pub rule : Rule
+  pub at : ℕ
+
+-- the order of the rules
+abbrev pub rank : Rule → ℕ
+rank Undeclared = 1
+rank Redeclared = 2
+rank Mismatch = 3
+rank NotLvalue = 4
+rank NotConstant = 5
+rank LongConstant = 6
+rank BadPort = 7
+rank ArgCount = 8
+rank Misplaced = 9
+
+-- the least of the rules that a node breaks
+abbrev pub lesser : Rule → Option Rule → Rule
+lesser rule None = rule
+lesser rule (Some other) = if nat_lt (rank other) (rank rule) then other else rule
+
+abbrev pub least : List Rule → Option Rule
+least [] = None
+least (rule ∷ rules) = Some (lesser rule (least rules))
+
+-- the first node that breaks a rule
+abbrev pub or_next : ℕ → Option Rule → Option Break → Option Break
+or_next at None next = next
+or_next at (Some rule) next = Some (record { rule = rule; at = at })
+
+abbrev pub first : List Visit → Option Break
+first [] = None
+first (v ∷ vs) = or_next v.at (least v.broken) (first vs)
+
+-- a rule, where it is broken
+abbrev pub when : Bool → Rule → List Rule
+when true rule = rule ∷ []
+when false rule = []
+
+-- the one rule that a node may break
+abbrev pub rule_of : {A : Type 0} → Outcome A → List Rule
+rule_of (Is a) = []
+rule_of (Broken rule at) = rule ∷ []
+
+-- what a node breaks by its typed parts
+abbrev pub of_one : {A : Type 0} → Outcome A → (A → List Rule) → List Rule
+of_one (Is a) rules = rules a
+of_one (Broken rule at) rules = []
+
+abbrev pub of_two : {A B : Type 0} → Outcome A → Outcome B → (A → B → List Rule) → List Rule
+of_two o p rules = of_one o (λ a. of_one p (rules a))
+
+abbrev pub of_three : {A B C : Type 0} → Outcome A → Outcome B → Outcome C → (A → B → C → List Rule) → List Rule
+of_three o p q rules = of_one o (λ a. of_two p q (rules a))
+
+-- the nodes behind something that is typed
+abbrev pub behind : {A : Type 0} → Outcome A → (A → List Visit) → List Visit
+behind (Is a) next = next a
+behind (Broken rule at) next = []
+
+-- what an outcome breaks
+abbrev pub broken_in : {A : Type 0} → Outcome A → Option Break
+broken_in (Is a) = None
+broken_in (Broken rule at) = Some (record { rule = rule; at = at })
