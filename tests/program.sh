@@ -143,6 +143,10 @@ quickly '' chain.c
 echo "int f255(void);int f0(void){return f255();}$(awk 'BEGIN { for (i = 1; i < 256; i++) printf "int f%d(void){return f%d();}", i, i - 1 }')int main(void){return f254();}" > circle.c
 quickly "source refused: recursion f0 $(awk 'BEGIN { for (i = 255; i > 0; i--) printf "f%d ", i }')f0" circle.c
 
+# A long way to a circle: of 12000 functions each calls the next, and only the last two reach themselves.
+echo "void $(repeated 11999 ',' 'f%d(void)'),f0(void);$(awk 'BEGIN { for (i = 0; i < 12000; i++) printf "void f%d(void){f%d();}", i, i < 11999 ? i + 1 : 11998 }')int main(void){return 0;}" > way.c
+quickly 'source refused: recursion f11998 f11999 f11998' way.c
+
 head -c 1048576 /dev/zero | tr '\0' ' ' > long.c
 wants 1 'source refused: syntax at byte 0' build long.c b.img
 printf ' ' >> long.c

@@ -1,57 +1,17 @@
--- What the tests of calls mean.
-use Rattle.std.proofs.Common.{◌≡◌, ◌<◌, ◌≤◌, ◌+◌, ◌&&◌, ◌++◌, ◌∷◌, [], ℕ, zero, suc, Bool, true, false, List, length, map, ap, ◌∙◌, sym, refl, subst, Some, nat_lt, slice_index, arith}
-use borrow.Author.Tests.{ltb-true}
-use Rattle.std.specs.Prelude.{slice_get}
-use Rattle.std.proofs.lemmas.List.{length-map}
+-- Levels that never rise along calls, and the uses of each function.
+use Rattle.std.proofs.Common.{◌≡◌, ◌<◌, ◌≤◌, ◌+◌, ◌∙◌, Bool, true, false, nat_lt, ◌==◌, cond, Less, Equal, Greater, ℕ, zero, suc, List, [], ◌∷◌, length, map, ap, sym, refl, subst, inl, inr, arith, Some, slice_index, get_or, vec_items, Vec, Global}
+use Rattle.std.specs.Prelude.{slice_get, option_map}
+use Rattle.std.specs.Ordering.{is_lt, nat_cmp, ord_max}
+use borrow.Author.Tests.{ltb-true, ltb-false}
+use Rattle.std.proofs.lemmas.Bool.{cases_lt}
+use Rattle.std.proofs.lemmas.List.{get_or_default, length-map}
+use Rattle.std.proofs.lemmas.Option.{slice_get_read, slice_get-map}
+use Rattle.std.specs.List.{Contains}
 use Rattle.c_tree.specs.declared.uses.Use.{Use}
-use Rattle.c_tree.specs.declared.uses.Use.TheVariants.{Call}
 use Rattle.c_tree.specs.Uses.{statement_uses}
 use Rattle.c_types.specs.Units.{TypedFunction}
-use Rattle.c_types.specs.Programs.{Calls, Calling, HasBodies, HasNoCycle}
-use Rattle.c_types.specs.Rounds.{IsWay}
-use Rattle.c_types.specs.Calls.{Falls, call_below, calls_below, all_below}
-
-both_first : (a b : Bool) → (a && b) ≡ true → a ≡ true
-both_first true b both = refl
-both_first false b both = both
-
-both_second : (a b : Bool) → (a && b) ≡ true → b ≡ true
-both_second true b both = both
-both_second false b both = absurd (cc both)
-
--- a call among others
-one_below : (ranks : List ℕ) (own : ℕ) (before : List Use) (u : Use) (behind : List Use) → calls_below ranks own (before ++ u ∷ behind) ≡ true
-    → call_below ranks own u ≡ true
-one_below ranks own [] u behind all = both_first (call_below ranks own u) (calls_below ranks own behind) all
-one_below ranks own (v ∷ before) u behind all =
-    one_below ranks own before u behind (both_second (call_below ranks own v) (calls_below ranks own (before ++ u ∷ behind)) all)
-
--- the calls of one function among others
-list_below : (ranks owns : List ℕ) (lists : List (List Use)) (n : ℕ) (us : List Use) → length owns ≡ length lists → all_below ranks owns lists ≡ true
-    → slice_get lists n ≡ Some us → calls_below ranks (slice_index owns n) us ≡ true
-list_below ranks [] [] n us long all there = absurd (cc there)
-list_below ranks [] (vs ∷ rest) n us long all there = absurd (omega arith)
-list_below ranks (own ∷ owns) [] n us long all there = absurd (omega arith)
-list_below ranks (own ∷ owns) (vs ∷ rest) zero us long all there =
-    let same : vs ≡ us = cc there in sym (ap (calls_below ranks own) same) ∙ both_first (calls_below ranks own vs) (all_below ranks owns rest) all
-list_below ranks (own ∷ owns) (vs ∷ rest) (suc n) us long all there =
-    list_below ranks owns rest n us (omega arith) (both_second (calls_below ranks own vs) (all_below ranks owns rest) all) there
-
-call_is_below : (ranks : List ℕ) (lists : List (List Use)) → length ranks ≡ length lists → all_below ranks ranks lists ≡ true → (n m at : ℕ) (before behind : List Use)
-    → slice_get lists n ≡ Some (before ++ Call m at ∷ behind) → (nat_lt m (length ranks) && nat_lt (slice_index ranks m) (slice_index ranks n)) ≡ true
-call_is_below ranks lists long all n m at before behind there =
-    one_below ranks (slice_index ranks n) before (Call m at) behind (list_below ranks ranks lists n (before ++ Call m at ∷ behind) long all there)
-
--- what is tested of numbers holds
-pub falls_by : {lent ranks : List ℕ} (lists : List (List Use)) → lent ≡ ranks → length lent ≡ length lists → all_below lent lent lists ≡ true → Falls ranks lists
-falls_by {lent = lent} lists lending long all =
-    let P : List ℕ → Type 0 = λ ranks. Falls ranks lists in
-    let known : Falls lent lists = record {
-      has_body = λ n m at before behind there.
-          let within = ltb-true m (length lent) (both_first _ _ (call_is_below lent lists long all n m at before behind there)) in omega arith;
-      falls = λ n m at before behind there.
-          ltb-true (slice_index lent m) (slice_index lent n) (both_second _ _ (call_is_below lent lists long all n m at before behind there));
-    } in subst P lending known
+use Rattle.c_types.specs.Calls.{CallsAmong, AreOrdered, NeverRise, FallBefore}
+use Rattle.c_types.specs.Rounds.{IsWay, NoneBelow}
 
 -- the uses of each function
 abbrev pub uses_in : TypedFunction → List Use
@@ -62,20 +22,56 @@ list_at [] n f there = absurd (cc there)
 list_at (g ∷ fs) zero f there = let same : g ≡ f = cc there in ap (λ h. Some (uses_in h)) same
 list_at (g ∷ fs) (suc n) f there = list_at fs n f there
 
--- functions whose uses have such numbers have bodies and no cycle
-falls_at : (fs : List TypedFunction) (ranks : List ℕ) → Falls ranks (map uses_in fs) → (n m : ℕ) → Calls fs n m → slice_index ranks m < slice_index ranks n
-falls_at _ ranks known _ _ (Calling fs n m f at before behind there called) =
-    known.falls n m at before behind (list_at fs n f there ∙ ap Some called)
+-- what holds of the calls of the functions before one, and of its own
+is_called : (lists : List (List ℕ)) (n m : ℕ) (called : List ℕ) → slice_get lists n ≡ Some called → CallsAmong lists n m → Contains called m
+is_called lists n m called there call =
+    let same : call.0 ≡ called = cc (sym call.1 ∙ there) in subst (λ list. Contains list m) same call.2
 
--- numbers fall along a way
-falls_along : (fs : List TypedFunction) (ranks : List ℕ) → Falls ranks (map uses_in fs) → (n : ℕ) (ms : List ℕ) (z : ℕ) → IsWay (Calls fs) n ms z
-    → slice_index ranks z + length ms ≤ slice_index ranks n
-falls_along fs ranks known n [] z same = omega (arith, ap (slice_index ranks) same)
-falls_along fs ranks known n (m ∷ ms) z way = omega (arith, falls_at fs ranks known n m way.0, falls_along fs ranks known m ms z way.1)
+pub calls_further : (holds : ℕ → ℕ → Type 0) (lists : List (List ℕ)) (n : ℕ) (called : List ℕ) → ((k m : ℕ) → k < n → CallsAmong lists k m → holds k m)
+    → slice_get lists n ≡ Some called → ((m : ℕ) → Contains called m → holds n m) → (k m : ℕ) → k < n + 1 → CallsAmong lists k m → holds k m
+calls_further holds lists n called before there own k m less call = elim (cases_lt k n) [
+  | inl earlier ↦ before k m earlier call
+  | inr last ↦
+      let same : k ≡ n = omega (arith, less, last) in
+      let here : CallsAmong lists n m = subst (λ j. CallsAmong lists j m) same call
+      in subst (λ j. holds j m) (sym same) (own m (is_called lists n m called there here))
+]
 
-pub no_cycle : (fs : List TypedFunction) (ranks : List ℕ) → Falls ranks (map uses_in fs) → HasNoCycle fs
-no_cycle fs ranks known n ms round = omega (arith, round.0, falls_along fs ranks known n ms n round.1)
+-- the greater of two
+pub above_both : (a b : ℕ) → (a ≤ ord_max nat_cmp a b) × (b ≤ ord_max nat_cmp a b)
+above_both a b = go (nat_lt b a) (b == a) (λ lower. ltb-true b a lower) (λ high. ltb-false b a high) where
+  go : (lower same : Bool) → (lower ≡ true → b < a) → (lower ≡ false → a ≤ b) → (a ≤ cond (is_lt (cond lower Less (cond same Equal Greater))) a b) × (b ≤ cond (is_lt (cond lower Less (cond same Equal Greater))) a b)
+  go true same low high = (omega arith, omega (arith, low refl))
+  go false true low high = (high refl, omega arith)
+  go false false low high = (high refl, omega arith)
 
-pub all_have_bodies : (fs : List TypedFunction) (ranks : List ℕ) → Falls ranks (map uses_in fs) → HasBodies fs
-all_have_bodies _ ranks known _ _ (Calling fs n m f at before behind there called) =
-    let within = known.has_body n m at before behind (list_at fs n f there ∙ ap Some called) in omega (arith, length-map fs uses_in)
+-- the levels of functions that are called
+pub level_there : (levels called : List ℕ) (i : ℕ) → ((m : ℕ) → Contains called m → m < length levels) → i < length called → slice_index called i < length levels
+level_there levels called i bodies less = bodies (slice_index called i) (i, less, get_or_default called i (slice_index called i) 0 less)
+
+pub level_below : (levels called : List ℕ) (high : ℕ) → ((i : ℕ) → i < length called → slice_index levels (slice_index called i) ≤ high) → (m : ℕ) → Contains called m
+    → slice_index levels m ≤ high
+level_below levels called high all m found =
+    let is : slice_index called found.0 ≡ m = get_or_default called found.0 0 m found.1 ∙ found.2
+    in omega (arith, all found.0 found.1, ap (slice_index levels) is)
+
+-- the list of a function's callees, as the code reads it
+pub callees_at : (lists : List (Vec ℕ Global)) (n : ℕ) (v : Vec ℕ Global) (called : List ℕ) → n < length lists → v ≡ get_or lists n v → called ≡ v.items
+    → slice_get (map vec_items lists) n ≡ Some called
+callees_at lists n v called within is same =
+    slice_get-map vec_items lists n ∙ ap (option_map vec_items) (slice_get_read lists (length lists) n v refl within is) ∙ ap (λ l. Some l) (sym same)
+
+pub callees_there : (levels : List ℕ) (lists : List (Vec ℕ Global)) (n : ℕ) (called : List ℕ) → length levels ≡ length lists → AreOrdered (map vec_items lists)
+    → slice_get (map vec_items lists) n ≡ Some called → (m : ℕ) → Contains called m → m < length levels
+callees_there levels lists n called size ordered there m found =
+    omega (arith, size, ordered.bodies n m (called, there, found), length-map lists vec_items)
+
+-- a way doesn't rise
+way_falls : (levels : List ℕ) (lists : List (List ℕ)) → NeverRise levels lists → (n : ℕ) (ms : List ℕ) (z : ℕ) → IsWay (CallsAmong lists) n ms z
+    → slice_index levels z ≤ slice_index levels n
+way_falls levels lists never n [] z same = omega (arith, ap (slice_index levels) same)
+way_falls levels lists never n (m ∷ ms) z way = omega (arith, never n m way.0, way_falls levels lists never m ms z way.1)
+
+pub none_below : (levels : List ℕ) (lists : List (List ℕ)) (first : ℕ) → NeverRise levels lists → FallBefore levels lists first → NoneBelow (CallsAmong lists) first
+none_below levels lists first never falls k [] low round = omega (arith, round.0)
+none_below levels lists first never falls k (m ∷ ms) low round = omega (arith, falls k m low round.1.0, way_falls levels lists never m ms k round.1.1)

@@ -7,7 +7,7 @@ use Rattle.c_types.specs.declared.fault.Rule.{Rule}
 use Rattle.c_types.specs.declared.fault.Rule.TheVariants as rules
 use Rattle.c_types.specs.declared.fault.TypeFault.{TypeFault}
 use Rattle.c_types.specs.declared.fault.TypeFault.TheVariants as faults
-use Rattle.c_types.specs.Visits.{Break}
+use Rattle.c_types.specs.Visits.{BrokenRule}
 use Rattle.c_types.specs.Checked.{Breaks, Holds}
 use Rattle.c_types.specs.Faults.{Says, SaysOf, IsMissing, IsCyclic, IsLarge, rule_fault}
 use Rattle.c_types.specs.Programs.{has_main}
@@ -16,7 +16,7 @@ use Rattle.c_types.specs.Whole.{IsPassed}
 use Rattle.c_types.proofs.ChainLaws.{chain_is_one, chain_or_none}
 use Rattle.c_types.proofs.LawLemmas.{one_file, broken_or_typed}
 
-one_break : (found : Option Break) (a b : Break) → found ≡ Some a → found ≡ Some b → a ≡ b
+one_break : (found : Option BrokenRule) (a b : BrokenRule) → found ≡ Some a → found ≡ Some b → a ≡ b
 one_break found a b one other = let same : Some a ≡ Some b = sym one ∙ other in cc same
 
 -- a fault of a rule of a node
@@ -143,7 +143,7 @@ said unit faults.NoMemory says some = absurd (some refl)
 module _ (unit : UnitTree) (a b : TypeFault) where
   both_rules : RuleSaid unit a → RuleSaid unit b → a ≡ b
   both_rules one other =
-      let same : ◌≡◌ {A = Break} (record { rule = one.rule; at = one.at }) (record { rule = other.rule; at = other.at }) = one_break _ _ _ one.broken other.broken in
+      let same : ◌≡◌ {A = BrokenRule} (record { rule = one.rule; at = one.at }) (record { rule = other.rule; at = other.at }) = one_break _ _ _ one.broken other.broken in
       one.is ∙ ap (λ b. rule_fault b.rule b.at) same ∙ sym other.is
 
   both_whole : ¬ (a ≡ faults.NoMemory) → ¬ (b ≡ faults.NoMemory) → Holds unit (λ fs. SaysOf fs a) → Holds unit (λ fs. SaysOf fs b) → a ≡ b

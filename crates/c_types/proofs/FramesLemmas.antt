@@ -6,8 +6,9 @@ use Rattle.c_tree.specs.declared.program.VarRef.TheVariants as refs
 use Rattle.c_tree.specs.declared.uses.Use.{Use}
 use Rattle.c_types.specs.declared.local.Local.{Local}
 use Rattle.c_types.specs.Statements.{LocalTree}
-use Rattle.c_types.specs.Programs.{is_address, is_pointed, numbered}
+use Rattle.c_types.specs.Programs.{is_address, is_pointed, references}
 use Rattle.c_types.specs.View.{local_tree_of}
+use Rattle.c_types.proofs.FrameNumbers.{numbered_from, references_counted}
 use Rattle.c_types.specs.Frames.{Marks, in_frame, numbered_by, scalars_by, frame_scalars}
 
 -- a turn of the loop over uses, whose marks are lent meanwhile
@@ -26,7 +27,7 @@ marks_further us i count {before = before} {lent = lent} d within lending long s
     }
 
 numbered_at : (us : List Use) (n scalars objects : ℕ) (marks : List Bool) (ls : List LocalTree) → length marks ≡ length ls
-    → ((k : ℕ) → k < length marks → get_or marks k false ≡ is_pointed us (n + k)) → numbered_by marks scalars objects ls ≡ numbered us n scalars objects ls
+    → ((k : ℕ) → k < length marks → get_or marks k false ≡ is_pointed us (n + k)) → numbered_by marks scalars objects ls ≡ numbered_from us n scalars objects ls
 numbered_at us n scalars objects [] [] long each = refl
 numbered_at us n scalars objects [] (l ∷ ls) long each = absurd (omega arith)
 numbered_at us n scalars objects (m ∷ marks) [] long each = absurd (omega arith)
@@ -39,16 +40,17 @@ numbered_at us n scalars objects (m ∷ marks) (l ∷ ls) long each =
     (each 0 (omega arith) ∙ ap (is_pointed us) here)
     ∙ ap (λ rs. if in_frame l (is_pointed us n) then refs.Scalar scalars ∷ rs else refs.Local objects ∷ numbered_by marks scalars (suc objects) ls)
     (numbered_at us (suc n) (suc scalars) objects marks ls rest later)
-    ∙ ap (λ rs. if in_frame l (is_pointed us n) then refs.Scalar scalars ∷ numbered us (suc n) (suc scalars) objects ls else refs.Local objects ∷ rs)
+    ∙ ap (λ rs. if in_frame l (is_pointed us n) then refs.Scalar scalars ∷ numbered_from us (suc n) (suc scalars) objects ls else refs.Local objects ∷ rs)
     (numbered_at us (suc n) scalars (suc objects) marks ls rest later)
 
 -- numbers by marks are the numbers by uses
 pub numbers_by_marks : (us : List Use) (marks : List Bool) {lent : List Bool} (ls : List Local) → Marks us (length ls) marks → lent ≡ marks
-    → numbered_by lent 0 0 (map local_tree_of ls) ≡ numbered us 0 0 0 (map local_tree_of ls)
+    → numbered_by lent 0 0 (map local_tree_of ls) ≡ references us (map local_tree_of ls)
 numbers_by_marks us marks ls known lending =
     ap (λ m. numbered_by m 0 0 (map local_tree_of ls)) lending
     ∙ numbered_at us 0 0 0 marks (map local_tree_of ls) (known.all ∙ sym (length-map ls local_tree_of))
     (λ k below. let here : k ≡ 0 + k = omega arith in known.each k (omega (arith, known.all)) ∙ ap (is_pointed us) here)
+    ∙ sym (references_counted us (map local_tree_of ls))
 
 count_of : (marks : List Bool) (scalars objects : ℕ) (ls : List LocalTree) → scalars_by marks ls ≡ frame_scalars (numbered_by marks scalars objects ls)
 count_of [] scalars objects ls = refl
@@ -60,6 +62,6 @@ count_of (m ∷ marks) scalars objects (l ∷ ls) =
 
 -- so many scalars are numbered
 pub scalars_by_marks : (us : List Use) (marks : List Bool) {lent : List Bool} (ls : List Local) → Marks us (length ls) marks → lent ≡ marks
-    → scalars_by lent (map local_tree_of ls) ≡ frame_scalars (numbered us 0 0 0 (map local_tree_of ls))
+    → scalars_by lent (map local_tree_of ls) ≡ frame_scalars (references us (map local_tree_of ls))
 scalars_by_marks us marks {lent = lent} ls known lending =
     count_of lent 0 0 (map local_tree_of ls) ∙ ap frame_scalars (numbers_by_marks us marks ls known lending)

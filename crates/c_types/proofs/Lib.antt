@@ -7,6 +7,7 @@ pub mod TypeWords
 pub mod OperandLists
 pub mod RenumberLemmas
 pub mod TemporariesLemmas
+pub mod FrameNumbers
 pub mod FramesLemmas
 pub mod StorageLemmas
 pub mod CallsLemmas
@@ -38,3 +39,4 @@ pub mod LawLemmas
 pub mod Formed
 pub mod Walked
 pub mod Examples
+pub mod FrameExamples

@@ -13,7 +13,6 @@ use Rattle.c_types.specs.declared.fault.TypeFault.TheVariants as faults
 use Rattle.c_types.specs.declared.functions.TypedFunction as memory
 use Rattle.c_tree.specs.declared.uses.Use.{Use}
 use Rattle.c_tree.specs.declared.uses.Use.TheVariants as kind
-use Rattle.c_types.specs.Calls.{Falls}
 use Rattle.c_types.specs.Checked.{AreWhole}
 use Rattle.c_types.specs.Faults.{SaysOf}
 use Rattle.c_types.specs.Programs.{frame, has_main, Calling, HasBodies, HasNoCycle}
@@ -22,7 +21,7 @@ use Rattle.c_tree.specs.Uses.{statement_uses}
 use Rattle.c_types.specs.View.{typed_function_of, frame_lists}
 use Rattle.c_types.specs.Whole.{uses_of, earlier, first_without, first_among, missing_body, case_counts, all_cases, first_above, passed, IsOver}
 use Rattle.c_types.specs.Chains.{IsRecursion}
-use Rattle.c_types.proofs.CallsLemmas.{list_at, no_cycle}
+use Rattle.c_types.proofs.CallsLemmas.{list_at}
 use Rattle.c_types.proofs.UnitLemmas.{first_of}
 
 -- the uses of each function, by its place
@@ -51,14 +50,10 @@ pub map_trees : {X : Type 0} (of : TypedFunction → X) → (fs : List memory.Ty
 map_trees of [] = refl
 map_trees of (f ∷ fs) = ap (λ xs. of (typed_function_of f) ∷ xs) (map_trees of fs)
 
--- numbers that fall along the calls
+-- the uses of each function, as the code has them
 uses_of_trees : (fs : List memory.TypedFunction) {lists : List (List Use)} → lists ≡ map (λ f. statement_uses (stmt_of f.body)) fs
     → lists ≡ map uses_of (map typed_function_of fs)
 uses_of_trees fs listed = listed ∙ sym (map_trees uses_of fs)
-
-pub no_cycle_by : (fs : List memory.TypedFunction) (ranks : List ℕ) {lists : List (List Use)} → lists ≡ map (λ f. statement_uses (stmt_of f.body)) fs
-    → Falls ranks lists → HasNoCycle (map typed_function_of fs)
-no_cycle_by fs ranks listed known = no_cycle (map typed_function_of fs) ranks (subst (λ ls. Falls ranks ls) (uses_of_trees fs listed) known)
 
 -- places of calls
 earlier_none : (a b : Option ℕ) → earlier a b ≡ None → (a ≡ None) × (b ≡ None)

@@ -15,7 +15,7 @@ use Rattle.c_types.specs.Scopes.{Scope, open_scope, is_taken}
 use Rattle.c_types.specs.Typing.{plain, typing}
 use Rattle.c_types.specs.Declarations.{parameter_kind, is_bad_length, is_name_taken, lacks_name, parameter, with_single, declarator, static_value}
 use Rattle.c_types.specs.Statements.{Initialiser, initialiser, is_array, started, Opened, with_object, block_item, block_items}
-use Rattle.c_types.specs.Visits.{Visit, visit, when, rule_of, of_one, of_two, behind}
+use Rattle.c_types.specs.Visits.{Visit, visit, when, rule_of, by_one, by_two, visits_behind}
 use Rattle.c_types.specs.ExpressionWalk.{plain_rules, constant_rules, rules, part_visits, visits, constant_visits}
 
 -- parameters
@@ -30,12 +30,12 @@ parameter_rules s naming p b bad =
 
 abbrev pub parameter_visits : Scope → Naming → ParameterTree → List Visit
 parameter_visits s naming p = visit p.specs.at (plain_rules p.specs) ∷ (length_visits s p.array
-    ++ visit p.specs.at (of_two (plain p.specs) (is_bad_length s p.array) (parameter_rules s naming p)) ∷ [])
+    ++ visit p.specs.at (by_two (plain p.specs) (is_bad_length s p.array) (parameter_rules s naming p)) ∷ [])
 
 abbrev pub parameters_visits : Scope → Naming → List ParameterTree → List Visit
 parameters_visits s naming [] = []
 parameters_visits s naming (p ∷ ps) = parameter_visits s naming p
-    ++ behind (parameter s naming p) (λ kind. parameters_visits (with_single s p.name (refs.Local 0) kind) naming ps)
+    ++ visits_behind (parameter s naming p) (λ kind. parameters_visits (with_single s p.name (refs.Local 0) kind) naming ps)
 
 -- declarators
 abbrev pub declarator_visits : Scope → ItemForm → List Visit
@@ -70,25 +70,25 @@ local_rules r item declares.Untyped i = Mismatch ∷ []
 local_rules r item (declares.Function type) i = when (is_some item.initial) Mismatch ++ Misplaced ∷ []
 local_rules r item (declares.Object type) i = rule_of (started r type item.at i)
 
-abbrev pub item_rules : Scope → VarRef → ItemTree → Declared → Initialiser → List Rule
-item_rules s r item d i = when (is_taken s item.name) Redeclared ++ local_rules r item d i
+abbrev pub block_item_rules : Scope → VarRef → ItemTree → Declared → Initialiser → List Rule
+block_item_rules s r item d i = when (is_taken s item.name) Redeclared ++ local_rules r item d i
 
 -- an initialiser sees the name of its item, where that can be declared
-abbrev pub declared_visits : Scope → VarRef → ItemTree → Declared → List Visit
-declared_visits s r item d = initial_visits (with_object s item.name r d) (is_array item.form) item.initial
-    ++ visit item.at (of_one (initialiser (with_object s item.name r d) (is_array item.form) item.initial) (item_rules s r item d)) ∷ []
+abbrev pub block_declared_visits : Scope → VarRef → ItemTree → Declared → List Visit
+block_declared_visits s r item d = initial_visits (with_object s item.name r d) (is_array item.form) item.initial
+    ++ visit item.at (by_one (initialiser (with_object s item.name r d) (is_array item.form) item.initial) (block_item_rules s r item d)) ∷ []
 
-abbrev pub item_visits : Scope → VarRef → Base → ItemTree → List Visit
-item_visits s r b item = declarator_visits s item.form
-    ++ behind (declarator s b item.form item.stars item.initial) (declared_visits s r item)
+abbrev pub block_item_visits : Scope → VarRef → Base → ItemTree → List Visit
+block_item_visits s r b item = declarator_visits s item.form
+    ++ visits_behind (declarator s b item.form item.stars item.initial) (block_declared_visits s r item)
 
-abbrev pub items_visits : Opened → Base → List ItemTree → List Visit
-items_visits o b [] = []
-items_visits o b (item ∷ items) = item_visits o.scope (refs.Local (length o.locals)) b item
-    ++ behind (block_item o b item) (λ p. items_visits p b items)
+abbrev pub block_items_visits : Opened → Base → List ItemTree → List Visit
+block_items_visits o b [] = []
+block_items_visits o b (item ∷ items) = block_item_visits o.scope (refs.Local (length o.locals)) b item
+    ++ visits_behind (block_item o b item) (λ p. block_items_visits p b items)
 
 -- declarations, one behind another
 abbrev pub declarations_visits : Opened → List DeclarationTree → List Visit
 declarations_visits o [] = []
 declarations_visits o (d ∷ ds) = visit d.specs.at (plain_rules d.specs)
-    ∷ behind (plain d.specs) (λ b. items_visits o b d.items ++ behind (block_items o b d.items) (λ p. declarations_visits p ds))
+    ∷ visits_behind (plain d.specs) (λ b. block_items_visits o b d.items ++ visits_behind (block_items o b d.items) (λ p. declarations_visits p ds))

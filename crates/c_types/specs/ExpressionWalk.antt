@@ -20,7 +20,7 @@ use Rattle.c_types.specs.Operands.{Operand, number, binary, both_true, either_tr
 use Rattle.c_types.specs.Constants.{constant}
 use Rattle.c_types.specs.Scopes.{Scope, is_in, is_out}
 use Rattle.c_types.specs.Typing.{Arguments, Operands, NoPort, Port, has, is_spelling, type_named, named, array_length, prefixed, is_address, operand, typing, arguments}
-use Rattle.c_types.specs.Visits.{Visit, visit, when, rule_of, of_one, of_two, of_three}
+use Rattle.c_types.specs.Visits.{Visit, visit, when, rule_of, by_one, by_two, by_three}
 
 -- the words of a type, in which static has no place
 abbrev pub plain_rules : SpecsTree → List Rule
@@ -67,10 +67,10 @@ other_count [] (x ∷ xs) = true
 other_count (kind ∷ kinds) [] = true
 other_count (kind ∷ kinds) (x ∷ xs) = other_count kinds xs
 
-abbrev pub function_rules : Option Meaning → ℕ → List Operand → List Rule
-function_rules None at xs = Undeclared ∷ when (any_void xs) Mismatch
-function_rules (Some (meanings.Object reference type)) at xs = Mismatch ∷ []
-function_rules (Some (meanings.Function type)) at xs =
+abbrev pub called_rules : Option Meaning → ℕ → List Operand → List Rule
+called_rules None at xs = Undeclared ∷ when (any_void xs) Mismatch
+called_rules (Some (meanings.Object reference type)) at xs = Mismatch ∷ []
+called_rules (Some (meanings.Function type)) at xs =
     when (any_misfit type.parameters at xs) Mismatch ++ when (other_count type.parameters xs) ArgCount
 
 -- a port that is read has no operand behind its number, and one that is written has one
@@ -91,7 +91,7 @@ output_rules class port xs =
     when (not (is_integer class) || not (is_word_first xs) || any_void xs) Mismatch ++ (when (nat_lt 15 port) BadPort ++ when (isnt_one xs) ArgCount)
 
 abbrev pub call_rules : Scope → List ℕ → ℕ → Arguments → List Rule
-call_rules s name at (Operands xs) = function_rules (s.meaning name) at xs
+call_rules s name at (Operands xs) = called_rules (s.meaning name) at xs
 call_rules s name at NoPort = ArgCount ∷ []
 call_rules s name at (Port class port xs) = if is_in name then input_rules class port xs else output_rules class port xs
 
@@ -107,7 +107,7 @@ constant_rules form (Broken rule at) value = when (is_call form) NotConstant
 
 -- a type under sizeof isn't void
 abbrev pub size_visit : TypeTree → Visit
-size_visit t = visit t.specs.at (of_one (type_named t) (λ kind. when (is_void kind) Mismatch))
+size_visit t = visit t.specs.at (by_one (type_named t) (λ kind. when (is_void kind) Mismatch))
 
 module _ (s : Scope) where
   -- the rules that a node breaks, where its parts are typed
@@ -115,20 +115,20 @@ module _ (s : Scope) where
   rules (tree.Name name) at = rule_of (named s name at)
   rules (tree.Number value marked decimal) at = rule_of (number value marked decimal at)
   rules (tree.Character value) at = []
-  rules (tree.Index a b) at = of_two (typing s a) (typing s b) (λ x y. rule_of (indexed at x y))
-  rules (tree.Call name es) at = of_one (arguments s name es) (call_rules s name at)
-  rules (tree.StepAfter up a) at = of_one (typing s a) (step_rules (is_address a))
-  rules (tree.StepBefore up a) at = of_one (typing s a) (step_rules (is_address a))
-  rules (tree.Prefix o a) at = of_one (typing s a) (prefix_rules o (is_some (array_length s a)) (is_address a) at)
-  rules (tree.SizeofValue a) at = of_one (typing s a) (λ x. rule_of (sized (array_length s a) at x))
+  rules (tree.Index a b) at = by_two (typing s a) (typing s b) (λ x y. rule_of (indexed at x y))
+  rules (tree.Call name es) at = by_one (arguments s name es) (call_rules s name at)
+  rules (tree.StepAfter up a) at = by_one (typing s a) (step_rules (is_address a))
+  rules (tree.StepBefore up a) at = by_one (typing s a) (step_rules (is_address a))
+  rules (tree.Prefix o a) at = by_one (typing s a) (prefix_rules o (is_some (array_length s a)) (is_address a) at)
+  rules (tree.SizeofValue a) at = by_one (typing s a) (λ x. rule_of (sized (array_length s a) at x))
   rules (tree.SizeofType t) at = []
-  rules (tree.Cast t a) at = of_two (type_named t) (typing s a) (λ kind x. rule_of (cast kind at (operand a x)))
-  rules (tree.Binary o a b) at = of_two (typing s a) (typing s b) (λ x y. rule_of (binary o at (operand a x) (operand b y)))
-  rules (tree.And a b) at = of_two (typing s a) (typing s b) (λ x y. rule_of (both_true at x y))
-  rules (tree.Or a b) at = of_two (typing s a) (typing s b) (λ x y. rule_of (either_true at x y))
-  rules (tree.Conditional c a b) at = of_three (typing s c) (typing s a) (typing s b) (λ t x y. rule_of (picked at t (operand a x) (operand b y)))
-  rules (tree.Assign a b) at = of_two (typing s a) (typing s b) (λ x y. assign_rules (is_address a) at x (operand b y))
-  rules (tree.AssignOp o a b) at = of_two (typing s a) (typing s b) (update_rules (is_address a) o)
+  rules (tree.Cast t a) at = by_two (type_named t) (typing s a) (λ kind x. rule_of (cast kind at (operand a x)))
+  rules (tree.Binary o a b) at = by_two (typing s a) (typing s b) (λ x y. rule_of (binary o at (operand a x) (operand b y)))
+  rules (tree.And a b) at = by_two (typing s a) (typing s b) (λ x y. rule_of (both_true at x y))
+  rules (tree.Or a b) at = by_two (typing s a) (typing s b) (λ x y. rule_of (either_true at x y))
+  rules (tree.Conditional c a b) at = by_three (typing s c) (typing s a) (typing s b) (λ t x y. rule_of (picked at t (operand a x) (operand b y)))
+  rules (tree.Assign a b) at = by_two (typing s a) (typing s b) (λ x y. assign_rules (is_address a) at x (operand b y))
+  rules (tree.AssignOp o a b) at = by_two (typing s a) (typing s b) (update_rules (is_address a) o)
   rules (tree.Comma a b) at = []
 
   abbrev mutual

@@ -1,4 +1,4 @@
--- The frame scalars of a function by marks: which of its objects have their addresses taken.
+-- The frame scalars of a function as the code counts them, by marks: which of its objects have their addresses taken.
 use Rattle.std.specs.Prelude.{◌≡◌, ◌<◌, ◌≤◌, ℕ, suc, ◌&&◌, not, Bool, false, if◌then◌else◌, List, [], ◌∷◌, ◌++◌, length, slice_index_or}
 use Rattle.c_tree.specs.declared.program.VarRef.{VarRef}
 use Rattle.c_tree.specs.declared.program.VarRef.TheVariants as refs
@@ -18,6 +18,7 @@ pub record Marks (us : List Use) (count : ℕ) (marks : List Bool) : Type 0 wher
 abbrev pub in_frame : LocalTree → Bool → Bool
 in_frame l pointed = is_single l.object_type && not pointed
 
+-- what objects stand for by marks, with the next numbers of frame scalars and of objects in memory
 abbrev pub numbered_by : List Bool → ℕ → ℕ → List LocalTree → List VarRef
 numbered_by (pointed ∷ marks) scalars objects (l ∷ ls) =
     if in_frame l pointed

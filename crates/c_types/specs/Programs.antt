@@ -1,5 +1,6 @@
 -- The typed program of a source (docs/LANGUAGE.md, "Types").
-use Rattle.std.specs.Prelude.{◌≡◌, ◌<◌, ℕ, suc, ◌==◌, ◌&&◌, ◌||◌, not, Bool, true, false, if◌then◌else◌, List, [], ◌∷◌, ◌++◌, map, take, length, codes, slice_get, unwrap_or, Some}
+use Rattle.std.specs.Prelude.{◌≡◌, ◌<◌, ℕ, zero, suc, ◌==◌, ◌&&◌, ◌||◌, not, Bool, true, false, if◌then◌else◌, List, [], ◌∷◌, ◌++◌, map, take, length, codes, slice_get, unwrap_or, Option, Some, None}
+use Rattle.std.specs.List.{range_with_len}
 use Rattle.std.specs.Str.{bytes_eq}
 use Rattle.c_tree.specs.declared.program.ScalarType.{ScalarType}
 use Rattle.c_tree.specs.declared.program.VarRef.{VarRef}
@@ -16,8 +17,7 @@ use Rattle.c_tree.specs.Uses.{statement_uses}
 use Rattle.c_types.specs.Renumbering as renumbering
 use Rattle.c_types.specs.Units.{StaticTree, TypedFunction, File}
 
--- frame scalars: the parameters and objects of one cell whose address isn't taken. Each object is numbered among its own kind, in
--- order of declaration.
+-- whether the address of an object is taken
 abbrev pub names_local : VarRef → ℕ → Bool
 names_local (refs.Local m) n = m == n
 names_local (refs.Scalar m) n = false
@@ -36,15 +36,30 @@ abbrev pub is_single : ObjectType → Bool
 is_single (Single kind) = true
 is_single (Array kind n) = false
 
-abbrev pub numbered : List Use → ℕ → ℕ → ℕ → List LocalTree → List VarRef
-numbered us n scalars objects [] = []
-numbered us n scalars objects (l ∷ ls) =
-    if is_single l.object_type && not (is_pointed us n)
-    then refs.Scalar scalars ∷ numbered us (suc n) (suc scalars) objects ls
-    else refs.Local objects ∷ numbered us (suc n) scalars (suc objects) ls
+-- frame scalars: the parameters and objects of one cell whose address isn't taken
+abbrev pub is_one_cell : Option LocalTree → Bool
+is_one_cell None = false
+is_one_cell (Some l) = is_single l.object_type
+
+abbrev pub is_scalar : List Use → List LocalTree → ℕ → Bool
+is_scalar us ls n = is_one_cell (slice_get ls n) && not (is_pointed us n)
+
+-- how many numbers below this one are such
+abbrev pub count_below : (ℕ → Bool) → ℕ → ℕ
+count_below is_such zero = 0
+count_below is_such (suc n) = if is_such n then suc (count_below is_such n) else count_below is_such n
+
+-- each object has the number of those of its own kind that are declared before it
+abbrev pub reference : List Use → List LocalTree → ℕ → VarRef
+reference us ls n =
+    if is_scalar us ls n then refs.Scalar (count_below (is_scalar us ls) n)
+    else refs.Local (count_below (λ k. not (is_scalar us ls k)) n)
+
+abbrev pub references : List Use → List LocalTree → List VarRef
+references us ls = map (reference us ls) (range_with_len 0 (length ls))
 
 abbrev pub frame : TypedFunction → List VarRef
-frame f = numbered (statement_uses f.body) 0 0 0 f.locals
+frame f = references (statement_uses f.body) f.locals
 
 -- the types of the frame scalars, and the other objects
 abbrev pub cell_kind : ObjectType → ScalarType

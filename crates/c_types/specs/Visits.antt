@@ -15,7 +15,7 @@ abbrev pub visit : ℕ → List Rule → Visit
 visit at broken = record { at = at; broken = broken }
 
 -- a rule that is broken, and the place of the node that breaks it
-pub record Break : Type 0 where
+pub record BrokenRule : Type 0 where
   pub rule : Rule
   pub at : ℕ
 
@@ -41,11 +41,11 @@ least [] = None
 least (rule ∷ rules) = Some (lesser rule (least rules))
 
 -- the first node that breaks a rule
-abbrev pub or_next : ℕ → Option Rule → Option Break → Option Break
+abbrev pub or_next : ℕ → Option Rule → Option BrokenRule → Option BrokenRule
 or_next at None next = next
 or_next at (Some rule) next = Some (record { rule = rule; at = at })
 
-abbrev pub first : List Visit → Option Break
+abbrev pub first : List Visit → Option BrokenRule
 first [] = None
 first (v ∷ vs) = or_next v.at (least v.broken) (first vs)
 
@@ -60,22 +60,22 @@ rule_of (Is a) = []
 rule_of (Broken rule at) = rule ∷ []
 
 -- what a node breaks by its typed parts
-abbrev pub of_one : {A : Type 0} → Outcome A → (A → List Rule) → List Rule
-of_one (Is a) rules = rules a
-of_one (Broken rule at) rules = []
+abbrev pub by_one : {A : Type 0} → Outcome A → (A → List Rule) → List Rule
+by_one (Is a) rules = rules a
+by_one (Broken rule at) rules = []
 
-abbrev pub of_two : {A B : Type 0} → Outcome A → Outcome B → (A → B → List Rule) → List Rule
-of_two o p rules = of_one o (λ a. of_one p (rules a))
+abbrev pub by_two : {A B : Type 0} → Outcome A → Outcome B → (A → B → List Rule) → List Rule
+by_two o p rules = by_one o (λ a. by_one p (rules a))
 
-abbrev pub of_three : {A B C : Type 0} → Outcome A → Outcome B → Outcome C → (A → B → C → List Rule) → List Rule
-of_three o p q rules = of_one o (λ a. of_two p q (rules a))
+abbrev pub by_three : {A B C : Type 0} → Outcome A → Outcome B → Outcome C → (A → B → C → List Rule) → List Rule
+by_three o p q rules = by_one o (λ a. by_two p q (rules a))
 
 -- the nodes behind something that is typed
-abbrev pub behind : {A : Type 0} → Outcome A → (A → List Visit) → List Visit
-behind (Is a) next = next a
-behind (Broken rule at) next = []
+abbrev pub visits_behind : {A : Type 0} → Outcome A → (A → List Visit) → List Visit
+visits_behind (Is a) next = next a
+visits_behind (Broken rule at) next = []
 
 -- what an outcome breaks
-abbrev pub broken_in : {A : Type 0} → Outcome A → Option Break
+abbrev pub broken_in : {A : Type 0} → Outcome A → Option BrokenRule
 broken_in (Is a) = None
 broken_in (Broken rule at) = Some (record { rule = rule; at = at })

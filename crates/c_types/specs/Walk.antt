@@ -15,7 +15,7 @@ use Rattle.c_types.specs.Scopes.{Scope, open_scope}
 use Rattle.c_types.specs.Typing.{is_spelling, spelled}
 use Rattle.c_types.specs.Declarations.{parameters, declarator}
 use Rattle.c_types.specs.Units.{File, Starts, with_declared, starts, static_list, may_declare, is_twice, file_item, with_parameters, parameter_locals, is_defined, behind_name, external, empty_file}
-use Rattle.c_types.specs.Visits.{Visit, visit, when, rule_of, of_one, behind}
+use Rattle.c_types.specs.Visits.{Visit, visit, when, rule_of, by_one, visits_behind}
 use Rattle.c_types.specs.DeclarationWalk.{parameters_visits, declarator_visits, entry_visits, entries_visits}
 use Rattle.c_types.specs.StatementWalk.{body_visits}
 
@@ -39,15 +39,15 @@ item_rules f item d i = when (not (may_declare f.scope item.name d) || is_twice 
 
 abbrev pub declared_visits : File → ItemTree → Declared → List Visit
 declared_visits f item d = starts_visits (with_declared f.scope item.name (length f.statics) d) item.initial
-    ++ visit item.at (of_one (starts (with_declared f.scope item.name (length f.statics) d) item.initial) (item_rules f item d)) ∷ []
+    ++ visit item.at (by_one (starts (with_declared f.scope item.name (length f.statics) d) item.initial) (item_rules f item d)) ∷ []
 
 abbrev pub item_visits : File → Base → ItemTree → List Visit
 item_visits f b item = declarator_visits f.scope item.form
-    ++ behind (declarator f.scope b item.form item.stars item.initial) (declared_visits f item)
+    ++ visits_behind (declarator f.scope b item.form item.stars item.initial) (declared_visits f item)
 
 abbrev pub items_visits : File → Base → List ItemTree → List Visit
 items_visits f b [] = []
-items_visits f b (item ∷ items) = item_visits f b item ++ behind (file_item f b item) (λ g. items_visits g b items)
+items_visits f b (item ∷ items) = item_visits f b item ++ visits_behind (file_item f b item) (λ g. items_visits g b items)
 
 -- a function with its body
 abbrev pub typed_as : FunctionSyntax → Base → List ScalarType → FunctionType
@@ -64,15 +64,15 @@ defined_visits file f type =
 
 abbrev pub function_visits : File → FunctionSyntax → List Visit
 function_visits file f = spelled_visit f.specs ∷ (parameters_visits (open_scope file.scope) Needed f.parameters.list
-    ++ behind (spelled f.specs) (λ b. behind (parameters (open_scope file.scope) Needed f.parameters.list) (λ kinds. defined_visits file f (typed_as f b kinds))))
+    ++ visits_behind (spelled f.specs) (λ b. visits_behind (parameters (open_scope file.scope) Needed f.parameters.list) (λ kinds. defined_visits file f (typed_as f b kinds))))
 
 abbrev pub external_visits : File → ExternalTree → List Visit
 external_visits file (Defined f) = function_visits file f
-external_visits file (tree.Declared d) = spelled_visit d.specs ∷ behind (spelled d.specs) (λ b. items_visits file b d.items)
+external_visits file (tree.Declared d) = spelled_visit d.specs ∷ visits_behind (spelled d.specs) (λ b. items_visits file b d.items)
 
 abbrev pub externals_visits : File → UnitTree → List Visit
 externals_visits file [] = []
-externals_visits file (x ∷ xs) = external_visits file x ++ behind (external file x) (λ g. externals_visits g xs)
+externals_visits file (x ∷ xs) = external_visits file x ++ visits_behind (external file x) (λ g. externals_visits g xs)
 
 -- the nodes of a source in walking order, all of them up to the first that breaks a rule
 abbrev pub walk : UnitTree → List Visit

@@ -1,7 +1,7 @@
 //! What the objects of a function stand for: frame scalars, and objects in memory.
 ghost use Rattle.std.specs.Prelude.{◌≡◌, ◌<◌, ◌||◌, ◌∷◌, Bool, true, false, ℕ, List, map, length, slice_index_or, IfOk};
 ghost use Rattle.c_types.specs.Frames.{Marks, in_frame, numbered_by, scalars_by, still, IsFrame};
-ghost use Rattle.c_types.specs.Programs.{is_address, numbered};
+ghost use Rattle.c_types.specs.Programs.{is_address, references};
 ghost use Rattle.c_types.specs.Statements.{LocalTree};
 ghost use Rattle.c_types.specs.View.{local_tree_of};
 
@@ -24,7 +24,7 @@ pub(crate) enum Frame {
 
 /// What the objects of a function stand for, in order of declaration.
 pub(crate) fn frame_of(alloc: Global, uses: &[Use], locals: &[Local]) -> Result<Frame, NoMemory>
-    ensures { IfOk result (IsFrame (numbered uses.now 0 0 0 (map local_tree_of locals.now))) }
+    ensures { IfOk result (IsFrame (references uses.now (map local_tree_of locals.now))) }
 {
     let pointed = pointed_by(alloc, uses, locals.len())?;
     let scalars = count_scalars(&pointed, locals)?;

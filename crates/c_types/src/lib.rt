@@ -5,6 +5,7 @@ mod arguments;
 mod blocks;
 mod call_arguments;
 mod calls;
+mod components;
 mod constants;
 mod conversions;
 mod declarations;

@@ -1,12 +1,13 @@
 //! The first function that reaches itself by calls, and the first of its ways round.
-ghost use Rattle.std.specs.Prelude.{◌≡◌, ◌<◌, ◌≤◌, ◌+◌, ◌∷◌, [], ℕ, map, length, replicate, false, ◌≢◌, slice_get, vec_items, IfOk, MatchOption};
+ghost use Rattle.std.specs.Prelude.{◌≡◌, ◌<◌, ◌+◌, ◌∷◌, [], ℕ, map, length, replicate, false, ◌≢◌, slice_get, vec_items, IfOk, MatchOption};
 ghost use Rattle.std.specs.List.{All, AllZip};
 ghost use Rattle.c_types.specs.Calls.{called, CallsAmong, IsOrdered, AreOrdered};
 ghost use Rattle.c_types.specs.Chains.{name_of};
-ghost use Rattle.c_types.specs.Rounds.{IsRound, IsFirstChain, HasNoRound, NoneBelow};
+ghost use Rattle.c_types.specs.Rounds.{IsFirstChain, HasNoRound, NoneBelow};
 ghost use Rattle.c_types.specs.Trails.{Reached, IsLinked, HasSearched, trail_of, way_at};
 ghost use Rattle.c_types.specs.View.{typed_function_of};
 
+use crate::calls::first_suspect;
 use crate::functions::TypedFunction;
 use c_tree::Use;
 use std::alloc::Global;
@@ -37,11 +38,12 @@ pub(crate) fn first_round(alloc: Global, uses: &[Vec<Use>]) -> Result<Option<Vec
     ensures { IfOk result (λ found. MatchOption found (HasNoRound (CallsAmong (map called (map vec_items uses.now)))) (λ numbers. IsFirstChain (CallsAmong (map called (map vec_items uses.now))) numbers.items)) }
 {
     let callees = all_callees(alloc, uses)?;
+    let start = first_suspect(alloc, &callees)?;
     let mut search = Search {
         steps: Vec::new(alloc),
         entered: vec![in alloc; false; uses.len()]?,
     };
-    for first in 0..uses.len() {
+    for first in start..uses.len() {
         if let Some(round) = search.round(alloc, first, &callees)? {
             return Ok(Some(round));
         }

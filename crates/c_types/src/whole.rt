@@ -13,7 +13,6 @@ ghost use Rattle.c_types.specs.View.{typed_function_of, frame_lists};
 ghost use Rattle.c_types.specs.Whole as wanted;
 ghost use Rattle.c_types.specs.Whole.{IsOver, passed, frame_size, first_above};
 
-use crate::calls::ranks_of;
 use crate::fault::{LimitName, TypeFault};
 use crate::frames::{Frame, frame_of};
 use crate::functions::TypedFunction;
@@ -132,9 +131,6 @@ fn no_recursion(
     ensures no_cycle { IfOk result (λ _. HasNoCycle (map typed_function_of functions.now)) }
     ensures refused { IfErr result (IsRecursion (map typed_function_of functions.now)) }
 {
-    if let Some(_ranks) = ranks_of(alloc, uses)? {
-        return Ok(());
-    }
     match first_round(alloc, uses)? {
         None => Ok(()),
         Some(round) => Err(TypeFault::Recursion {

@@ -1,5 +1,5 @@
 -- How many addresses a typed tree takes, and how many objects of a frame lie in memory.
-use Rattle.std.proofs.Common.{◌≡◌, ◌≤◌, ◌<◌, ◌+◌, ℕ, suc, ◌==◌, ◌&&◌, ◌||◌, not, Bool, true, false, if◌then◌else◌, List, [], ◌∷◌, ◌++◌, length, refl, arith}
+use Rattle.std.proofs.Common.{◌≡◌, ap, ◌≤◌, ◌<◌, ◌+◌, ℕ, suc, ◌==◌, ◌&&◌, ◌||◌, not, Bool, true, false, if◌then◌else◌, List, [], ◌∷◌, ◌++◌, length, refl, arith}
 use Rattle.std.proofs.lemmas.Bool.{eqb-true}
 use Rattle.c_tree.specs.declared.program.VarRef.{VarRef}
 use Rattle.c_tree.specs.declared.program.VarRef.TheVariants as refs
@@ -7,7 +7,8 @@ use Rattle.c_tree.specs.declared.uses.Use.{Use}
 use Rattle.c_tree.specs.declared.uses.Use.TheVariants.{Address, Call, Cases}
 use Rattle.c_types.specs.declared.meaning.ObjectType.{ObjectType}
 use Rattle.c_types.specs.declared.meaning.ObjectType.TheVariants.{Single, Array}
-use Rattle.c_types.specs.Programs.{is_pointed, is_single, names_local, numbered, objects_in}
+use Rattle.c_types.proofs.FrameNumbers.{numbered_from, references_counted}
+use Rattle.c_types.specs.Programs.{is_pointed, is_single, names_local, objects_in, references}
 use Rattle.c_types.specs.Statements.{LocalTree}
 
 abbrev pub addresses : List Use → ℕ
@@ -99,22 +100,22 @@ module _ (us : List Use) (n scalars objects : ℕ) (l : LocalTree) (ls : List Lo
   -- the numbers where the first object is a frame scalar, and where it isn't
   abbrev numbered_as : Bool → List VarRef
   numbered_as b =
-      if b then refs.Scalar scalars ∷ numbered us (suc n) (suc scalars) objects ls
-      else refs.Local objects ∷ numbered us (suc n) scalars (suc objects) ls
+      if b then refs.Scalar scalars ∷ numbered_from us (suc n) (suc scalars) objects ls
+      else refs.Local objects ∷ numbered_from us (suc n) scalars (suc objects) ls
 
   first_marked : (b : Bool) → (is_single l.object_type && not (is_pointed us n)) ≡ b
-      → ((i j : ℕ) → length (objects_in (numbered us (suc n) i j ls) ls) ≤ arrays ls + marked (is_pointed us) (suc n) ls)
+      → ((i j : ℕ) → length (objects_in (numbered_from us (suc n) i j ls) ls) ≤ arrays ls + marked (is_pointed us) (suc n) ls)
       → length (objects_in (numbered_as b) (l ∷ ls)) ≤ arrays (l ∷ ls) + marked (is_pointed us) n (l ∷ ls)
   first_marked true scalar others = omega (arith, others (suc scalars) objects)
   first_marked false in_memory others = omega (arith, others scalars (suc objects), bit_in_memory l.object_type (is_pointed us n) in_memory)
 
 objects_marked : (us : List Use) (n scalars objects : ℕ) (ls : List LocalTree)
-    → length (objects_in (numbered us n scalars objects ls) ls) ≤ arrays ls + marked (is_pointed us) n ls
+    → length (objects_in (numbered_from us n scalars objects ls) ls) ≤ arrays ls + marked (is_pointed us) n ls
 objects_marked us n scalars objects [] = omega arith
 objects_marked us n scalars objects (l ∷ ls) =
     first_marked us n scalars objects l ls (is_single l.object_type && not (is_pointed us n)) refl (λ i j. objects_marked us (suc n) i j ls)
 
 -- the objects of a frame
-pub frame_objects_few : (us : List Use) (n scalars objects : ℕ) (ls : List LocalTree)
-    → length (objects_in (numbered us n scalars objects ls) ls) ≤ arrays ls + addresses us
-frame_objects_few us n scalars objects ls = omega (arith, objects_marked us n scalars objects ls, pointed_few us n ls)
+pub frame_objects_few : (us : List Use) (ls : List LocalTree) → length (objects_in (references us ls) ls) ≤ arrays ls + addresses us
+frame_objects_few us ls =
+    omega (arith, ap (λ rs. length (objects_in rs ls)) (references_counted us ls), objects_marked us 0 0 0 ls, pointed_few us 0 ls)

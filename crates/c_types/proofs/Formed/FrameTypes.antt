@@ -1,5 +1,5 @@
 -- The objects of a function by their numbers among their own kind.
-use Rattle.std.proofs.Common.{◌≡◌, ◌≤◌, ◌⊎◌, inl, inr, ◌+◌, ◌∷◌, [], ℕ, suc, zero, Bool, true, false, if◌then◌else◌, ◌&&◌, not, List, map, take, length, slice_get, Some, ap, ◌∙◌, refl, subst, arith}
+use Rattle.std.proofs.Common.{◌≡◌, ◌≤◌, ◌⊎◌, inl, inr, ◌+◌, ◌∷◌, [], ℕ, suc, zero, Bool, true, false, if◌then◌else◌, ◌&&◌, not, List, map, take, length, slice_get, Some, ap, ◌∙◌, sym, refl, subst, arith}
 use Rattle.std.specs.Prelude.{All, AllPairs, ◌≢◌}
 use Rattle.std.proofs.lemmas.List.Elements.{All-cons, All-nil, All-take, All-head, All-tail}
 use Rattle.std.proofs.lemmas.List.Kept.{AllPairs-cons}
@@ -9,8 +9,9 @@ use Rattle.c_tree.specs.declared.program.VarRef.TheVariants as refs
 use Rattle.c_tree.specs.TypedTree.{ObjectTree}
 use Rattle.c_tree.specs.declared.uses.Use.{Use}
 use Rattle.c_types.specs.Frames.{frame_scalars}
-use Rattle.c_types.specs.Programs.{is_pointed, is_single, numbered, scalars_in, objects_in, cell_kind, local_object}
+use Rattle.c_types.specs.Programs.{is_pointed, is_single, scalars_in, objects_in, cell_kind, local_object, references}
 use Rattle.c_types.specs.Statements.{LocalTree}
+use Rattle.c_types.proofs.FrameNumbers.{numbered_from, references_counted}
 
 -- an object is a frame scalar, or an object in memory
 pub record IsScalar (us : List Use) (n first k : ℕ) (rs : List VarRef) (ls : List LocalTree) (l : LocalTree) : Type 0 where
@@ -28,7 +29,7 @@ pub record IsInMemory (first k : ℕ) (rs : List VarRef) (ls : List LocalTree) (
 -- what the first object is
 module _ (us : List Use) (n scalars objects : ℕ) (l : LocalTree) (ls : List LocalTree) where
   first_scalar : is_single l.object_type ≡ true → is_pointed us n ≡ false
-      → IsScalar us n scalars 0 (refs.Scalar scalars ∷ numbered us (suc n) (suc scalars) objects ls) (l ∷ ls) l
+      → IsScalar us n scalars 0 (refs.Scalar scalars ∷ numbered_from us (suc n) (suc scalars) objects ls) (l ∷ ls) l
   first_scalar single unpointed = record {
     number = 0;
     reference = ap (λ m. Some (refs.Scalar m)) (omega arith);
@@ -37,7 +38,7 @@ module _ (us : List Use) (n scalars objects : ℕ) (l : LocalTree) (ls : List Lo
     unpointed = subst (λ m. is_pointed us m ≡ false) (omega arith) unpointed;
   }
 
-  first_object : IsInMemory objects 0 (refs.Local objects ∷ numbered us (suc n) scalars (suc objects) ls) (l ∷ ls) l
+  first_object : IsInMemory objects 0 (refs.Local objects ∷ numbered_from us (suc n) scalars (suc objects) ls) (l ∷ ls) l
   first_object = record { number = 0; reference = ap (λ m. Some (refs.Local m)) (omega arith); object = refl }
 
 -- what a later one is, behind a frame scalar and behind an object in memory
@@ -87,24 +88,24 @@ both_true true true is = absurd (cc is)
 both_true true false is = (refl, refl)
 both_true false b is = absurd (cc is)
 
-pub placed : (us : List Use) (n scalars objects : ℕ) (ls : List LocalTree) (k : ℕ) (l : LocalTree) → slice_get ls k ≡ Some l
-    → IsPlaced us n scalars objects k (numbered us n scalars objects ls) ls l
+placed : (us : List Use) (n scalars objects : ℕ) (ls : List LocalTree) (k : ℕ) (l : LocalTree) → slice_get ls k ≡ Some l
+    → IsPlaced us n scalars objects k (numbered_from us n scalars objects ls) ls l
 placed us n scalars objects [] k l there = absurd (cc there)
 placed us n scalars objects (m ∷ ls) zero l there =
     let same : m ≡ l = cc there
     in let here : (b : Bool) → (is_single m.object_type && not (is_pointed us n)) ≡ b
-    → IsPlaced us n scalars objects 0 (if b then refs.Scalar scalars ∷ numbered us (suc n) (suc scalars) objects ls else refs.Local objects ∷ numbered us (suc n) scalars (suc objects) ls) (m ∷ ls) m
+    → IsPlaced us n scalars objects 0 (if b then refs.Scalar scalars ∷ numbered_from us (suc n) (suc scalars) objects ls else refs.Local objects ∷ numbered_from us (suc n) scalars (suc objects) ls) (m ∷ ls) m
     = λ b is. elim b as (λ b. (is_single m.object_type && not (is_pointed us n)) ≡ b
-    → IsPlaced us n scalars objects 0 (if b then refs.Scalar scalars ∷ numbered us (suc n) (suc scalars) objects ls else refs.Local objects ∷ numbered us (suc n) scalars (suc objects) ls) (m ∷ ls) m) [
+    → IsPlaced us n scalars objects 0 (if b then refs.Scalar scalars ∷ numbered_from us (suc n) (suc scalars) objects ls else refs.Local objects ∷ numbered_from us (suc n) scalars (suc objects) ls) (m ∷ ls) m) [
       | true ↦ (λ is. let both = both_true (is_single m.object_type) (is_pointed us n) is in inl (first_scalar us n scalars objects m ls both.0 both.1))
       | false ↦ (λ is. inr (first_object us n scalars objects m ls))
     ] is
-    in subst (λ x. IsPlaced us n scalars objects 0 (numbered us n scalars objects (m ∷ ls)) (m ∷ ls) x) same (here (is_single m.object_type && not (is_pointed us n)) refl)
+    in subst (λ x. IsPlaced us n scalars objects 0 (numbered_from us n scalars objects (m ∷ ls)) (m ∷ ls) x) same (here (is_single m.object_type && not (is_pointed us n)) refl)
 placed us n scalars objects (m ∷ ls) (suc k) l there =
     elim (is_single m.object_type && not (is_pointed us n)) as (λ b.
-    IsPlaced us n scalars objects (suc k) (if b then refs.Scalar scalars ∷ numbered us (suc n) (suc scalars) objects ls else refs.Local objects ∷ numbered us (suc n) scalars (suc objects) ls) (m ∷ ls) l) [
-      | true ↦ behind_scalar us n scalars objects k (numbered us (suc n) (suc scalars) objects ls) m l ls (placed us (suc n) (suc scalars) objects ls k l there)
-      | false ↦ behind_object us n scalars objects k (numbered us (suc n) scalars (suc objects) ls) m l ls (placed us (suc n) scalars (suc objects) ls k l there)
+    IsPlaced us n scalars objects (suc k) (if b then refs.Scalar scalars ∷ numbered_from us (suc n) (suc scalars) objects ls else refs.Local objects ∷ numbered_from us (suc n) scalars (suc objects) ls) (m ∷ ls) l) [
+      | true ↦ behind_scalar us n scalars objects k (numbered_from us (suc n) (suc scalars) objects ls) m l ls (placed us (suc n) (suc scalars) objects ls k l there)
+      | false ↦ behind_object us n scalars objects k (numbered_from us (suc n) scalars (suc objects) ls) m l ls (placed us (suc n) scalars (suc objects) ls k l there)
     ]
 
 -- a frame names each object once
@@ -136,39 +137,49 @@ other_object scalars objects (refs.Scalar m) from = λ same. absurd (cc same)
 other_object scalars objects (refs.Local m) from = λ same. let number : objects ≡ m = cc same in absurd (omega (arith, from, number))
 other_object scalars objects (refs.Static m) from = absurd from
 
-all_from : (us : List Use) (n scalars objects : ℕ) (ls : List LocalTree) → All (IsFrom scalars objects) (numbered us n scalars objects ls)
+all_from : (us : List Use) (n scalars objects : ℕ) (ls : List LocalTree) → All (IsFrom scalars objects) (numbered_from us n scalars objects ls)
 all_from us n scalars objects [] = All-nil (IsFrom scalars objects)
 all_from us n scalars objects (l ∷ ls) =
     elim (is_single l.object_type && not (is_pointed us n)) as (λ b. All (IsFrom scalars objects)
-    (if b then refs.Scalar scalars ∷ numbered us (suc n) (suc scalars) objects ls else refs.Local objects ∷ numbered us (suc n) scalars (suc objects) ls)) [
-      | true ↦ All-cons (IsFrom scalars objects) (refs.Scalar scalars) (numbered us (suc n) (suc scalars) objects ls) (omega arith)
+    (if b then refs.Scalar scalars ∷ numbered_from us (suc n) (suc scalars) objects ls else refs.Local objects ∷ numbered_from us (suc n) scalars (suc objects) ls)) [
+      | true ↦ All-cons (IsFrom scalars objects) (refs.Scalar scalars) (numbered_from us (suc n) (suc scalars) objects ls) (omega arith)
           (λ k d below. behind_scalars scalars objects _ (all_from us (suc n) (suc scalars) objects ls k d below))
-      | false ↦ All-cons (IsFrom scalars objects) (refs.Local objects) (numbered us (suc n) scalars (suc objects) ls) (omega arith)
+      | false ↦ All-cons (IsFrom scalars objects) (refs.Local objects) (numbered_from us (suc n) scalars (suc objects) ls) (omega arith)
           (λ k d below. behind_objects scalars objects _ (all_from us (suc n) scalars (suc objects) ls k d below))
     ]
 
-pub frame_differs : (us : List Use) (n scalars objects m : ℕ) (ls : List LocalTree) → AllPairs (λ a b. a ≢ b) (take m (numbered us n scalars objects ls))
+frame_differs : (us : List Use) (n scalars objects m : ℕ) (ls : List LocalTree) → AllPairs (λ a b. a ≢ b) (take m (numbered_from us n scalars objects ls))
 frame_differs us n scalars objects zero ls = no_pair
 frame_differs us n scalars objects (suc m) [] = no_pair
 frame_differs us n scalars objects (suc m) (l ∷ ls) =
     elim (is_single l.object_type && not (is_pointed us n)) as (λ b. AllPairs (λ a b. a ≢ b)
-    (take (suc m) (if b then refs.Scalar scalars ∷ numbered us (suc n) (suc scalars) objects ls else refs.Local objects ∷ numbered us (suc n) scalars (suc objects) ls))) [
-      | true ↦ AllPairs-cons (λ a b. a ≢ b) (refs.Scalar scalars) (take m (numbered us (suc n) (suc scalars) objects ls))
-          (All-take (λ r. refs.Scalar scalars ≢ r) m (numbered us (suc n) (suc scalars) objects ls)
+    (take (suc m) (if b then refs.Scalar scalars ∷ numbered_from us (suc n) (suc scalars) objects ls else refs.Local objects ∷ numbered_from us (suc n) scalars (suc objects) ls))) [
+      | true ↦ AllPairs-cons (λ a b. a ≢ b) (refs.Scalar scalars) (take m (numbered_from us (suc n) (suc scalars) objects ls))
+          (All-take (λ r. refs.Scalar scalars ≢ r) m (numbered_from us (suc n) (suc scalars) objects ls)
           (λ k d below. other_scalar scalars objects _ (all_from us (suc n) (suc scalars) objects ls k d below)))
           (frame_differs us (suc n) (suc scalars) objects m ls)
-      | false ↦ AllPairs-cons (λ a b. a ≢ b) (refs.Local objects) (take m (numbered us (suc n) scalars (suc objects) ls))
-          (All-take (λ r. refs.Local objects ≢ r) m (numbered us (suc n) scalars (suc objects) ls)
+      | false ↦ AllPairs-cons (λ a b. a ≢ b) (refs.Local objects) (take m (numbered_from us (suc n) scalars (suc objects) ls))
+          (All-take (λ r. refs.Local objects ≢ r) m (numbered_from us (suc n) scalars (suc objects) ls)
           (λ k d below. other_object scalars objects _ (all_from us (suc n) scalars (suc objects) ls k d below)))
           (frame_differs us (suc n) scalars (suc objects) m ls)
     ]
 
-pub frame_length : (us : List Use) (n scalars objects : ℕ) (ls : List LocalTree) → length (numbered us n scalars objects ls) ≡ length ls
+frame_length : (us : List Use) (n scalars objects : ℕ) (ls : List LocalTree) → length (numbered_from us n scalars objects ls) ≡ length ls
 frame_length us n scalars objects [] = refl
 frame_length us n scalars objects (l ∷ ls) =
     elim (is_single l.object_type && not (is_pointed us n)) as (λ b.
-    length (if b then refs.Scalar scalars ∷ numbered us (suc n) (suc scalars) objects ls else refs.Local objects ∷ numbered us (suc n) scalars (suc objects) ls) ≡ suc (length ls))
+    length (if b then refs.Scalar scalars ∷ numbered_from us (suc n) (suc scalars) objects ls else refs.Local objects ∷ numbered_from us (suc n) scalars (suc objects) ls) ≡ suc (length ls))
     [ true ↦ ap suc (frame_length us (suc n) (suc scalars) objects ls) | false ↦ ap suc (frame_length us (suc n) scalars (suc objects) ls) ]
+
+-- the same of what a function's objects stand for
+pub placed_in : (us : List Use) (ls : List LocalTree) (k : ℕ) (l : LocalTree) → slice_get ls k ≡ Some l → IsPlaced us 0 0 0 k (references us ls) ls l
+placed_in us ls k l there = subst (λ rs. IsPlaced us 0 0 0 k rs ls l) (sym (references_counted us ls)) (placed us 0 0 0 ls k l there)
+
+pub references_differ : (us : List Use) (m : ℕ) (ls : List LocalTree) → AllPairs (λ a b. a ≢ b) (take m (references us ls))
+references_differ us m ls = subst (λ rs. AllPairs (λ a b. a ≢ b) (take m rs)) (sym (references_counted us ls)) (frame_differs us 0 0 0 m ls)
+
+pub references_length : (us : List Use) (ls : List LocalTree) → length (references us ls) ≡ length ls
+references_length us ls = ap length (references_counted us ls) ∙ frame_length us 0 0 0 ls
 
 -- the types of the scalars and the other objects are those of the function's objects
 pub scalar_count : (rs : List VarRef) (ls : List LocalTree) → length rs ≡ length ls → frame_scalars rs ≡ length (scalars_in rs ls)

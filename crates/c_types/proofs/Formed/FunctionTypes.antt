@@ -22,7 +22,7 @@ use Rattle.c_tree.specs.WellFormedProgram as whole
 use Rattle.c_tree.specs.WellFormedProgram.{IsParameter, parameter_kind, names_of, scalar_shape, object_shape, object_kind}
 use Rattle.c_types.proofs.Formed.Context.{shape_of, numbers_from}
 use Rattle.c_types.proofs.Formed.FileContext.{names_in, object_in, static_names, local_shape, static_shape, local_kind, signature, is_array}
-use Rattle.c_types.proofs.Formed.FrameTypes.{IsPlaced, placed, frame_differs, frame_length, same_taken}
+use Rattle.c_types.proofs.Formed.FrameTypes.{IsPlaced, placed_in, references_differ, references_length, same_taken}
 use Rattle.c_types.proofs.Formed.RenumberedNames.{Renumbers, Carries, opened_carries}
 use Rattle.c_types.proofs.Formed.RenumberedTypes.{HaveAddresses}
 
@@ -50,7 +50,7 @@ from_zero f k l (inl is) = inl (record {
 from_zero f k l (inr is) = inr (record { number = is.number; reference = is.reference ∙ ap (λ i. Some (refs.Local i)) (omega arith); object = is.object })
 
 object_of : (f : TypedFunction) (k : ℕ) (l : LocalTree) → slice_get f.locals k ≡ Some l → InFrame f k l ⊎ InMemory f k l
-object_of f k l there = from_zero f k l (placed (statement_uses f.body) 0 0 0 f.locals k l there)
+object_of f k l there = from_zero f k l (placed_in (statement_uses f.body) f.locals k l there)
 
 -- a reference in the frame is what its object is called
 called : (f : TypedFunction) (k : ℕ) (r : VarRef) → slice_get (frame f) k ≡ Some r → by.numbered (frame f) k ≡ r
@@ -83,7 +83,7 @@ one_place (s ∷ rs) differ (suc i) (suc j) r first second =
     ap suc (one_place rs (λ k l d less below. differ (suc k) (suc l) d (omega (arith, less)) (omega (arith, below))) i j r first second)
 
 all_differ : (f : TypedFunction) → AllPairs (λ a b. a ≢ b) (frame f)
-all_differ f = subst (AllPairs (λ a b. a ≢ b)) (take-length (frame f)) (frame_differs (statement_uses f.body) 0 0 0 (length (frame f)) f.locals)
+all_differ f = subst (AllPairs (λ a b. a ≢ b)) (take-length (frame f)) (references_differ (statement_uses f.body) (length (frame f)) f.locals)
 
 module _ (f : TypedFunction) where
   named_in_frame : (k : ℕ) (l : LocalTree) → InFrame f k l ⊎ InMemory f k l → slice_get (frame f) k ≡ Some (by.numbered (frame f) k)
@@ -216,7 +216,7 @@ same_signature : (o : Option TypedFunction) → whole.signature (option_map func
 same_signature None = refl
 same_signature (Some f) =
     ap (λ kinds. Some (record { parameters = kinds; result = f.result }))
-    (same_taken (parameter_kind (function_tree f)) local_kind f.parameters (frame f) f.locals (frame_length (statement_uses f.body) 0 0 0 f.locals) (parameter_carried f))
+    (same_taken (parameter_kind (function_tree f)) local_kind f.parameters (frame f) f.locals (references_length (statement_uses f.body) f.locals) (parameter_carried f))
 
 all_carried : (file : File) (f : TypedFunction) → Carries (frame f) (object_in file f) (names_in file f) (names_of (program_tree file) (function_tree f))
 all_carried file f = record {
@@ -255,7 +255,7 @@ pub body_carried : (file : File) (f : TypedFunction) → f.parameters ≤ length
     → Carries (frame f) (object_in file f) (opened (object_in file f) (numbers_from 0 f.parameters) (names_in file f))
     (opened (whole.object_in (program_tree file) (function_tree f)) (function_tree f).params (names_of (program_tree file) (function_tree f)))
 body_carried file f few =
-    let long = frame_length (statement_uses f.body) 0 0 0 f.locals
+    let long = references_length (statement_uses f.body) f.locals
     in let params : map (by.renumbered (frame f)) (numbers_from 0 f.parameters) ≡ (function_tree f).params
     = first_named (frame f) 0 f.parameters (frame f) (λ k. ap (slice_get (frame f)) (omega arith)) (omega (arith, few, long))
     in subst (λ ps. Carries (frame f) (object_in file f) (opened (object_in file f) (numbers_from 0 f.parameters) (names_in file f))
@@ -295,7 +295,7 @@ module _ (f : TypedFunction) (single : All (λ l. is_single l.object_type ≡ tr
   parameter_at k r None less named there =
       let within = slice_get_within (frame f) k r named
       in let past = past_all f.locals k there
-      in absurd (omega (arith, within, past, frame_length (statement_uses f.body) 0 0 0 f.locals))
+      in absurd (omega (arith, within, past, references_length (statement_uses f.body) f.locals))
   parameter_at k r (Some l) less named there =
       one_cell k r l named (taken_at (λ x. is_single x.object_type ≡ true) f.parameters f.locals single k l less there) (object_of f k l there)
 
@@ -311,7 +311,7 @@ module _ (f : TypedFunction) where
   address_kept : (n : ℕ) (o : Option LocalTree) → slice_get f.locals n ≡ o → is_pointed (statement_uses f.body) n ≡ true → IsAddressable (by.numbered (frame f) n)
   address_kept n None there pointed =
       let past = past_all f.locals n there
-      in let behind : length (frame f) ≤ n = omega (arith, past, frame_length (statement_uses f.body) 0 0 0 f.locals)
+      in let behind : length (frame f) ≤ n = omega (arith, past, references_length (statement_uses f.body) f.locals)
       in subst IsAddressable (sym (ap (λ o. unwrap_or o (refs.Local n)) (slice_get_past (frame f) n behind))) tt
   address_kept n (Some l) there pointed = address_as n l pointed (object_of f n l there)
 

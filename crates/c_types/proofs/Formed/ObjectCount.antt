@@ -117,7 +117,7 @@ locals_few (f ∷ fs) =
     omega (
       arith,
       locals_few fs,
-      frame_objects_few (statement_uses f.body) 0 0 0 f.locals,
+      frame_objects_few (statement_uses f.body) f.locals,
       sum_by-cons (λ (g : FunctionTree). length g.locals) (function_tree f) (map function_tree fs),
       sum_by-cons function_objects f fs,
     )

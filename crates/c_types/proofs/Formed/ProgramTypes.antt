@@ -32,7 +32,7 @@ use Rattle.c_tree.specs.WellFormedProgram.{IsObject, IsFunction, IsLimited, IsMa
 use Rattle.c_types.specs.Whole.{uses_of, case_counts, all_cases, first_above, frame_size}
 use Rattle.c_types.proofs.Formed.Context.{IsLocal, numbers_from}
 use Rattle.c_types.proofs.Formed.FileContext.{names_in, object_in, static_shape, IsTypedFunction, IsStatic, IsTypedFile}
-use Rattle.c_types.proofs.Formed.FrameTypes.{frame_length, frame_differs, scalar_count, all_scalars, all_objects}
+use Rattle.c_types.proofs.Formed.FrameTypes.{references_length, references_differ, scalar_count, all_scalars, all_objects}
 use Rattle.c_types.proofs.Formed.FunctionTypes.{static_kept, renumbers, body_carried, all_parameters, all_addresses}
 use Rattle.c_types.proofs.Formed.RenumberedTypes.{kept_statement}
 use Rattle.c_types.proofs.Formed.RenumberedUses.{statement_kept, counts_kept, call_kept, IsCall}
@@ -78,7 +78,7 @@ module _ (file : File) where
       scalars = all_scalars (IsLocal (names_in file f)) IsType (λ l is. is.is_type) (frame f) f.locals typed.locals;
       locals = all_objects (IsLocal (names_in file f)) (IsObject (program_tree file)) local_formed (frame f) f.locals typed.locals;
       parameters = all_parameters f typed.single;
-      differ = frame_differs (statement_uses f.body) 0 0 0 f.parameters f.locals;
+      differ = references_differ (statement_uses f.body) f.parameters f.locals;
       body = kept_statement (frame f) (object_in file f) (whole.object_in (program_tree file) (function_tree f)) (renumbers file f) f.result
           (opened (object_in file f) (numbers_from 0 f.parameters) (names_in file f))
           (opened (whole.object_in (program_tree file) (function_tree f)) (function_tree f).params (names_of (program_tree file) (function_tree f)))
@@ -201,7 +201,7 @@ parameters_limited f few = let taken = length-take f.parameters (frame f) in ome
 
 scalars_limited : (f : TypedFunction) → frame_size f ≤ 64 → HasFewScalars (function_tree f)
 scalars_limited f few =
-    let scalars = scalar_count (frame f) f.locals (frame_length (statement_uses f.body) 0 0 0 f.locals)
+    let scalars = scalar_count (frame f) f.locals (references_length (statement_uses f.body) f.locals)
     in let needs = statement_needs (frame f) f.body
     in omega (arith, few, scalars, needs)
 

@@ -12,8 +12,8 @@ use Rattle.c_types.specs.Operands.{Operand, any_void}
 use Rattle.c_types.specs.Outcome.{Outcome, Is, Broken, ◌>>=◌, there_or}
 use Rattle.c_types.specs.Scopes.{Scope, is_in}
 use Rattle.c_types.specs.Typing.{Arguments, Operands, NoPort, Port, is_of_calls, no_constant}
-use Rattle.c_types.specs.Visits.{Visit, visit, Break, first, when, of_one, broken_in}
-use Rattle.c_types.specs.ExpressionWalk.{constant_rules, is_call, function_rules, call_rules}
+use Rattle.c_types.specs.Visits.{Visit, visit, BrokenRule, first, when, by_one, broken_in}
+use Rattle.c_types.specs.ExpressionWalk.{constant_rules, is_call, called_rules, call_rules}
 use Rattle.c_types.proofs.Walked.Finding.{Finds, or_else, first_of_both, found_here, found_behind}
 use Rattle.c_types.proofs.Walked.ExpressionNodes.{Node_finds}
 
@@ -22,11 +22,11 @@ there_find : {A : Type 0} (at : ℕ) (v : Option A) → Node_finds at (when (is_
 there_find at (Some a) = refl
 there_find at None = refl
 
-none_first : (a b : Option Break) → or_else a b ≡ None → a ≡ None
+none_first : (a b : Option BrokenRule) → or_else a b ≡ None → a ≡ None
 none_first None b none = refl
 none_first (Some a) b none = absurd (cc none)
 
-none_next : (a b : Option Break) → or_else a b ≡ None → b ≡ None
+none_next : (a b : Option BrokenRule) → or_else a b ≡ None → b ≡ None
 none_next None b none = none
 none_next (Some a) b none = absurd (cc none)
 
@@ -47,13 +47,13 @@ module _ {A : Type 0} (at : ℕ) (form : ExpressionForm) (value : Expr → Optio
   plain_known vs rs (Broken rule place) plain one = ap (λ qs. first (vs ++ visit at qs ∷ [])) (no_call rs (is_call form) plain) ∙ one
 
 -- what a call breaks where its value has to be known
-abbrev in_constant : Option Break → Option Break
+abbrev in_constant : Option BrokenRule → Option BrokenRule
 in_constant None = None
 in_constant (Some b) = Some (record { rule = if is_of_calls b.rule then NotConstant else b.rule; at = b.at })
 
 -- the least of the rules of a call and of constants
 abbrev IsOfCalls : ℕ → List Rule → Type 0
-IsOfCalls at rules = (b : Break) → first (visit at rules ∷ []) ≡ Some b → first (visit at (rules ++ NotConstant ∷ []) ∷ []) ≡ in_constant (Some b)
+IsOfCalls at rules = (b : BrokenRule) → first (visit at rules ∷ []) ≡ Some b → first (visit at (rules ++ NotConstant ∷ []) ∷ []) ≡ in_constant (Some b)
 
 two_rules : (at : ℕ) (a b : Bool) → IsOfCalls at (when a Mismatch ++ when b ArgCount)
 two_rules at true true d same = ap in_constant same
@@ -79,7 +79,7 @@ undeclared_rules : (at : ℕ) (b : Bool) → IsOfCalls at (Undeclared ∷ when b
 undeclared_rules at true d same = ap in_constant same
 undeclared_rules at false d same = ap in_constant same
 
-of_function : (at : ℕ) (m : Option Meaning) (xs : List Operand) → IsOfCalls at (function_rules m at xs)
+of_function : (at : ℕ) (m : Option Meaning) (xs : List Operand) → IsOfCalls at (called_rules m at xs)
 of_function at None xs = undeclared_rules at (any_void xs)
 of_function at (Some (meanings.Object r type)) xs = λ d same. ap in_constant same
 of_function at (Some (meanings.Function type)) xs = two_rules at _ _
@@ -91,7 +91,7 @@ of_call s name at (Port class port xs) = one_of_rules at (is_in name) _ _ (three
 
 module _ {A : Type 0} (at : ℕ) (name : List ℕ) (es : Expressions) (value : Expr → Option A) where
   as_broken : (b : Bool) (rule : Rule) (place : ℕ)
-      → ◌≡◌ {A = Option Break} (Some (record { rule = if b then NotConstant else rule; at = place })) (broken_in ((if b then Broken NotConstant place else Broken rule place) >>= λ x. there_or NotConstant at (value x)))
+      → ◌≡◌ {A = Option BrokenRule} (Some (record { rule = if b then NotConstant else rule; at = place })) (broken_in ((if b then Broken NotConstant place else Broken rule place) >>= λ x. there_or NotConstant at (value x)))
   as_broken true rule place = refl
   as_broken false rule place = refl
 
@@ -102,6 +102,6 @@ module _ {A : Type 0} (at : ℕ) (name : List ℕ) (es : Expressions) (value : E
 
   pub call_known : (vs : List Visit) (o : Outcome Arguments) (rs : Arguments → List Rule) (g : Arguments → Outcome Expr) → Finds vs o
       → ((a : Arguments) → Node_finds at (rs a) (g a)) → ((a : Arguments) → IsOfCalls at (rs a))
-      → Finds (vs ++ visit at (of_one o rs ++ constant_rules (tree.Call name es) (o >>= g) value) ∷ []) ((o >>= λ a. no_constant (g a)) >>= λ x. there_or NotConstant at (value x))
+      → Finds (vs ++ visit at (by_one o rs ++ constant_rules (tree.Call name es) (o >>= g) value) ∷ []) ((o >>= λ a. no_constant (g a)) >>= λ x. there_or NotConstant at (value x))
   call_known vs (Is a) rs g one own of_calls = found_behind vs _ one (own_known (rs a) (g a) (own a) (of_calls a))
   call_known vs (Broken rule place) rs g one own of_calls = found_here vs _ one

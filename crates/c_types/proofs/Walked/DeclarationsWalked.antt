@@ -17,7 +17,7 @@ use Rattle.c_types.specs.Declarations.{length_within, typed_length, parameter_ki
 use Rattle.c_types.specs.Statements.{Initialiser, initialiser, all_typed, is_array, started, Opened, with_object, placed, declared_as, block_item, block_items, declarations}
 use Rattle.c_types.specs.Visits.{visit}
 use Rattle.c_types.specs.ExpressionWalk.{plain_rules, visits, constant_visits}
-use Rattle.c_types.specs.DeclarationWalk.{length_visits, parameter_rules, parameter_visits, parameters_visits, declarator_visits, entry_visits, entries_visits, values_visits, initial_visits, item_rules, declared_visits, item_visits, items_visits, declarations_visits}
+use Rattle.c_types.specs.DeclarationWalk.{length_visits, parameter_rules, parameter_visits, parameters_visits, declarator_visits, entry_visits, entries_visits, values_visits, initial_visits, block_item_rules, block_declared_visits, block_item_visits, block_items_visits, declarations_visits}
 use Rattle.c_types.proofs.Walked.Finding.{Finds, joined, followed, of_part, of_parts}
 use Rattle.c_types.proofs.Walked.MoreMismatching.{started_only}
 use Rattle.c_types.proofs.Walked.Nodes.{mapped, mapped_both, followed_by, two_rules_or_none, untyped, misplaced, redeclared_or}
@@ -79,15 +79,15 @@ module _ (s : Scope) where
 
 -- an item of a block
 item_node : (o : Opened) (r : VarRef) (item : ItemTree) (d : Declared) (i : Initialiser)
-    → Finds (visit item.at (item_rules o.scope r item d i) ∷ [])
+    → Finds (visit item.at (block_item_rules o.scope r item d i) ∷ [])
     (breaks (is_taken o.scope item.name) Redeclared item.at (declared_as o (with_object o.scope item.name r d) r d item i))
 item_node o r item declares.Untyped i = untyped Opened item.at (is_taken o.scope item.name)
 item_node o r item (declares.Function type) i = misplaced Opened item.at (is_taken o.scope item.name) (is_some item.initial)
 item_node o r item (declares.Object type) i = redeclared_or item.at (is_taken o.scope item.name) (started r type item.at i)
     (placed o (with_object o.scope item.name r (declares.Object type)) item.name r type) (started_only item.at r type i)
 
-pub item_find : (o : Opened) (b : Base) (item : ItemTree) → Finds (item_visits o.scope (refs.Local (length o.locals)) b item) (block_item o b item)
-item_find o b item = followed (declarator_visits o.scope item.form) (declared_visits o.scope r item)
+pub item_find : (o : Opened) (b : Base) (item : ItemTree) → Finds (block_item_visits o.scope (refs.Local (length o.locals)) b item) (block_item o b item)
+item_find o b item = followed (declarator_visits o.scope item.form) (block_declared_visits o.scope r item)
     (declarator o.scope b item.form item.stars item.initial) _ (declarator_find o.scope b item.form item.stars item.initial)
     (λ d. of_part item.at (initial_visits (within d) (is_array item.form) item.initial) (initialiser (within d) (is_array item.form) item.initial) _ _
     (initial_find (within d) (is_array item.form) item.initial) (item_node o r item d))
@@ -98,13 +98,13 @@ item_find o b item = followed (declarator_visits o.scope item.form) (declared_vi
     within : Declared → Scope
     within d = with_object o.scope item.name r d
 
-pub items_find : (o : Opened) (b : Base) (items : List ItemTree) → Finds (items_visits o b items) (block_items o b items)
+pub items_find : (o : Opened) (b : Base) (items : List ItemTree) → Finds (block_items_visits o b items) (block_items o b items)
 items_find o b [] = refl
-items_find o b (item ∷ items) = followed (item_visits o.scope (refs.Local (length o.locals)) b item) _ (block_item o b item) _ (item_find o b item)
+items_find o b (item ∷ items) = followed (block_item_visits o.scope (refs.Local (length o.locals)) b item) _ (block_item o b item) _ (item_find o b item)
     (λ p. items_find p b items)
 
 -- declarations
 pub declarations_find : (o : Opened) (ds : List DeclarationTree) → Finds (declarations_visits o ds) (declarations o ds)
 declarations_find o [] = refl
 declarations_find o (d ∷ ds) = followed (visit d.specs.at (plain_rules d.specs) ∷ []) _ (plain d.specs) _ (plain_find d.specs) λ b.
-    followed (items_visits o b d.items) _ (block_items o b d.items) _ (items_find o b d.items) (λ p. declarations_find p ds)
+    followed (block_items_visits o b d.items) _ (block_items o b d.items) _ (items_find o b d.items) (λ p. declarations_find p ds)

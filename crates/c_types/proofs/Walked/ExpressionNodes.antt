@@ -18,8 +18,8 @@ use Rattle.c_types.specs.Kinds.{is_void}
 use Rattle.c_types.specs.Operands.{Operand, number, given, written, lvalue_of, assigned_as, assigned, assigned_by, stepped_before, stepped_after, address_of, any_void, passed, no_more, sent}
 use Rattle.c_types.specs.Scopes.{Scope, is_in, is_out}
 use Rattle.c_types.specs.Typing.{Arguments, Operands, NoPort, Port, call_of, plain, type_named, named_as, named, called, prefixed, takes_address, of_object}
-use Rattle.c_types.specs.Visits.{visit, Break, first, when, rule_of}
-use Rattle.c_types.specs.ExpressionWalk.{plain_rules, type_visits, object_rules, step_rules, prefix_rules, is_broken, misfits, assign_rules, update_rules, any_misfit, other_count, any_behind, isnt_one, function_rules, call_rules}
+use Rattle.c_types.specs.Visits.{visit, BrokenRule, first, when, rule_of}
+use Rattle.c_types.specs.ExpressionWalk.{plain_rules, type_visits, object_rules, step_rules, prefix_rules, is_broken, misfits, assign_rules, update_rules, any_misfit, other_count, any_behind, isnt_one, called_rules, call_rules}
 use Rattle.c_types.proofs.Walked.Finding.{Finds}
 use Rattle.c_types.proofs.Walked.Mismatching.{Mismatches, finds_mismatch, given_only, loaded_only, unary_only, negated_only}
 use Rattle.c_types.proofs.Walked.Nodes.{mapped}
@@ -108,7 +108,7 @@ prefix_find prefix.Complement is_array no_object at x = read at _ (unary_only at
 prefix_find prefix.Not is_array no_object at x = read at _ (negated_only at x)
 
 -- assignments
-by_mismatch : (at place : ℕ) (rule : Rule) → rule ≡ Mismatch → place ≡ at → ◌≡◌ {A = Option Break} (Some (record { rule = Mismatch; at = at })) (Some (record { rule = rule; at = place }))
+by_mismatch : (at place : ℕ) (rule : Rule) → rule ≡ Mismatch → place ≡ at → ◌≡◌ {A = Option BrokenRule} (Some (record { rule = Mismatch; at = at })) (Some (record { rule = rule; at = place }))
 by_mismatch at place rule same here = ap (λ r. Some (record { rule = r; at = at })) (sym same) ∙ ap (λ n. Some (record { rule = rule; at = n })) (sym here)
 
 mismatch_least : (at : ℕ) (b : Bool) (rule : Rule) → first (visit at (Mismatch ∷ when b NotLvalue) ∷ []) ≡ Some (record { rule = Mismatch; at = at })
@@ -154,10 +154,10 @@ undeclared_least : (at : ℕ) (b : Bool) → Node_finds {A = Expr} at (Undeclare
 undeclared_least at true = refl
 undeclared_least at false = refl
 
-function_find : (n : ℕ) (m : Option Meaning) (at : ℕ) (xs : List Operand) → Node_finds at (function_rules m at xs) (called n m at xs)
+function_find : (n : ℕ) (m : Option Meaning) (at : ℕ) (xs : List Operand) → Node_finds at (called_rules m at xs) (called n m at xs)
 function_find n None at xs = undeclared_least at (any_void xs)
 function_find n (Some (meanings.Object r type)) at xs = refl
-function_find n (Some (meanings.Function type)) at xs = mapped (visit at (function_rules (Some (meanings.Function type)) at xs) ∷ []) (passed type.parameters at xs) _ (passed_find at type.parameters xs)
+function_find n (Some (meanings.Function type)) at xs = mapped (visit at (called_rules (Some (meanings.Function type)) at xs) ∷ []) (passed type.parameters at xs) _ (passed_find at type.parameters xs)
 
 input_by : (at port : ℕ) (a b : Bool) (xs : List Operand) (e : Expr)
     → Node_finds at (when a Mismatch ++ (when b BadPort ++ when (any_behind xs) ArgCount)) (breaks a Mismatch at (breaks b BadPort at (no_more at xs (Is e))))

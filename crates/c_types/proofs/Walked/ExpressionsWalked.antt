@@ -11,7 +11,7 @@ use Rattle.c_types.specs.Constants.{constant}
 use Rattle.c_types.specs.Outcome.{Outcome, Is, Broken, ◌>>=◌, breaks, there_or}
 use Rattle.c_types.specs.Scopes.{Scope, is_in, is_out}
 use Rattle.c_types.specs.Typing.{Operands, call_of, type_named, array_length, is_address, operand, word_at, typing, typing_form, operands, port_arguments, arguments, constant_typing}
-use Rattle.c_types.specs.Visits.{Visit, visit, when, of_three}
+use Rattle.c_types.specs.Visits.{Visit, visit, when, by_three}
 use Rattle.c_types.specs.ExpressionWalk.{type_visits, call_rules, constant_rules, rules, size_visit, part_visits, visits, list_visits, port_visits, constant_visits}
 use Rattle.c_types.proofs.Walked.Finding.{Finds, found_here, found_behind, joined, of_part, of_parts}
 use Rattle.c_types.proofs.Walked.Mismatching.{finds_mismatch, binary_only, both_true_only, either_true_only, picked_only, indexed_only, cast_only, sized_only}
@@ -22,7 +22,7 @@ use Rattle.c_types.proofs.Walked.ConstantsWalked.{plain_known, of_call, call_kno
 -- a node behind three parts
 of_all_parts : {A B C D : Type 0} (at : ℕ) (us vs ws : List Visit) (o : Outcome A) (p : Outcome B) (q : Outcome C) (rules : A → B → C → List Rule) (f : A → B → C → Outcome D)
     → Finds us o → Finds vs p → Finds ws q → ((a : A) (b : B) (c : C) → Node_finds at (rules a b c) (f a b c))
-    → Finds ((us ++ (vs ++ ws)) ++ visit at (of_three o p q rules) ∷ []) (o >>= λ a. p >>= λ b. q >>= f a b)
+    → Finds ((us ++ (vs ++ ws)) ++ visit at (by_three o p q rules) ∷ []) (o >>= λ a. p >>= λ b. q >>= f a b)
 of_all_parts at us vs ws (Is a) (Is b) (Is c) rules f one two three node = found_behind (us ++ (vs ++ ws)) _ (found_behind us _ one (found_behind vs ws two three)) (node a b c)
 of_all_parts at us vs ws (Is a) (Is b) (Broken rule place) rules f one two three node = found_here (us ++ (vs ++ ws)) _ (found_behind us _ one (found_behind vs ws two three))
 of_all_parts at us vs ws (Is a) (Broken rule place) q rules f one two three node = found_here (us ++ (vs ++ ws)) _ (found_behind us _ one (found_here vs ws two))

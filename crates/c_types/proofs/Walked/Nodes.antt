@@ -3,7 +3,7 @@ use Rattle.std.proofs.Common.{ℕ, ◌||◌, Bool, true, false, List, [], ◌∷
 use Rattle.c_types.specs.declared.fault.Rule.{Rule}
 use Rattle.c_types.specs.declared.fault.Rule.TheVariants.{Redeclared, Mismatch, Misplaced}
 use Rattle.c_types.specs.Outcome.{Outcome, Is, Broken, ◌>>=◌, breaks, there_or}
-use Rattle.c_types.specs.Visits.{Visit, visit, lesser, when, rule_of, behind}
+use Rattle.c_types.specs.Visits.{Visit, visit, lesser, when, rule_of, visits_behind}
 use Rattle.c_types.proofs.Walked.Finding.{Finds, followed, found_here, found_behind}
 use Rattle.c_types.proofs.Walked.Mismatching.{Mismatches, finds_mismatch}
 
@@ -19,14 +19,14 @@ mapped_both vs (Broken rule at) p g one = one
 
 -- one behind another, of which both something is made
 pub followed_by : {A B C : Type 0} (vs : List Visit) (ws : A → List Visit) (o : Outcome A) (p : A → Outcome B) (g : A → B → C)
-    → Finds vs o → ((a : A) → Finds (ws a) (p a)) → Finds (vs ++ behind o ws) (o >>= λ a. p a >>= λ b. Is (g a b))
+    → Finds vs o → ((a : A) → Finds (ws a) (p a)) → Finds (vs ++ visits_behind o ws) (o >>= λ a. p a >>= λ b. Is (g a b))
 followed_by vs ws o p g one other = followed vs ws o _ one (λ a. mapped (ws a) (p a) (g a) (other a))
 
 -- nodes that are looked at where two parts before them are typed
 pub followed_twice : {A B C : Type 0} (vs us : List Visit) (ws : A → B → List Visit) (o : Outcome A) (p : Outcome B) (q : A → B → Outcome C)
     → Finds vs o → Finds us p → ((a : A) (b : B) → Finds (ws a b) (q a b))
-    → Finds (vs ++ (us ++ behind o (λ a. behind p (ws a)))) (o >>= λ a. p >>= λ b. q a b)
-followed_twice vs us ws (Is a) p q one other third = found_behind vs (us ++ behind p (ws a)) one (followed us (ws a) p (q a) other (third a))
+    → Finds (vs ++ (us ++ visits_behind o (λ a. visits_behind p (ws a)))) (o >>= λ a. p >>= λ b. q a b)
+followed_twice vs us ws (Is a) p q one other third = found_behind vs (us ++ visits_behind p (ws a)) one (followed us (ws a) p (q a) other (third a))
 followed_twice vs us ws (Broken rule at) p q one other third = found_here vs (us ++ []) one
 
 -- a node that breaks no rule

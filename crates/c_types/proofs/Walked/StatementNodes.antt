@@ -2,17 +2,17 @@
 use Rattle.std.proofs.Common.{ℕ, Bool, true, false, List, [], ◌∷◌, ◌++◌, refl}
 use Rattle.c_types.specs.declared.fault.Rule.TheVariants.{Redeclared, Mismatch}
 use Rattle.c_types.specs.Outcome.{Outcome, Is, Broken, ◌>>=◌, breaks}
-use Rattle.c_types.specs.Visits.{Visit, visit, when, of_one, behind}
+use Rattle.c_types.specs.Visits.{Visit, visit, when, by_one, visits_behind}
 use Rattle.c_types.proofs.Walked.Finding.{Finds, joined, of_part, found_here, found_behind}
 use Rattle.c_types.proofs.Walked.Nodes.{mapped, with_empty, one_rule}
 
 -- a node that looks at this outcome
 abbrev pub tests : {A : Type 0} → ℕ → Outcome A → (A → Bool) → Visit
-tests at o test = visit at (of_one o (λ a. when (test a) Mismatch))
+tests at o test = visit at (by_one o (λ a. when (test a) Mismatch))
 
 -- a block: its declarations, and statements behind them
 pub block_finds : {A B C : Type 0} (at : ℕ) (vs : List Visit) (ws : A → List Visit) (o : Outcome A) (p : A → Outcome B) (g : A → B → C)
-    → Finds vs o → ((a : A) → Finds (ws a) (p a)) → Finds (vs ++ (behind o ws ++ visit at [] ∷ [])) (o >>= λ a. p a >>= λ b. Is (g a b))
+    → Finds vs o → ((a : A) → Finds (ws a) (p a)) → Finds (vs ++ (visits_behind o ws ++ visit at [] ∷ [])) (o >>= λ a. p a >>= λ b. Is (g a b))
 block_finds at vs ws (Is a) p g one other = found_behind vs (ws a ++ visit at [] ∷ []) one (mapped (ws a ++ visit at [] ∷ []) (p a) (g a) (with_empty at (ws a) (p a) (other a)))
 block_finds at vs ws (Broken rule place) p g one other = found_here vs (visit at [] ∷ []) one
 
@@ -33,13 +33,13 @@ module _ {A B C : Type 0} (at : ℕ) (test : A → Bool) where
   -- a condition before two bodies
   pub test_before_two : {D : Type 0} (vs ws : List Visit) (us : B → List Visit) (o : Outcome A) (p : Outcome B) (q : B → Outcome C) (g : A → B → C → D)
       → Finds vs o → Finds ws p → ((b : B) → Finds (us b) (q b))
-      → Finds (vs ++ (ws ++ (behind p us ++ tests at o test ∷ []))) (o >>= λ a. p >>= λ b. q b >>= λ c. breaks (test a) Mismatch at (Is (g a b c)))
+      → Finds (vs ++ (ws ++ (visits_behind p us ++ tests at o test ∷ []))) (o >>= λ a. p >>= λ b. q b >>= λ c. breaks (test a) Mismatch at (Is (g a b c)))
   test_before_two vs ws us (Is a) (Is b) q g one other third =
       found_behind vs (ws ++ (us b ++ tests at (Is a) test ∷ [])) one (found_behind ws (us b ++ tests at (Is a) test ∷ []) other
       (joined (us b) (tests at (Is a) test ∷ []) (q b) _ (third b) (λ c is. one_rule at (test a) Mismatch (g a b c))))
   test_before_two vs ws us (Is a) (Broken rule place) q g one other third =
       found_behind vs (ws ++ (tests at (Is a) test ∷ [])) one (found_here ws (tests at (Is a) test ∷ []) other)
-  test_before_two vs ws us (Broken rule place) p q g one other third = found_here vs (ws ++ (behind p us ++ visit at [] ∷ [])) one
+  test_before_two vs ws us (Broken rule place) p q g one other third = found_here vs (ws ++ (visits_behind p us ++ visit at [] ∷ [])) one
 
 -- a condition between others, all before a body
 pub test_among : {A B C D E : Type 0} (at : ℕ) (test : A → Bool) (us vs ts ws : List Visit) (q : Outcome C) (o : Outcome A) (r : Outcome D) (p : Outcome B)
@@ -64,7 +64,7 @@ choice_rules place at false false false a = refl
 
 pub switch_finds : {A B C : Type 0} (place at : ℕ) (test : A → Bool) (again also : B → Bool) (vs ws : List Visit) (o : Outcome A) (p : Outcome B)
     (g : A → B → C) → Finds vs o → Finds ws p
-    → Finds (vs ++ (ws ++ (visit place (of_one p (λ b. when (again b) Redeclared ++ when (also b) Mismatch)) ∷ tests at o test ∷ [])))
+    → Finds (vs ++ (ws ++ (visit place (by_one p (λ b. when (again b) Redeclared ++ when (also b) Mismatch)) ∷ tests at o test ∷ [])))
     (o >>= λ a. p >>= λ b. breaks (again b) Redeclared place (breaks (also b) Mismatch place (breaks (test a) Mismatch at (Is (g a b)))))
 switch_finds place at test again also vs ws (Is a) (Is b) g one other = found_behind vs _ one
     (found_behind ws _ other (choice_rules place at (again b) (also b) (test a) (g a b)))
