@@ -3,8 +3,8 @@ use Rattle.std.proofs.Common.{arith, ◌≡◌, ◌≢◌, ℕ, ◌≤◌, List,
 use Rattle.std.specs.Prelude.{◌⊎◌}
 use Rattle.std.proofs.str.Laws.{order}
 use Rattle.std.proofs.lemmas.Bool.{cases_eq}
-use Rattle.c_tree.specs.Lexes.{HasNoCommentEnd, IsSpace, OpensComment}
-use Rattle.c_tree.proofs.Spellings.{same_length_fronts}
+use Rattle.c_syntax.specs.Lexes.{HasNoCommentEnd, IsSpace, OpensComment}
+use Rattle.c_syntax.proofs.Spellings.{same_length_fronts}
 use Rattle.c_lexer.proofs.ListLemmas.{first_is, rest_is}
 use Rattle.c_lexer.specs.Front.{HasNoBlank, IsBehindCommentEnd, IsBehindBlank}
 

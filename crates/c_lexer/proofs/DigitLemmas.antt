@@ -3,7 +3,7 @@ use Rattle.std.proofs.Common.{arith, ◌≡◌, ℕ, ◌+◌, ◌*◌, ◌-◌, 
 use Rattle.std.specs.Prelude.{fold}
 use Rattle.std.specs.List.{AllByRecursion}
 use Rattle.std.specs.Char.{digit_value}
-use Rattle.c_tree.specs.Constants.{AreDigits, number_of, greatest_value}
+use Rattle.c_syntax.specs.Constants.{AreDigits, number_of, greatest_value}
 
 -- up to the rest the text is digits, whose value is kept up to a greatest one
 pub record DigitsSoFar (base : ℕ) (text : List ℕ) (value : ℕ) (rest : List ℕ) : Type 0 where

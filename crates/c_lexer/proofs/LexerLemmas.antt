@@ -1,10 +1,10 @@
 -- One piece after another: the loop of the lexer, and why its answer is the only one.
 use Rattle.std.proofs.Common.{arith, ◌≡◌, ℕ, ◌+◌, ◌-◌, List, [], ◌∷◌, ◌++◌, length, drop, refl, ap, sym, ◌∙◌, subst, length-append}
 use Rattle.std.proofs.lemmas.List.{drop_at}
-use Rattle.c_tree.specs.declared.token.Token.{Token}
-use Rattle.c_tree.specs.declared.token.TokenKind.{TokenKind}
-use Rattle.c_tree.specs.Lexes.{pieces_text, ReadsTo, Lexes, most_tokens}
-use Rattle.c_tree.proofs.Reading.{reads_blank, reads_token}
+use Rattle.c_syntax.specs.declared.token.Token.{Token}
+use Rattle.c_syntax.specs.declared.token.TokenKind.{TokenKind}
+use Rattle.c_syntax.specs.Lexes.{pieces_text, ReadsTo, Lexes, most_tokens}
+use Rattle.c_syntax.proofs.Reading.{reads_blank, reads_token}
 use Rattle.c_lexer.specs.declared.fault.LexFault.{LexFault}
 use Rattle.c_lexer.specs.declared.fault.LexFault.TheVariants as faults
 use Rattle.c_lexer.specs.Front.{IsBehindBlank, IsToken}

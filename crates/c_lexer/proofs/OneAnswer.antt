@@ -4,17 +4,17 @@ use Rattle.std.specs.Prelude.{◌⊎◌, ◌==◌}
 use Rattle.std.proofs.lemmas.Bool.{cases_lt, ne_eqb}
 use Rattle.std.proofs.lemmas.Bool.Decides.{nat_tests}
 use Rattle.word_base.specs.Name.{IsNameStart, IsNamePart}
-use Rattle.c_tree.specs.declared.token.Punct.TheVariants as mark
-use Rattle.c_tree.specs.declared.token.Token.{Token}
-use Rattle.c_tree.specs.declared.token.TokenKind.{TokenKind}
-use Rattle.c_tree.specs.declared.token.TokenKind.TheVariants.{Word, Name, Number}
-use Rattle.c_tree.specs.Spelling.{IsDigit, IsSpelling, OfWord, OfNumber, OfCharacter, OfMark, Means}
-use Rattle.c_tree.specs.Lexes.{IsSpace, IsBlank, IsLongest, Piece, Blank, Spelled, piece_text, MayStand, most_tokens, ReadsTo, Lexes}
-use Rattle.c_tree.proofs.Sorts.{Sort, Void, Letter, Digit, Quote, Sign, sort_of, text_sort, space_sort}
-use Rattle.c_tree.proofs.FixedLemmas.{keyword_short}
-use Rattle.c_tree.proofs.Spellings.{kind_sort, means_sort, longest_one, word_text_sort, number_text_sort, spelling_front, quote_spelling}
-use Rattle.c_tree.proofs.Pieces.{comment_front, blank_no_spelling}
-use Rattle.c_tree.proofs.OneReading.{IsStuck, nothing_stuck, stuck_has_all, same_reading}
+use Rattle.c_syntax.specs.declared.token.Punct.TheVariants as mark
+use Rattle.c_syntax.specs.declared.token.Token.{Token}
+use Rattle.c_syntax.specs.declared.token.TokenKind.{TokenKind}
+use Rattle.c_syntax.specs.declared.token.TokenKind.TheVariants.{Word, Name, Number}
+use Rattle.c_syntax.specs.Spelling.{IsDigit, IsSpelling, OfWord, OfNumber, OfCharacter, OfMark, Means}
+use Rattle.c_syntax.specs.Lexes.{IsSpace, IsBlank, IsLongest, Piece, Blank, Spelled, piece_text, MayStand, most_tokens, ReadsTo, Lexes}
+use Rattle.c_syntax.proofs.Sorts.{Sort, Void, Letter, Digit, Quote, Sign, sort_of, text_sort, space_sort}
+use Rattle.c_syntax.proofs.FixedLemmas.{keyword_short}
+use Rattle.c_syntax.proofs.Spellings.{kind_sort, means_sort, longest_one, word_text_sort, number_text_sort, spelling_front, quote_spelling}
+use Rattle.c_syntax.proofs.Pieces.{comment_front, blank_no_spelling}
+use Rattle.c_syntax.proofs.OneReading.{IsStuck, nothing_stuck, stuck_has_all, same_reading}
 use Rattle.c_lexer.specs.declared.fault.LexFault.{LexFault}
 use Rattle.c_lexer.specs.declared.fault.LexFault.TheVariants as faults
 use Rattle.c_lexer.specs.declared.fault.Flaw.{Flaw}

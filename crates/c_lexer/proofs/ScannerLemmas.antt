@@ -3,16 +3,16 @@ use Rattle.std.proofs.Common.{arith, ◌≡◌, ◌≢◌, ℕ, ◌-◌, ◌<◌
 use Rattle.std.specs.Prelude.{Bool}
 use Rattle.std.specs.List.{AllByRecursion}
 use Rattle.word_base.specs.Name.{IsNameStart, IsNamePart}
-use Rattle.c_tree.specs.declared.token.Punct.{Punct}
-use Rattle.c_tree.specs.declared.token.TokenKind.{TokenKind}
-use Rattle.c_tree.specs.declared.token.TokenKind.TheVariants.{Char, Mark}
-use Rattle.c_tree.specs.FixedTexts.{mark_text}
-use Rattle.c_tree.specs.Constants.{IsNumber, IsCharacter}
-use Rattle.c_tree.specs.Spelling.{IsDigit, IsNumberPart, IsRun, IsNameRun, IsNumberRun, IsSpelling, OfWord, OfNumber, OfCharacter, OfMark, Means}
-use Rattle.c_tree.specs.Lexes.{OpensComment, IsLongest}
-use Rattle.c_tree.proofs.Characters.{character_one}
-use Rattle.c_tree.proofs.Sorts.{Letter, Digit, Quote, Sign, sort_of, text_sort, letter_sort, digit_sort, mark_sort}
-use Rattle.c_tree.proofs.Spellings.{character_sort, word_text_sort, number_text_sort, spelling_front, quote_spelling}
+use Rattle.c_syntax.specs.declared.token.Punct.{Punct}
+use Rattle.c_syntax.specs.declared.token.TokenKind.{TokenKind}
+use Rattle.c_syntax.specs.declared.token.TokenKind.TheVariants.{Char, Mark}
+use Rattle.c_syntax.specs.FixedTexts.{mark_text}
+use Rattle.c_syntax.specs.Constants.{IsNumber, IsCharacter}
+use Rattle.c_syntax.specs.Spelling.{IsDigit, IsNumberPart, IsRun, IsNameRun, IsNumberRun, IsSpelling, OfWord, OfNumber, OfCharacter, OfMark, Means}
+use Rattle.c_syntax.specs.Lexes.{OpensComment, IsLongest}
+use Rattle.c_syntax.proofs.Characters.{character_one}
+use Rattle.c_syntax.proofs.Sorts.{Letter, Digit, Quote, Sign, sort_of, text_sort, letter_sort, digit_sort, mark_sort}
+use Rattle.c_syntax.proofs.Spellings.{character_sort, word_text_sort, number_text_sort, spelling_front, quote_spelling}
 use Rattle.c_lexer.specs.Front.{BeginsWith, IsQuote, IsSign, HasNoBlank, IsFrontRun, IsBehindCharacter, IsBehindMark, IsToken}
 use Rattle.c_lexer.specs.LexFaults.{HasBadByte, HasOpenComment, HasBadNumber, HasBadQuote, HasLongName}
 use Rattle.c_lexer.proofs.BlankLemmas.{no_blank_no_end}

@@ -2,12 +2,12 @@
 use Rattle.std.specs.Prelude.{◌≡◌, ◌≢◌, ◌⊎◌, ℕ, ◌≤◌, Bool, true, List, [], ◌∷◌, ◌++◌, length}
 use Rattle.std.specs.List.{AllByRecursion}
 use Rattle.word_base.specs.Name.{IsNamePart}
-use Rattle.c_tree.specs.declared.token.Punct.{Punct}
-use Rattle.c_tree.specs.declared.token.TokenKind.{TokenKind}
-use Rattle.c_tree.specs.FixedTexts.{mark_text}
-use Rattle.c_tree.specs.Constants.{IsItem, IsCharacter, IsSuffix}
-use Rattle.c_tree.specs.Spelling.{Means}
-use Rattle.c_tree.specs.Lexes.{HasNoCommentEnd, IsBlank, IsLongest}
+use Rattle.c_syntax.specs.declared.token.Punct.{Punct}
+use Rattle.c_syntax.specs.declared.token.TokenKind.{TokenKind}
+use Rattle.c_syntax.specs.FixedTexts.{mark_text}
+use Rattle.c_syntax.specs.Constants.{IsItem, IsCharacter, IsSuffix}
+use Rattle.c_syntax.specs.Spelling.{Means}
+use Rattle.c_syntax.specs.Lexes.{HasNoCommentEnd, IsBlank, IsLongest}
 
 -- the first byte is of a kind
 abbrev pub BeginsWith : (ℕ → Type 0) → List ℕ → Type 0

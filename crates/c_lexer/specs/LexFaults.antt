@@ -1,12 +1,12 @@
 -- Why a text has no tokens: what stands at the place of each fault (docs/LANGUAGE.md, "Tokens").
 use Rattle.std.specs.Prelude.{◌≡◌, ◌≢◌, ◌⊎◌, ⊤, ℕ, ◌+◌, ◌<◌, ◌≤◌, Bool, List, ◌∷◌, ◌++◌, length}
 use Rattle.word_base.specs.Name.{IsNamePart}
-use Rattle.c_tree.specs.declared.token.Token.{Token}
-use Rattle.c_tree.specs.declared.token.Punct.{Punct}
-use Rattle.c_tree.specs.FixedTexts.{mark_text}
-use Rattle.c_tree.specs.Constants.{IsNumber, IsCharacter}
-use Rattle.c_tree.specs.Spelling.{IsNameRun, IsNumberRun}
-use Rattle.c_tree.specs.Lexes.{IsSpace, HasNoCommentEnd, IsLongest, most_tokens, ReadsTo}
+use Rattle.c_syntax.specs.declared.token.Token.{Token}
+use Rattle.c_syntax.specs.declared.token.Punct.{Punct}
+use Rattle.c_syntax.specs.FixedTexts.{mark_text}
+use Rattle.c_syntax.specs.Constants.{IsNumber, IsCharacter}
+use Rattle.c_syntax.specs.Spelling.{IsNameRun, IsNumberRun}
+use Rattle.c_syntax.specs.Lexes.{IsSpace, HasNoCommentEnd, IsLongest, most_tokens, ReadsTo}
 use Rattle.c_lexer.specs.declared.fault.LexFault.{LexFault}
 use Rattle.c_lexer.specs.declared.fault.LexFault.TheVariants as faults
 use Rattle.c_lexer.specs.declared.fault.Flaw.{Flaw}

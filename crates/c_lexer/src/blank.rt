@@ -1,6 +1,6 @@
 //! Blanks: spaces and comments.
 ghost use Rattle.std.specs.Prelude.{◌↔◌, MatchOption, IsTrue};
-ghost use Rattle.c_tree.specs.Lexes.{HasNoCommentEnd, IsSpace};
+ghost use Rattle.c_syntax.specs.Lexes.{HasNoCommentEnd, IsSpace};
 ghost use Rattle.c_lexer.specs.Front.{HasNoBlank, IsBehindCommentEnd, IsBehindBlank};
 
 use crate::prefix::behind;

@@ -1,6 +1,6 @@
 //! Character constants: ISO 9899:1990 6.1.3.4.
 ghost use Rattle.std.specs.Prelude.{◌≡◌, ◌≢◌, ◌≤◌, ◌^◌, [], ◌∷◌, ◌++◌, ℕ, List, length, Some, MatchOption};
-ghost use Rattle.c_tree.specs.Constants.{AreDigits, number_of, beside, escapes, IsItem, IsCharacter};
+ghost use Rattle.c_syntax.specs.Constants.{AreDigits, number_of, beside, escapes, IsItem, IsCharacter};
 ghost use Rattle.c_lexer.specs.Front.{HasNoQuote, IsHeadSize, HasNoItem, IsQuoted, IsBehindCharacter};
 
 use crate::digits::digits_value;

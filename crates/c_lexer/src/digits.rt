@@ -1,6 +1,6 @@
 //! Rows of digits.
 ghost use Rattle.std.specs.Prelude.{◌≡◌, ◌≤◌, min, MatchOption};
-ghost use Rattle.c_tree.specs.Constants.{AreDigits, number_of, greatest_value};
+ghost use Rattle.c_syntax.specs.Constants.{AreDigits, number_of, greatest_value};
 
 /// The number that the digits stand for, or 4,294,967,295 where that is greater.
 #[tactic(auto, using(crate::proofs::DigitLemmas::nothing_read, crate::proofs::DigitLemmas::reads_one, crate::proofs::DigitLemmas::reads_all, crate::proofs::DigitLemmas::stops_reading, crate::proofs::DigitLemmas::none_to_read))]

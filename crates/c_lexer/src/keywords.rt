@@ -1,9 +1,9 @@
 //! Keywords.
 ghost use Rattle.std.specs.Prelude.{◌≡◌, ◌≢◌, MatchOption};
-ghost use Rattle.c_tree.specs.declared.token.Keyword.{Keyword};
-ghost use Rattle.c_tree.specs.FixedTexts.{keyword_text};
+ghost use Rattle.c_syntax.specs.declared.token.Keyword.{Keyword};
+ghost use Rattle.c_syntax.specs.FixedTexts.{keyword_text};
 
-use c_tree::Keyword;
+use c_syntax::Keyword;
 
 /// The keyword that the text is.
 pub fn keyword(text: &[u8]) -> Option<Keyword>

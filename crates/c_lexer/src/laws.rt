@@ -1,7 +1,7 @@
 //! Laws of the lexer.
 ghost use Rattle.std.specs.Prelude.{◌≡◌, ◌≢◌, ℕ, List};
-ghost use Rattle.c_tree.specs.declared.token.Token.{Token};
-ghost use Rattle.c_tree.specs.Lexes.{Lexes};
+ghost use Rattle.c_syntax.specs.declared.token.Token.{Token};
+ghost use Rattle.c_syntax.specs.Lexes.{Lexes};
 ghost use Rattle.c_lexer.specs.declared.fault.LexFault.{LexFault};
 ghost use Rattle.c_lexer.specs.declared.fault.LexFault.TheVariants.{NoMemory};
 ghost use Rattle.c_lexer.specs.LexFaults.{Says};

@@ -1,7 +1,7 @@
 //! The tokens of a text, one behind another.
 ghost use Rattle.std.specs.Prelude.{◌≡◌, ◌≢◌, ◌<◌, ◌≤◌, ◌^◌, ℕ, List, length, IfOk, IfErr, MatchResult};
-ghost use Rattle.c_tree.specs.declared.token.Token.{Token};
-ghost use Rattle.c_tree.specs.Lexes.{Lexes, ReadsTo, most_tokens};
+ghost use Rattle.c_syntax.specs.declared.token.Token.{Token};
+ghost use Rattle.c_syntax.specs.Lexes.{Lexes, ReadsTo, most_tokens};
 ghost use Rattle.c_lexer.specs.Front.{HasNoBlank};
 ghost use Rattle.c_lexer.specs.LexFaults.{Says};
 ghost use Rattle.c_lexer.specs.declared.fault.LexFault.{LexFault};
@@ -10,7 +10,7 @@ ghost use Rattle.c_lexer.specs.declared.fault.LexFault.TheVariants as lex_faults
 use crate::blank::behind_blank;
 use crate::fault::LexFault;
 use crate::scanner::token;
-use c_tree::Token;
+use c_syntax::Token;
 use std::alloc::Global;
 
 /// The most tokens of a text.

@@ -1,6 +1,6 @@
 //! The lexer: from the bytes of a C source to its tokens (ISO 9899:1990 6.1).
 //!
-//! The tokens are those of `Lexes`, a definition of `c_tree`: a text is blanks and spellings, one behind another, and
+//! The tokens are those of `Lexes`, a definition of `c_syntax`: a text is blanks and spellings, one behind another, and
 //! each spelling is the longest that begins at its place. A refusal names the first fault in the text.
 #![tactic(auto)]
 

@@ -1,10 +1,10 @@
 //! Marks.
 ghost use Rattle.std.specs.Prelude.{◌≡◌, ◌≢◌, ◌++◌, ℕ, List, length, MatchOption};
-ghost use Rattle.c_tree.specs.declared.token.Punct.{Punct};
-ghost use Rattle.c_tree.specs.FixedTexts.{mark_text};
+ghost use Rattle.c_syntax.specs.declared.token.Punct.{Punct};
+ghost use Rattle.c_syntax.specs.FixedTexts.{mark_text};
 ghost use Rattle.c_lexer.specs.Front.{IsBehindMark, IsMarkOf};
 
-use c_tree::Punct;
+use c_syntax::Punct;
 
 // The mark of three characters at the front, and what stands behind it.
 fn mark_of_three(bytes: &[u8]) -> Option<(Punct, &[u8])>

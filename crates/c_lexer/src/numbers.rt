@@ -1,12 +1,12 @@
 //! Integer constants: ISO 9899:1990 6.1.3.2.
 ghost use Rattle.std.specs.Prelude.{ℕ, Bool, MatchOption};
-ghost use Rattle.c_tree.specs.Constants.{IsNumber};
-ghost use Rattle.c_tree.specs.Spelling.{Means};
+ghost use Rattle.c_syntax.specs.Constants.{IsNumber};
+ghost use Rattle.c_syntax.specs.Spelling.{Means};
 ghost use Rattle.c_lexer.specs.Front.{IsWithoutSuffix, IsWithoutPrefix};
 
 use crate::digits::digits_value;
 use crate::prefix::behind;
-use c_tree::TokenKind;
+use c_syntax::TokenKind;
 
 // The text without the u or U at its end, and whether there is one.
 fn without_suffix(text: &[u8]) -> (&[u8], bool)

@@ -1,7 +1,7 @@
 //! Runs of bytes of one kind.
 ghost use Rattle.std.specs.Prelude.{◌↔◌, IsTrue};
 ghost use Rattle.word_base.specs.Name.{IsNamePart};
-ghost use Rattle.c_tree.specs.Spelling.{IsNumberPart};
+ghost use Rattle.c_syntax.specs.Spelling.{IsNumberPart};
 ghost use Rattle.c_lexer.specs.Front.{IsFrontRun};
 
 use word_base::is_name_part;

@@ -1,7 +1,7 @@
 //! The token at the front of a text.
 ghost use Rattle.std.specs.Prelude.{◌<◌, length, IfOk, IfErr};
 ghost use Rattle.word_base.specs.Name.{IsNameStart};
-ghost use Rattle.c_tree.specs.Spelling.{IsDigit};
+ghost use Rattle.c_syntax.specs.Spelling.{IsDigit};
 ghost use Rattle.c_lexer.specs.Front.{HasNoBlank, BeginsWith, IsToken, IsQuote, IsSign};
 ghost use Rattle.c_lexer.specs.LexFaults.{HasFlaw};
 
@@ -12,7 +12,7 @@ use crate::numbers::number;
 use crate::prefix::behind;
 use crate::runs::{name_run, number_run};
 use crate::words::word;
-use c_tree::TokenKind;
+use c_syntax::TokenKind;
 use std::alloc::Global;
 use word_base::is_name_start;
 

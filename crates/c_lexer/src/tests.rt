@@ -1,6 +1,6 @@
 //! Texts with their tokens or their fault, decided by hand.
 use crate::lex;
-use c_tree::{Token, TokenKind};
+use c_syntax::{Token, TokenKind};
 use std::process::Abort;
 use std::test::Fail;
 

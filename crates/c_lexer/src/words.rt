@@ -1,9 +1,9 @@
 //! Words: names and keywords (ISO 9899:1990 6.1.1 and 6.1.2).
 ghost use Rattle.std.specs.Prelude.{◌<◌, length, IfOk, MatchOption};
-ghost use Rattle.c_tree.specs.Spelling.{IsNameRun, Means};
+ghost use Rattle.c_syntax.specs.Spelling.{IsNameRun, Means};
 
 use crate::keywords::keyword;
-use c_tree::TokenKind;
+use c_syntax::TokenKind;
 use std::alloc::Global;
 use word_base::{NoMemory, Text, name_text};
 

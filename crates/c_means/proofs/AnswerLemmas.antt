@@ -1,8 +1,8 @@
 -- What an answer that looks at no object says at a point of a run.
 use Rattle.std.proofs.Common.{◌≡◌, refl, sym, subst, ℕ, Result, Ok, Err, IfOk, IfErr}
 use Rattle.std.specs.Prelude.{◌==◌}
-use Rattle.c_tree.specs.declared.operator.BinaryOp.{BinaryOp}
-use Rattle.c_tree.specs.declared.operator.BinaryOp.TheVariants as op
+use Rattle.c_syntax.specs.declared.operator.BinaryOp.{BinaryOp}
+use Rattle.c_syntax.specs.declared.operator.BinaryOp.TheVariants as op
 use Rattle.c_tree.specs.Operators.{int_binary}
 use Rattle.c_tree.specs.Eval.{calc, equality, ordering}
 use Rattle.c_tree.specs.Store.{Value, World, Does, Gives}

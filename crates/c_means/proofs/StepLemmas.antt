@@ -1,7 +1,7 @@
 -- Where a write stops behind its lvalue: ISO 9899:1990 6.3.2.4, 6.3.3.1 and 6.3.16.2.
 use Rattle.std.proofs.Common.{◌≡◌, ℕ, Bool}
 use Rattle.word_base.specs.Ports.{Outputs}
-use Rattle.c_tree.specs.declared.operator.BinaryOp.{BinaryOp}
+use Rattle.c_syntax.specs.declared.operator.BinaryOp.{BinaryOp}
 use Rattle.c_tree.specs.Store.{Value, World, Gives, ◌>>=◌, load, save}
 use Rattle.c_tree.specs.TypedTree.{Kind, Expr, Lvalue, AssignOp, StepBefore, StepAfter}
 use Rattle.c_tree.specs.Eval.{Calls, Env, Spot, eval_form, spot, value, of_two, stepped, some, points, kind_of, lvalue_place}

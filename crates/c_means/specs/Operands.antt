@@ -1,6 +1,6 @@
 -- Parts of what operators do, and what an operator answers that looks at no object.
 use Rattle.std.specs.Prelude.{◌≡◌, ℕ, ℤ, pos, negsuc, Bool, false, nat_lt, if◌then◌else◌, ◌==◌, Option, Some, None, Result, Ok, Err}
-use Rattle.c_tree.specs.declared.operator.BinaryOp.{BinaryOp}
+use Rattle.c_syntax.specs.declared.operator.BinaryOp.{BinaryOp}
 use Rattle.c_tree.specs.Store.{Value, World, Does, Gives, ◌>>=◌}
 use Rattle.c_tree.specs.TypedTree.{Expr}
 use Rattle.c_means.specs.declared.value.Value as code

@@ -15,9 +15,8 @@ use crate::names::Names;
 use crate::operators::Operand;
 use crate::state::State;
 use crate::value::{Spot, Stop, Value, undefined};
-use c_tree::{
-    BinaryOp, ExprForm, ScalarType, Target, TargetForm, TypedExpr, UnaryOp, VarRef, points, truth,
-};
+use c_syntax::{BinaryOp, UnaryOp};
+use c_tree::{ExprForm, ScalarType, Target, TargetForm, TypedExpr, VarRef, points, truth};
 use word_base::UndefinedKind;
 
 // A constant, which is null where its type is a pointer's.

@@ -10,9 +10,10 @@ ghost use Rattle.c_means.specs.Worlds.{world_of, Stops};
 
 use crate::state::State;
 use crate::value::{Spot, Stop, Value, bad_pointer, undefined};
+use c_syntax::{BinaryOp, UnaryOp};
 use c_tree::{
-    BinaryOp, ScalarType, UnaryOp, int_binary, int_unary, is_unsigned, truth, unsigned_binary,
-    unsigned_unary, without_sign,
+    ScalarType, int_binary, int_unary, is_unsigned, truth, unsigned_binary, unsigned_unary,
+    without_sign,
 };
 use word_base::{signed, zero_ext};
 

@@ -1,22 +1,22 @@
 -- The arguments of a call, read one by one.
 use Rattle.std.proofs.Common.{◌≡◌, ◌≢◌, ℕ, ◌+◌, ◌<◌, ◌≤◌, max, List, [], ◌∷◌, ◌++◌, length, Some, None, refl, sym, ap, ◌∙◌, subst, arith}
-use Rattle.c_tree.specs.declared.token.Token.{Token}
-use Rattle.c_tree.specs.declared.token.TokenKind.{TokenKind}
-use Rattle.c_tree.specs.declared.token.TokenKind.TheVariants as token
-use Rattle.c_tree.specs.declared.token.Punct.TheVariants as mark
-use Rattle.c_tree.specs.declared.expr.Expr.{Expr}
-use Rattle.c_tree.specs.SyntaxTree.{Expressions, no_argument, argument}
-use Rattle.c_tree.specs.Grammar.{Row, AssignmentRow, CastRow, UnaryRow, PostfixRow, PrimaryRow, IsMark}
-use Rattle.c_tree.specs.Lookahead.{NoStart, next_of, spec_of, kind_start, start_of}
-use Rattle.c_tree.specs.Reads.{Reading, First, first_of, Reads, Both, Starts, PassFirst, NameFirst, NumberFirst, CharacterFirst, ParenFirst, CallFirst, StepFirst, PrefixFirst, SizeofValueFirst, SizeofTypeFirst, CastFirst, ArgumentsReading, listed, CommaHere, CloseHere, OtherHere, separator_kind, separator_of, ReadsArguments, NoneRead, SomeRead, ReadsSome, OneRead, ReadsRest, LastRead, MoreRead}
-use Rattle.c_tree.specs.Measures.{expression_height, arguments_height, greatest_height}
-use Rattle.c_tree.specs.SyntaxView.{expression_of}
-use Rattle.c_tree.proofs.Parsing.ReadsOne.{one_reading}
+use Rattle.c_syntax.specs.declared.token.Token.{Token}
+use Rattle.c_syntax.specs.declared.token.TokenKind.{TokenKind}
+use Rattle.c_syntax.specs.declared.token.TokenKind.TheVariants as token
+use Rattle.c_syntax.specs.declared.token.Punct.TheVariants as mark
+use Rattle.c_syntax.specs.declared.expr.Expr.{Expr}
+use Rattle.c_syntax.specs.SyntaxTree.{Expressions, no_argument, argument}
+use Rattle.c_syntax.specs.Grammar.{Row, AssignmentRow, CastRow, UnaryRow, PostfixRow, PrimaryRow, IsMark}
+use Rattle.c_syntax.specs.Lookahead.{NoStart, next_of, spec_of, kind_start, start_of}
+use Rattle.c_syntax.specs.Reads.{Reading, First, first_of, Reads, Both, Starts, PassFirst, NameFirst, NumberFirst, CharacterFirst, ParenFirst, CallFirst, StepFirst, PrefixFirst, SizeofValueFirst, SizeofTypeFirst, CastFirst, ArgumentsReading, listed, CommaHere, CloseHere, OtherHere, separator_kind, separator_of, ReadsArguments, NoneRead, SomeRead, ReadsSome, OneRead, ReadsRest, LastRead, MoreRead}
+use Rattle.c_syntax.specs.Measures.{expression_height, arguments_height, greatest_height}
+use Rattle.c_syntax.specs.SyntaxView.{expression_of}
+use Rattle.c_syntax.proofs.Parsing.ReadsOne.{one_reading}
 use Rattle.c_parser.specs.declared.parser.Parsed.{Parsed}
 use Rattle.c_parser.specs.declared.parser.Arguments.{Arguments}
 use Rattle.c_parser.specs.Front.{behind, kind_mark, mark_at}
 use Rattle.c_parser.specs.Parses.{read, IsParsed, AreRead}
-use Rattle.c_tree.specs.SyntaxView.{trees_of}
+use Rattle.c_syntax.specs.SyntaxView.{trees_of}
 use Rattle.c_parser.proofs.Words.{is_first, behind_shorter}
 
 -- ---- nothing is read where nothing begins

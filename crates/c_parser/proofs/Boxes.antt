@@ -1,14 +1,14 @@
 -- The statements of a block and the parts of a switch, in memory and as lists.
 use mathlib.Core.Former.{Count}
 use Rattle.std.proofs.Common.{◌≡◌, ℕ, map, Vec, Global, refl, ap, ◌∙◌}
-use Rattle.c_tree.specs.declared.decl.Decl.{Decl}
-use Rattle.c_tree.specs.declared.expr.Expr.{Expr}
-use Rattle.c_tree.specs.declared.stmt.Stmt.{Stmt}
-use Rattle.c_tree.specs.declared.stmt.SwitchPart.{SwitchPart}
-use Rattle.c_tree.specs.declared.stmt.StmtKind as stmt
-use Rattle.c_tree.specs.declared.stmt.StmtKind.{StmtKind, Row_of-Stmt, end_of-Stmt, more_of-Stmt, Row_of-SwitchPart, end_of-SwitchPart, more_of-SwitchPart, items-the_row-Stmt, items-the_row-SwitchPart, items_hidden-the_row-Stmt-0, items_hidden-the_row-SwitchPart-1}
-use Rattle.c_tree.specs.SyntaxTree as tree
-use Rattle.c_tree.specs.SyntaxView.{expression_of, declaration_of, statement_of, statements_of, choices_of, body_of, part_before}
+use Rattle.c_syntax.specs.declared.decl.Decl.{Decl}
+use Rattle.c_syntax.specs.declared.expr.Expr.{Expr}
+use Rattle.c_syntax.specs.declared.stmt.Stmt.{Stmt}
+use Rattle.c_syntax.specs.declared.stmt.SwitchPart.{SwitchPart}
+use Rattle.c_syntax.specs.declared.stmt.StmtKind as stmt
+use Rattle.c_syntax.specs.declared.stmt.StmtKind.{StmtKind, Row_of-Stmt, end_of-Stmt, more_of-Stmt, Row_of-SwitchPart, end_of-SwitchPart, more_of-SwitchPart, items-the_row-Stmt, items-the_row-SwitchPart, items_hidden-the_row-Stmt-0, items_hidden-the_row-SwitchPart-1}
+use Rattle.c_syntax.specs.SyntaxTree as tree
+use Rattle.c_syntax.specs.SyntaxView.{expression_of, declaration_of, statement_of, statements_of, choices_of, body_of, part_before}
 use Rattle.c_parser.specs.StatementRows.{parts_of}
 
 statements_row : (n : _) (row : Row_of-Stmt n) → statements_of row ≡ body_of (items-the_row-Stmt n row)

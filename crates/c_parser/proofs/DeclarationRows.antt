@@ -1,14 +1,14 @@
 -- The rows of declarations from their parts.
 use Rattle.std.proofs.Common.{◌≡◌, ℕ, ◌<◌, ◌&&◌, Bool, true, false, not, List, [], ◌∷◌, ◌++◌, Option, Some, length, inr, refl, sym, ap, subst, ◌∙◌, append_assoc}
-use Rattle.c_tree.specs.declared.token.Token.{Token}
-use Rattle.c_tree.specs.declared.token.TokenKind.{TokenKind}
-use Rattle.c_tree.specs.declared.token.TokenKind.TheVariants as token
-use Rattle.c_tree.specs.declared.token.Keyword.TheVariants as keyword
-use Rattle.c_tree.specs.declared.token.Punct.TheVariants as mark
-use Rattle.c_tree.specs.declared.syntax.SpecWord.{SpecWord}
-use Rattle.c_tree.specs.SyntaxTree.{Expression, InitialTree, Braced, ItemTree, ItemForm, Parameters, DeclarationTree, ParameterTree, ParametersTree}
-use Rattle.c_tree.specs.Grammar.{ConditionalRow, IsMark, IsKeyword, place_of, AreSpecs, LastSpec, MoreSpecs, AreStars}
-use Rattle.c_tree.specs.Derives.{IsName, IsLastComma, DerivesSpecs, DerivesOptional, DerivesList, DerivesInitial, BracedRule, DerivesInitialiser, DerivesArray, ArrayRule, DerivesArrayMark, DerivesName, DerivesParameter, DerivesParameterList, DerivesParameters, VoidRule, ParametersRule, DerivesForm, FunctionRule, DerivesItem, DerivesItems, DerivesDeclaration}
+use Rattle.c_syntax.specs.declared.token.Token.{Token}
+use Rattle.c_syntax.specs.declared.token.TokenKind.{TokenKind}
+use Rattle.c_syntax.specs.declared.token.TokenKind.TheVariants as token
+use Rattle.c_syntax.specs.declared.token.Keyword.TheVariants as keyword
+use Rattle.c_syntax.specs.declared.token.Punct.TheVariants as mark
+use Rattle.c_syntax.specs.declared.syntax.SpecWord.{SpecWord}
+use Rattle.c_syntax.specs.SyntaxTree.{Expression, InitialTree, Braced, ItemTree, ItemForm, Parameters, DeclarationTree, ParameterTree, ParametersTree}
+use Rattle.c_syntax.specs.Grammar.{ConditionalRow, IsMark, IsKeyword, place_of, AreSpecs, LastSpec, MoreSpecs, AreStars}
+use Rattle.c_syntax.specs.Derives.{IsName, IsLastComma, DerivesSpecs, DerivesOptional, DerivesList, DerivesInitial, BracedRule, DerivesInitialiser, DerivesArray, ArrayRule, DerivesArrayMark, DerivesName, DerivesParameter, DerivesParameterList, DerivesParameters, VoidRule, ParametersRule, DerivesForm, FunctionRule, DerivesItem, DerivesItems, DerivesDeclaration}
 use Rattle.c_parser.specs.Front.{behind, is_void_word, is_void_alone, is_separator_at, is_separator_kind, is_close_kind, is_void_kind}
 use Rattle.c_parser.specs.Takes.{Takes, IsOne, Both, Behind, IsItemFront, ListGoesOn}
 use Rattle.c_parser.proofs.TakesLemmas.{mapped, joined, place_taken, one_before, one_behind, one_place}

@@ -1,20 +1,20 @@
 -- What the rows of declarations lead to, part by part.
 use Rattle.std.proofs.Common.{◌≡◌, ◌≢◌, ◌≤◌, ◌+◌, ◌++◌, ◌∷◌, [], ℕ, List, Option, Some, None, map, inl, inr, refl, sym, ap, ◌∙◌, arith, append_assoc}
-use Rattle.c_tree.specs.declared.token.Token.{Token}
-use Rattle.c_tree.specs.declared.token.Punct.{Punct}
-use Rattle.c_tree.specs.declared.token.Punct.TheVariants as mark
-use Rattle.c_tree.specs.Grammar.{AssignmentRow, ConditionalRow, IsMark}
-use Rattle.c_tree.specs.Derives.{DerivesOptional, DerivesInitial, OneRule, BracedRule, DerivesArray, ArrayRule, DerivesForm, PlainRule, FunctionRule, ArrayFormRule, DerivesInitialiser, DerivesItems, LastItem}
-use Rattle.c_tree.specs.Derives as rows
-use Rattle.c_tree.specs.Lookahead.{Ends}
-use Rattle.c_tree.specs.SyntaxTree.{Expression, ItemTree, ItemForm, InitialTree}
-use Rattle.c_tree.specs.Measures.{greatest, optional_height, item_form_height, initial_height, item_height}
-use Rattle.c_tree.proofs.Rows.Fronts.{TypeWord, AnyName, ParenOpens, BracketOpens, BracketCloses, BraceOpens, CommaMark, SemicolonMark, mark_sort, first}
-use Rattle.c_tree.proofs.Rows.Given.{expression_first}
-use Rattle.c_tree.proofs.Rows.Initialisers.{array_first}
-use Rattle.c_tree.proofs.Rows.Parameters.{name_first}
-use Rattle.c_tree.proofs.Rows.Declarations.{initialiser_other, items_other}
-use Rattle.c_tree.proofs.Rows.UnitOne.{known}
+use Rattle.c_syntax.specs.declared.token.Token.{Token}
+use Rattle.c_syntax.specs.declared.token.Punct.{Punct}
+use Rattle.c_syntax.specs.declared.token.Punct.TheVariants as mark
+use Rattle.c_syntax.specs.Grammar.{AssignmentRow, ConditionalRow, IsMark}
+use Rattle.c_syntax.specs.Derives.{DerivesOptional, DerivesInitial, OneRule, BracedRule, DerivesArray, ArrayRule, DerivesForm, PlainRule, FunctionRule, ArrayFormRule, DerivesInitialiser, DerivesItems, LastItem}
+use Rattle.c_syntax.specs.Derives as rows
+use Rattle.c_syntax.specs.Lookahead.{Ends}
+use Rattle.c_syntax.specs.SyntaxTree.{Expression, ItemTree, ItemForm, InitialTree}
+use Rattle.c_syntax.specs.Measures.{greatest, optional_height, item_form_height, initial_height, item_height}
+use Rattle.c_syntax.proofs.Rows.Fronts.{TypeWord, AnyName, ParenOpens, BracketOpens, BracketCloses, BraceOpens, CommaMark, SemicolonMark, mark_sort, first}
+use Rattle.c_syntax.proofs.Rows.Given.{expression_first}
+use Rattle.c_syntax.proofs.Rows.Initialisers.{array_first}
+use Rattle.c_syntax.proofs.Rows.Parameters.{name_first}
+use Rattle.c_syntax.proofs.Rows.Declarations.{initialiser_other, items_other}
+use Rattle.c_syntax.proofs.Rows.UnitOne.{known}
 use Rattle.c_parser.specs.Front.{mark_at}
 use Rattle.c_parser.specs.Fronts.{OnlyTo, Then, One, ExpressionFront, SpecsFront, StarsFront, DeclarationFront}
 use Rattle.c_parser.specs.DeclarationFronts.{EndsItem, ItemFront, ItemsFront, EndsForm, FormFront, ArrayFront, LengthFront, InitialiserFront, InitialFront, BracedFront, ParametersFront, IsAnyName, Ended, GoesOn, MoreItems}

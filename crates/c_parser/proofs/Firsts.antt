@@ -1,28 +1,28 @@
 -- What stands before an operand, and operands themselves.
 use Rattle.std.proofs.Common.{◌≡◌, ◌≢◌, ℕ, ◌+◌, ◌<◌, ◌≤◌, Bool, true, false, List, [], ◌∷◌, ◌++◌, length, Option, Some, None, refl, sym, ap, ◌∙◌, subst, arith, length-append}
-use Rattle.c_tree.specs.declared.token.Token.{Token}
-use Rattle.c_tree.specs.declared.token.TokenKind.{TokenKind}
-use Rattle.c_tree.specs.declared.token.TokenKind.TheVariants as token
-use Rattle.c_tree.specs.declared.token.Keyword.{Keyword}
-use Rattle.c_tree.specs.declared.token.Keyword.TheVariants as keyword
-use Rattle.c_tree.specs.declared.token.Punct.{Punct}
-use Rattle.c_tree.specs.declared.token.Punct.TheVariants as mark
-use Rattle.c_tree.specs.declared.syntax.SpecWord.{SpecWord}
-use Rattle.c_tree.specs.declared.syntax.PrefixOp.{PrefixOp}
-use Rattle.c_tree.specs.declared.syntax.PrefixOp.TheVariants as prefix
-use Rattle.c_tree.specs.declared.expr.ExprKind.{ExprKind}
-use Rattle.c_tree.specs.SyntaxTree.{TypeTree, Expression, ExpressionForm, Node, Name, Number, Character, Call, StepBefore, Prefix, SizeofValue, SizeofType, Cast}
-use Rattle.c_tree.specs.Grammar.{Row, CastRow, UnaryRow, PostfixRow, PrimaryRow, prefix_mark, step_mark, IsMark, IsKeyword, IsType, place_of}
-use Rattle.c_tree.specs.Lookahead.{Next, CallNext, next_of, going_of, spec_of, Start, NameStart, CallStart, NumberStart, CharacterStart, CastStart, StepStart, PrefixStart, SizeofValueStart, SizeofTypeStart, name_start, paren_start, sizeof_start, keyword_start, mark_start, kind_start, start_of}
-use Rattle.c_tree.specs.Reads.{Reading, reading, PassTo, Takes, first_of, postfix_first, unary_first, cast_first, Reads, Both, Starts, PassFirst, NameFirst, NumberFirst, CharacterFirst, CallFirst, StepFirst, PrefixFirst, SizeofValueFirst, SizeofTypeFirst, CastFirst, More, Stop}
-use Rattle.c_tree.specs.Measures.{expression_height, form_height, greatest_height}
-use Rattle.c_tree.specs.SyntaxView.{expression_of, form_of}
+use Rattle.c_syntax.specs.declared.token.Token.{Token}
+use Rattle.c_syntax.specs.declared.token.TokenKind.{TokenKind}
+use Rattle.c_syntax.specs.declared.token.TokenKind.TheVariants as token
+use Rattle.c_syntax.specs.declared.token.Keyword.{Keyword}
+use Rattle.c_syntax.specs.declared.token.Keyword.TheVariants as keyword
+use Rattle.c_syntax.specs.declared.token.Punct.{Punct}
+use Rattle.c_syntax.specs.declared.token.Punct.TheVariants as mark
+use Rattle.c_syntax.specs.declared.syntax.SpecWord.{SpecWord}
+use Rattle.c_syntax.specs.declared.syntax.PrefixOp.{PrefixOp}
+use Rattle.c_syntax.specs.declared.syntax.PrefixOp.TheVariants as prefix
+use Rattle.c_syntax.specs.declared.expr.ExprKind.{ExprKind}
+use Rattle.c_syntax.specs.SyntaxTree.{TypeTree, Expression, ExpressionForm, Node, Name, Number, Character, Call, StepBefore, Prefix, SizeofValue, SizeofType, Cast}
+use Rattle.c_syntax.specs.Grammar.{Row, CastRow, UnaryRow, PostfixRow, PrimaryRow, prefix_mark, step_mark, IsMark, IsKeyword, IsType, place_of}
+use Rattle.c_syntax.specs.Lookahead.{Next, CallNext, next_of, going_of, spec_of, Start, NameStart, CallStart, NumberStart, CharacterStart, CastStart, StepStart, PrefixStart, SizeofValueStart, SizeofTypeStart, name_start, paren_start, sizeof_start, keyword_start, mark_start, kind_start, start_of}
+use Rattle.c_syntax.specs.Reads.{Reading, reading, PassTo, Takes, first_of, postfix_first, unary_first, cast_first, Reads, Both, Starts, PassFirst, NameFirst, NumberFirst, CharacterFirst, CallFirst, StepFirst, PrefixFirst, SizeofValueFirst, SizeofTypeFirst, CastFirst, More, Stop}
+use Rattle.c_syntax.specs.Measures.{expression_height, form_height, greatest_height}
+use Rattle.c_syntax.specs.SyntaxView.{expression_of, form_of}
 use Rattle.c_parser.specs.declared.parser.Parsed.{Parsed}
 use Rattle.c_parser.specs.declared.parser.Arguments.{Arguments}
 use Rattle.c_parser.specs.Front.{behind, kind_at, kind_mark, kind_word, kind_name, mark_at, word_at, name_at, is_open, is_there, opens, opens_type}
 use Rattle.c_parser.specs.Operators.{step_at, prefix_at}
 use Rattle.c_parser.specs.Parses.{AtPrimary, Up, read, IsMeasured, IsParsed, IsOperand, IsBehind, IsNode, IsConstant, constant_form, constant_at, ReadsType, ReadsClosed, AreRead}
-use Rattle.c_tree.specs.SyntaxView.{trees_of}
+use Rattle.c_syntax.specs.SyntaxView.{trees_of}
 use Rattle.c_parser.proofs.Words.{is_first, behind_shorter}
 use Rattle.c_parser.proofs.Nexts.{next_at, next_is, no_cast, no_unary, no_primary, step_stands}
 use Rattle.c_parser.proofs.Rows.{node_measured}

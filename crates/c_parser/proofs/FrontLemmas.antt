@@ -1,9 +1,9 @@
 -- What leads on from the front of the tokens, one part behind another, and what a refusal of a part tells of the whole.
 use Rattle.std.proofs.Common.{◌≡◌, ◌≢◌, ◌++◌, ◌∷◌, List, Some, sym, ap, ◌∙◌, subst}
-use Rattle.c_tree.specs.declared.token.Token.{Token}
-use Rattle.c_tree.specs.declared.token.Punct.{Punct}
-use Rattle.c_tree.specs.declared.token.Keyword.{Keyword}
-use Rattle.c_tree.specs.Grammar.{IsMark, IsKeyword}
+use Rattle.c_syntax.specs.declared.token.Token.{Token}
+use Rattle.c_syntax.specs.declared.token.Punct.{Punct}
+use Rattle.c_syntax.specs.declared.token.Keyword.{Keyword}
+use Rattle.c_syntax.specs.Grammar.{IsMark, IsKeyword}
 use Rattle.c_parser.specs.Front.{behind, kind_mark, kind_word, mark_at, word_at}
 use Rattle.c_parser.specs.Fronts.{NoFront, OnlyTo, Then, One}
 use Rattle.c_parser.specs.Takes.{Takes, IsOne}

@@ -1,13 +1,13 @@
 -- Marks at the front of the tokens, and the heights of lists.
 use Rattle.std.proofs.Common.{◌≡◌, ◌≢◌, ◌<◌, ◌≤◌, ◌+◌, ◌∷◌, [], ℕ, List, Some, map, refl, sym, ap, ◌∙◌, arith}
-use Rattle.c_tree.specs.declared.token.Token.{Token}
-use Rattle.c_tree.specs.declared.token.Punct.{Punct}
-use Rattle.c_tree.specs.Grammar.{Row, IsMark}
-use Rattle.c_tree.specs.Lookahead.{row_rank, next_mark, next_rank, Ends}
-use Rattle.c_tree.specs.SyntaxTree.{Expression, Node}
-use Rattle.c_tree.specs.Measures.{greatest, expression_height}
-use Rattle.c_tree.proofs.Parsing.ExpressionOne.{ends_mark}
-use Rattle.c_tree.proofs.Rows.Fronts.{Sort, mark_sort, first}
+use Rattle.c_syntax.specs.declared.token.Token.{Token}
+use Rattle.c_syntax.specs.declared.token.Punct.{Punct}
+use Rattle.c_syntax.specs.Grammar.{Row, IsMark}
+use Rattle.c_syntax.specs.Lookahead.{row_rank, next_mark, next_rank, Ends}
+use Rattle.c_syntax.specs.SyntaxTree.{Expression, Node}
+use Rattle.c_syntax.specs.Measures.{greatest, expression_height}
+use Rattle.c_syntax.proofs.Parsing.ExpressionOne.{ends_mark}
+use Rattle.c_syntax.proofs.Rows.Fronts.{Sort, mark_sort, first}
 use Rattle.c_parser.specs.Front.{kind_mark, mark_at}
 use Rattle.c_parser.specs.Fronts.{NoFront, ExpressionFront}
 use Rattle.c_parser.proofs.TakesLemmas.{greatest_first}

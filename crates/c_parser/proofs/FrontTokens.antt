@@ -1,19 +1,19 @@
 -- What a token at the front tells of the sort of the first token, and the other way round.
 use Rattle.std.proofs.Common.{◌≡◌, ◌≢◌, Bool, true, false, List, [], ◌∷◌, Option, Some, None, refl, sym, ap, ◌∙◌}
 use Rattle.std.specs.Option.{is_some}
-use Rattle.c_tree.specs.declared.syntax.SpecWord.{SpecWord}
-use Rattle.c_tree.specs.declared.token.Token.{Token}
-use Rattle.c_tree.specs.declared.token.TokenKind.{TokenKind}
-use Rattle.c_tree.specs.declared.token.TokenKind.TheVariants as token
-use Rattle.c_tree.specs.declared.token.Keyword.{Keyword}
-use Rattle.c_tree.specs.declared.token.Keyword.TheVariants as keyword
-use Rattle.c_tree.specs.declared.token.Punct.{Punct}
-use Rattle.c_tree.specs.declared.token.Punct.TheVariants as mark
-use Rattle.c_tree.specs.Grammar.{IsMark, IsKeyword}
-use Rattle.c_tree.specs.Derives.{Closing, Closed, Open}
-use Rattle.c_tree.specs.Lookahead.{keyword_spec, kind_spec, spec_of}
-use Rattle.c_tree.proofs.Rows.Fronts.{Sort, TypeWord, ElseWord, BreakWord, ContinueWord, ReturnWord, DoWord, IfWord, WhileWord, ForWord, SwitchWord, BraceOpens, SemicolonMark, keyword_sort, mark_sort, kind_sort, first}
-use Rattle.c_tree.proofs.Rows.Statements.{Fits}
+use Rattle.c_syntax.specs.declared.syntax.SpecWord.{SpecWord}
+use Rattle.c_syntax.specs.declared.token.Token.{Token}
+use Rattle.c_syntax.specs.declared.token.TokenKind.{TokenKind}
+use Rattle.c_syntax.specs.declared.token.TokenKind.TheVariants as token
+use Rattle.c_syntax.specs.declared.token.Keyword.{Keyword}
+use Rattle.c_syntax.specs.declared.token.Keyword.TheVariants as keyword
+use Rattle.c_syntax.specs.declared.token.Punct.{Punct}
+use Rattle.c_syntax.specs.declared.token.Punct.TheVariants as mark
+use Rattle.c_syntax.specs.Grammar.{IsMark, IsKeyword}
+use Rattle.c_syntax.specs.Derives.{Closing, Closed, Open}
+use Rattle.c_syntax.specs.Lookahead.{keyword_spec, kind_spec, spec_of}
+use Rattle.c_syntax.proofs.Rows.Fronts.{Sort, TypeWord, ElseWord, BreakWord, ContinueWord, ReturnWord, DoWord, IfWord, WhileWord, ForWord, SwitchWord, BraceOpens, SemicolonMark, keyword_sort, mark_sort, kind_sort, first}
+use Rattle.c_syntax.proofs.Rows.Statements.{Fits}
 use Rattle.c_parser.specs.Front.{kind_mark, kind_word, mark_at, word_at}
 use Rattle.c_parser.specs.Takes.{Ends}
 use Rattle.c_parser.specs.StatementFronts.{begins_statement}

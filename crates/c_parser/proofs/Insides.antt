@@ -1,13 +1,13 @@
 -- What a reading holds: the parts from which it was read.
 use Rattle.std.proofs.Common.{◌≡◌, ℕ, ◌≤◌, Bool, true, false, List, [], ◌∷◌, Some, refl, sym, ap, ◌∙◌, subst, arith}
-use Rattle.c_tree.specs.declared.token.Token.{Token}
-use Rattle.c_tree.specs.declared.token.Punct.TheVariants as mark
-use Rattle.c_tree.specs.SyntaxTree.{Expression, Node, Index, StepAfter, Binary, And, Or, Comma}
-use Rattle.c_tree.specs.Grammar.{Row, ExpressionRow, OrRow, AndRow, PostfixRow, step_mark, IsMark, place_of}
-use Rattle.c_tree.specs.Lookahead.{IndexNext, StepNext, next_mark, next_kind, next_of, Going, Stops, Goes, going_of, Next, start_of}
-use Rattle.c_tree.specs.Reads.{Reading, reading, PassTo, first_of, Reads, Both, Starts, PassFirst, More, Stop, CommaMore, AssignMore, AssignOpMore, QuestionMore, OrMore, AndMore, BinaryMore, IndexMore, StepMore}
-use Rattle.c_tree.specs.Measures.{expression_height}
-use Rattle.c_tree.proofs.Parsing.ReadsOne.{one_more}
+use Rattle.c_syntax.specs.declared.token.Token.{Token}
+use Rattle.c_syntax.specs.declared.token.Punct.TheVariants as mark
+use Rattle.c_syntax.specs.SyntaxTree.{Expression, Node, Index, StepAfter, Binary, And, Or, Comma}
+use Rattle.c_syntax.specs.Grammar.{Row, ExpressionRow, OrRow, AndRow, PostfixRow, step_mark, IsMark, place_of}
+use Rattle.c_syntax.specs.Lookahead.{IndexNext, StepNext, next_mark, next_kind, next_of, Going, Stops, Goes, going_of, Next, start_of}
+use Rattle.c_syntax.specs.Reads.{Reading, reading, PassTo, first_of, Reads, Both, Starts, PassFirst, More, Stop, CommaMore, AssignMore, AssignOpMore, QuestionMore, OrMore, AndMore, BinaryMore, IndexMore, StepMore}
+use Rattle.c_syntax.specs.Measures.{expression_height}
+use Rattle.c_syntax.proofs.Parsing.ReadsOne.{one_more}
 use Rattle.c_parser.specs.Front.{behind, kind_mark, mark_at}
 use Rattle.c_parser.specs.Operators.{step_at}
 use Rattle.c_parser.proofs.Words.{is_first}

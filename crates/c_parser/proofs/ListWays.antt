@@ -1,9 +1,9 @@
 -- How lists lead on at a comma, and end.
 use Rattle.std.proofs.Common.{◌≡◌, ◌≢◌, List, Some, sym, subst}
-use Rattle.c_tree.specs.declared.token.Token.{Token}
-use Rattle.c_tree.specs.declared.token.Punct.{Punct}
-use Rattle.c_tree.specs.declared.token.Punct.TheVariants as mark
-use Rattle.c_tree.proofs.Rows.Fronts.{CommaMark, mark_sort}
+use Rattle.c_syntax.specs.declared.token.Token.{Token}
+use Rattle.c_syntax.specs.declared.token.Punct.{Punct}
+use Rattle.c_syntax.specs.declared.token.Punct.TheVariants as mark
+use Rattle.c_syntax.proofs.Rows.Fronts.{CommaMark, mark_sort}
 use Rattle.c_parser.specs.Front.{behind, mark_at}
 use Rattle.c_parser.specs.Fronts.{NoFront, OnlyTo, Then}
 use Rattle.c_parser.specs.DeclarationFronts.{MoreOf, Ended, GoesOn, EndsAt}

@@ -1,12 +1,12 @@
 -- One more part at the end of a list of parts.
 use Rattle.std.proofs.Common.{◌≡◌, ℕ, max, List, [], ◌∷◌, ◌++◌, map, refl, sym, ap, subst, ◌∙◌, append_assoc, arith}
 use Rattle.std.proofs.lemmas.List.{append-nil, map-append}
-use Rattle.c_tree.specs.declared.token.Token.{Token}
-use Rattle.c_tree.specs.declared.token.Punct.TheVariants as mark
-use Rattle.c_tree.specs.SyntaxTree.{Expression, ItemTree, ParameterTree, DeclarationTree, ExternalTree, UnitTree}
-use Rattle.c_tree.specs.Grammar.{AssignmentRow, IsMark, Derives}
-use Rattle.c_tree.specs.Derives.{DerivesList, LastOfList, MoreOfList, DerivesItem, DerivesItems, LastItem, MoreItems, DerivesParameter, DerivesParameterList, LastParameter, MoreParameters, DerivesDeclaration, DerivesDeclarations, NoDeclaration, MoreDeclarations, DerivesExternal, DerivesUnit, LastExternal, MoreExternals}
-use Rattle.c_tree.specs.Measures.{greatest}
+use Rattle.c_syntax.specs.declared.token.Token.{Token}
+use Rattle.c_syntax.specs.declared.token.Punct.TheVariants as mark
+use Rattle.c_syntax.specs.SyntaxTree.{Expression, ItemTree, ParameterTree, DeclarationTree, ExternalTree, UnitTree}
+use Rattle.c_syntax.specs.Grammar.{AssignmentRow, IsMark, Derives}
+use Rattle.c_syntax.specs.Derives.{DerivesList, LastOfList, MoreOfList, DerivesItem, DerivesItems, LastItem, MoreItems, DerivesParameter, DerivesParameterList, LastParameter, MoreParameters, DerivesDeclaration, DerivesDeclarations, NoDeclaration, MoreDeclarations, DerivesExternal, DerivesUnit, LastExternal, MoreExternals}
+use Rattle.c_syntax.specs.Measures.{greatest}
 use Rattle.c_parser.specs.Takes.{Takes, IsOne, Behind}
 use Rattle.c_parser.proofs.TakesLemmas.{mapped, joined, greatest_more, one_before}
 

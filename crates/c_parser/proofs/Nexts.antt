@@ -1,17 +1,17 @@
 -- What a mark that stands next makes of a row.
 use Rattle.std.proofs.Common.{◌≡◌, ◌≢◌, ℕ, ◌<◌, ◌≤◌, Bool, true, false, List, [], ◌∷◌, Option, Some, None, refl, sym, ap, ◌∙◌, subst, arith}
 use Rattle.std.proofs.lemmas.Bool.Decides.{nat_tests}
-use Rattle.c_tree.specs.declared.token.Token.{Token}
-use Rattle.c_tree.specs.declared.token.TokenKind.{TokenKind}
-use Rattle.c_tree.specs.declared.token.TokenKind.TheVariants as token
-use Rattle.c_tree.specs.declared.token.Punct.{Punct}
-use Rattle.c_tree.specs.declared.token.Punct.TheVariants as mark
-use Rattle.c_tree.specs.declared.operator.BinaryOp.{BinaryOp}
-use Rattle.c_tree.specs.declared.operator.BinaryOp.TheVariants as binary
-use Rattle.c_tree.specs.SyntaxTree.{Expression, Node, Index, StepAfter, Conditional, Comma}
-use Rattle.c_tree.specs.Grammar.{Row, ExpressionRow, AssignmentRow, ConditionalRow, CastRow, UnaryRow, PostfixRow, PrimaryRow, tighter, level_of, operator_mark, assignment_mark, step_mark, IsMark}
-use Rattle.c_tree.specs.Lookahead.{row_rank, Next, CommaNext, AssignNext, AssignOpNext, QuestionNext, OrNext, AndNext, BinaryNext, IndexNext, StepNext, CallNext, EndNext, next_mark, next_kind, next_of, next_rank, Stops, Goes, going_of, Start}
-use Rattle.c_tree.specs.Reads.{Reading, reading, tight, PassTo, first_of, Reads, More, CommaMore, AssignMore, AssignOpMore, QuestionMore, OrMore, AndMore, BinaryMore, IndexMore, StepMore}
+use Rattle.c_syntax.specs.declared.token.Token.{Token}
+use Rattle.c_syntax.specs.declared.token.TokenKind.{TokenKind}
+use Rattle.c_syntax.specs.declared.token.TokenKind.TheVariants as token
+use Rattle.c_syntax.specs.declared.token.Punct.{Punct}
+use Rattle.c_syntax.specs.declared.token.Punct.TheVariants as mark
+use Rattle.c_syntax.specs.declared.operator.BinaryOp.{BinaryOp}
+use Rattle.c_syntax.specs.declared.operator.BinaryOp.TheVariants as binary
+use Rattle.c_syntax.specs.SyntaxTree.{Expression, Node, Index, StepAfter, Conditional, Comma}
+use Rattle.c_syntax.specs.Grammar.{Row, ExpressionRow, AssignmentRow, ConditionalRow, CastRow, UnaryRow, PostfixRow, PrimaryRow, tighter, level_of, operator_mark, assignment_mark, step_mark, IsMark}
+use Rattle.c_syntax.specs.Lookahead.{row_rank, Next, CommaNext, AssignNext, AssignOpNext, QuestionNext, OrNext, AndNext, BinaryNext, IndexNext, StepNext, CallNext, EndNext, next_mark, next_kind, next_of, next_rank, Stops, Goes, going_of, Start}
+use Rattle.c_syntax.specs.Reads.{Reading, reading, tight, PassTo, first_of, Reads, More, CommaMore, AssignMore, AssignOpMore, QuestionMore, OrMore, AndMore, BinaryMore, IndexMore, StepMore}
 use Rattle.c_parser.specs.declared.operators.Level.{Level}
 use Rattle.c_parser.specs.declared.operators.Level.TheVariants as level
 use Rattle.c_parser.specs.declared.operators.Infix.{Infix}

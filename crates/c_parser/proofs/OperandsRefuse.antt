@@ -1,25 +1,25 @@
 -- Where the rows of operands refuse, no reading has a tree that fits.
 use Rattle.std.proofs.Common.{◌≡◌, ◌≢◌, ℕ, ◌+◌, ◌<◌, ◌≤◌, max, Bool, true, false, List, [], ◌∷◌, ◌++◌, length, Option, Some, None, refl, sym, ap, ◌∙◌, subst, arith, append_assoc}
 use Rattle.std.specs.Prelude.{IsSome}
-use Rattle.c_tree.specs.declared.token.Token.{Token}
-use Rattle.c_tree.specs.declared.token.TokenKind.{TokenKind}
-use Rattle.c_tree.specs.declared.token.TokenKind.TheVariants as token
-use Rattle.c_tree.specs.declared.token.Keyword.{Keyword}
-use Rattle.c_tree.specs.declared.token.Keyword.TheVariants as keyword
-use Rattle.c_tree.specs.declared.token.Punct.{Punct}
-use Rattle.c_tree.specs.declared.token.Punct.TheVariants as mark
-use Rattle.c_tree.specs.declared.operator.BinaryOp.TheVariants as binary
-use Rattle.c_tree.specs.declared.syntax.SpecWord.{SpecWord}
-use Rattle.c_tree.specs.declared.syntax.PrefixOp.{PrefixOp}
-use Rattle.c_tree.specs.SyntaxTree.{TypeTree, Node, Index, StepAfter}
-use Rattle.c_tree.specs.Grammar.{Row, ExpressionRow, AssignmentRow, CastRow, UnaryRow, PostfixRow, PrimaryRow, step_mark, prefix_mark, IsMark, IsType, AreStars, NoStar, MoreStars, place_of}
-use Rattle.c_tree.specs.Lookahead.{Next, BinaryNext, next_of, next_kind, going_of, kind_spec, spec_of, Start, ParenStart, CastStart, StepStart, PrefixStart, SizeofValueStart, SizeofTypeStart, CallStart, sizeof_start, keyword_start, mark_start, kind_start, start_of}
-use Rattle.c_tree.specs.Reads.{Reading, reading, First, PassTo, Takes, Fails, first_of, primary_first, postfix_first, unary_first, Reads, Both, Starts, PassFirst, NameFirst, NumberFirst, CharacterFirst, ParenFirst, CallFirst, StepFirst, PrefixFirst, SizeofValueFirst, SizeofTypeFirst, CastFirst, More, ArgumentsReading, separator_of, ReadsArguments, NoneRead, SomeRead, ReadsSome, ReadsRest, LastRead, MoreRead}
-use Rattle.c_tree.specs.Measures.{expression_height, arguments_height, greatest_height}
-use Rattle.c_tree.specs.SyntaxView.{expression_of}
-use Rattle.c_tree.proofs.Parsing.Lookahead.{is_next, call_starts, paren_starts, step_starts, prefix_starts}
-use Rattle.c_tree.proofs.Parsing.Types.{NoStarNext, no_star_other, specs_one, stars_one}
-use Rattle.c_tree.proofs.Parsing.ReadsOne.{one_reading, one_start}
+use Rattle.c_syntax.specs.declared.token.Token.{Token}
+use Rattle.c_syntax.specs.declared.token.TokenKind.{TokenKind}
+use Rattle.c_syntax.specs.declared.token.TokenKind.TheVariants as token
+use Rattle.c_syntax.specs.declared.token.Keyword.{Keyword}
+use Rattle.c_syntax.specs.declared.token.Keyword.TheVariants as keyword
+use Rattle.c_syntax.specs.declared.token.Punct.{Punct}
+use Rattle.c_syntax.specs.declared.token.Punct.TheVariants as mark
+use Rattle.c_syntax.specs.declared.operator.BinaryOp.TheVariants as binary
+use Rattle.c_syntax.specs.declared.syntax.SpecWord.{SpecWord}
+use Rattle.c_syntax.specs.declared.syntax.PrefixOp.{PrefixOp}
+use Rattle.c_syntax.specs.SyntaxTree.{TypeTree, Node, Index, StepAfter}
+use Rattle.c_syntax.specs.Grammar.{Row, ExpressionRow, AssignmentRow, CastRow, UnaryRow, PostfixRow, PrimaryRow, step_mark, prefix_mark, IsMark, IsType, AreStars, NoStar, MoreStars, place_of}
+use Rattle.c_syntax.specs.Lookahead.{Next, BinaryNext, next_of, next_kind, going_of, kind_spec, spec_of, Start, ParenStart, CastStart, StepStart, PrefixStart, SizeofValueStart, SizeofTypeStart, CallStart, sizeof_start, keyword_start, mark_start, kind_start, start_of}
+use Rattle.c_syntax.specs.Reads.{Reading, reading, First, PassTo, Takes, Fails, first_of, primary_first, postfix_first, unary_first, Reads, Both, Starts, PassFirst, NameFirst, NumberFirst, CharacterFirst, ParenFirst, CallFirst, StepFirst, PrefixFirst, SizeofValueFirst, SizeofTypeFirst, CastFirst, More, ArgumentsReading, separator_of, ReadsArguments, NoneRead, SomeRead, ReadsSome, ReadsRest, LastRead, MoreRead}
+use Rattle.c_syntax.specs.Measures.{expression_height, arguments_height, greatest_height}
+use Rattle.c_syntax.specs.SyntaxView.{expression_of}
+use Rattle.c_syntax.proofs.Parsing.Lookahead.{is_next, call_starts, paren_starts, step_starts, prefix_starts}
+use Rattle.c_syntax.proofs.Parsing.Types.{NoStarNext, no_star_other, specs_one, stars_one}
+use Rattle.c_syntax.proofs.Parsing.ReadsOne.{one_reading, one_start}
 use Rattle.c_parser.specs.declared.parser.Parsed.{Parsed}
 use Rattle.c_parser.specs.Front.{behind, kind_mark, kind_name, mark_at, word_at, name_at, opens_type}
 use Rattle.c_parser.specs.Operators.{step_at, prefix_at}

@@ -1,20 +1,20 @@
 -- What the rows of parameters lead to, part by part.
 use Rattle.std.proofs.Common.{◌≡◌, ◌≢◌, ◌≤◌, ◌+◌, ◌↔◌, IsTrue, IsSome, ◌++◌, ◌∷◌, [], ℕ, Bool, true, false, List, Option, Some, None, map, inl, inr, refl, sym, ap, ◌∙◌, subst, arith, append_assoc}
 use Rattle.std.specs.Prelude.{◌⊎◌, ◌&&◌}
-use Rattle.c_tree.specs.declared.token.Token.{Token}
-use Rattle.c_tree.specs.declared.token.Punct.TheVariants as mark
-use Rattle.c_tree.specs.declared.token.TokenKind.{TokenKind}
-use Rattle.c_tree.specs.declared.token.TokenKind.TheVariants as token
-use Rattle.c_tree.specs.declared.token.Keyword.TheVariants as keyword
-use Rattle.c_tree.specs.Grammar.{IsKeyword, AreSpecs, LastSpec, MoreSpecs, AreStars, NoStar, MoreStars}
-use Rattle.c_tree.specs.Derives.{IsName, ArrayRule, DerivesName, DerivesArrayMark, DerivesParameterList, LastParameter, DerivesParameters, VoidRule, ParametersRule}
-use Rattle.c_tree.specs.Derives as rows
-use Rattle.c_tree.specs.SyntaxTree.{ParameterTree, ParametersTree}
-use Rattle.c_tree.specs.Measures.{greatest, array_height, parameter_height, parameters_height}
-use Rattle.c_tree.proofs.Rows.Fronts.{TypeWord, StarMark, AnyName, BracketOpens, CommaMark, ParenCloses, kind_sort, first}
-use Rattle.c_tree.proofs.Rows.Initialisers.{array_first}
-use Rattle.c_tree.proofs.Rows.Parameters.{name_first, stars_other}
-use Rattle.c_tree.proofs.Rows.SpecsAndStars.{specs_first, star_first}
+use Rattle.c_syntax.specs.declared.token.Token.{Token}
+use Rattle.c_syntax.specs.declared.token.Punct.TheVariants as mark
+use Rattle.c_syntax.specs.declared.token.TokenKind.{TokenKind}
+use Rattle.c_syntax.specs.declared.token.TokenKind.TheVariants as token
+use Rattle.c_syntax.specs.declared.token.Keyword.TheVariants as keyword
+use Rattle.c_syntax.specs.Grammar.{IsKeyword, AreSpecs, LastSpec, MoreSpecs, AreStars, NoStar, MoreStars}
+use Rattle.c_syntax.specs.Derives.{IsName, ArrayRule, DerivesName, DerivesArrayMark, DerivesParameterList, LastParameter, DerivesParameters, VoidRule, ParametersRule}
+use Rattle.c_syntax.specs.Derives as rows
+use Rattle.c_syntax.specs.SyntaxTree.{ParameterTree, ParametersTree}
+use Rattle.c_syntax.specs.Measures.{greatest, array_height, parameter_height, parameters_height}
+use Rattle.c_syntax.proofs.Rows.Fronts.{TypeWord, StarMark, AnyName, BracketOpens, CommaMark, ParenCloses, kind_sort, first}
+use Rattle.c_syntax.proofs.Rows.Initialisers.{array_first}
+use Rattle.c_syntax.proofs.Rows.Parameters.{name_first, stars_other}
+use Rattle.c_syntax.proofs.Rows.SpecsAndStars.{specs_first, star_first}
 use Rattle.c_parser.specs.Front.{behind, kind_mark, mark_at, name_at, kind_name, is_void_kind, is_close_kind, is_separator_kind, is_void_alone, is_void_word, is_separator_at}
 use Rattle.c_parser.specs.Fronts.{NoFront, OnlyTo, Then, One, SpecsFront, StarsFront}
 use Rattle.c_parser.specs.DeclarationFronts.{EndsParameter, ArrayFront, ParametersFront, ParameterListFront, ParameterFront, NameFront, ArrayMarkFront, IsAnyName, Ended, GoesOn, Before, MoreParameters}

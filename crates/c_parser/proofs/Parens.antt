@@ -1,14 +1,14 @@
 -- Parentheses, opened one behind another and closed one by one.
 use Rattle.std.proofs.Common.{◌≡◌, ℕ, ◌+◌, ◌<◌, ◌≤◌, Bool, true, false, List, [], ◌∷◌, ◌++◌, length, Option, Some, None, refl, sym, ap, ◌∙◌, subst, arith, length-append}
-use Rattle.c_tree.specs.declared.token.Token.{Token}
-use Rattle.c_tree.specs.declared.token.TokenKind.{TokenKind}
-use Rattle.c_tree.specs.declared.token.Punct.TheVariants as mark
-use Rattle.c_tree.specs.declared.syntax.SpecWord.{SpecWord}
-use Rattle.c_tree.specs.SyntaxTree.{Expression}
-use Rattle.c_tree.specs.Grammar.{Row, ExpressionRow, CastRow, UnaryRow, PostfixRow, PrimaryRow, tighter, IsMark, place_of}
-use Rattle.c_tree.specs.Lookahead.{next_of, going_of, spec_of, Start, ParenStart, paren_start, kind_start, start_of}
-use Rattle.c_tree.specs.Reads.{Reading, reading, or_primary, PassTo, Takes, first_of, postfix_first, primary_first, Reads, Both, Starts, PassFirst, ParenFirst, More, Stop}
-use Rattle.c_tree.specs.SyntaxView.{expression_of}
+use Rattle.c_syntax.specs.declared.token.Token.{Token}
+use Rattle.c_syntax.specs.declared.token.TokenKind.{TokenKind}
+use Rattle.c_syntax.specs.declared.token.Punct.TheVariants as mark
+use Rattle.c_syntax.specs.declared.syntax.SpecWord.{SpecWord}
+use Rattle.c_syntax.specs.SyntaxTree.{Expression}
+use Rattle.c_syntax.specs.Grammar.{Row, ExpressionRow, CastRow, UnaryRow, PostfixRow, PrimaryRow, tighter, IsMark, place_of}
+use Rattle.c_syntax.specs.Lookahead.{next_of, going_of, spec_of, Start, ParenStart, paren_start, kind_start, start_of}
+use Rattle.c_syntax.specs.Reads.{Reading, reading, or_primary, PassTo, Takes, first_of, postfix_first, primary_first, Reads, Both, Starts, PassFirst, ParenFirst, More, Stop}
+use Rattle.c_syntax.specs.SyntaxView.{expression_of}
 use Rattle.c_parser.specs.declared.parser.Parsed.{Parsed}
 use Rattle.c_parser.specs.Front.{behind, kind_mark, mark_at, is_open, is_there, opens, opens_type}
 use Rattle.c_parser.specs.Parses.{Climbs, AtPrimary, Up, read, IsMeasured, IsParsed, IsOperand, Opened, NoneOpened, OneOpened}

@@ -1,14 +1,14 @@
 -- How a row is read: what it passes on to, and what goes on with it.
 use Rattle.std.proofs.Common.{◌≡◌, ◌≢◌, ℕ, ◌+◌, ◌<◌, ◌≤◌, max, Bool, true, false, List, [], ◌∷◌, length, Option, Some, None, refl, sym, ap, ◌∙◌, subst, arith}
-use Rattle.c_tree.specs.declared.token.Token.{Token}
-use Rattle.c_tree.specs.declared.token.Punct.{Punct}
-use Rattle.c_tree.specs.declared.token.Punct.TheVariants as mark
-use Rattle.c_tree.specs.SyntaxTree.{Expression, ExpressionForm, Node, Conditional, Index, StepAfter}
-use Rattle.c_tree.specs.Grammar.{Row, ExpressionRow, AssignmentRow, ConditionalRow, OrRow, PostfixRow, tighter}
-use Rattle.c_tree.specs.Lookahead.{next_of, Stops, going_of, start_of}
-use Rattle.c_tree.specs.Reads.{Reading, reading, PassTo, first_of, Both, Starts, PassFirst, More, Stop}
-use Rattle.c_tree.specs.Measures.{expression_height, form_height, greatest_height}
-use Rattle.c_tree.specs.SyntaxView.{expression_of}
+use Rattle.c_syntax.specs.declared.token.Token.{Token}
+use Rattle.c_syntax.specs.declared.token.Punct.{Punct}
+use Rattle.c_syntax.specs.declared.token.Punct.TheVariants as mark
+use Rattle.c_syntax.specs.SyntaxTree.{Expression, ExpressionForm, Node, Conditional, Index, StepAfter}
+use Rattle.c_syntax.specs.Grammar.{Row, ExpressionRow, AssignmentRow, ConditionalRow, OrRow, PostfixRow, tighter}
+use Rattle.c_syntax.specs.Lookahead.{next_of, Stops, going_of, start_of}
+use Rattle.c_syntax.specs.Reads.{Reading, reading, PassTo, first_of, Both, Starts, PassFirst, More, Stop}
+use Rattle.c_syntax.specs.Measures.{expression_height, form_height, greatest_height}
+use Rattle.c_syntax.specs.SyntaxView.{expression_of}
 use Rattle.c_parser.specs.declared.parser.Parsed.{Parsed}
 use Rattle.c_parser.specs.declared.operators.Infix.{Infix}
 use Rattle.c_parser.specs.declared.operators.Infix.TheVariants as between
@@ -16,7 +16,7 @@ use Rattle.c_parser.specs.declared.operators.Assignment.{Assignment}
 use Rattle.c_parser.specs.declared.operators.Assignment.TheVariants as assignment
 use Rattle.c_parser.specs.Front.{behind, mark_at}
 use Rattle.c_parser.specs.Operators.{infix_form, next_assignment, assignment_form, step_at}
-use Rattle.c_tree.proofs.Parsing.ReadsOne.{one_reading}
+use Rattle.c_syntax.proofs.Parsing.ReadsOne.{one_reading}
 use Rattle.c_parser.proofs.Insides.{Indexed, index_inside, step_inside}
 use Rattle.c_parser.specs.Parses.{Up, read, ReadBy, place_from, IsMeasured, IsParsed, IsMore, IsBehind, IsOneBehind, IsNode}
 use Rattle.c_parser.proofs.Nexts.{no_question, no_assignment, no_postfix, question_goes, index_goes, step_goes, assign_goes}

@@ -1,18 +1,18 @@
 -- Why a row of operators has no reading: each reading goes through what was read so far, and on from there.
 use Rattle.std.proofs.Common.{◌≡◌, ◌≢◌, ℕ, ◌+◌, ◌<◌, ◌≤◌, ⊎_elim, ◌-◌, zero, suc, max, Bool, true, false, List, ◌∷◌, length, Option, Some, None, refl, sym, ap, ◌∙◌, subst, arith}
 use Rattle.std.proofs.Math.Nat.{eq-or-lt_of_le}
-use Rattle.c_tree.specs.declared.token.Token.{Token}
-use Rattle.c_tree.specs.declared.token.Punct.TheVariants as mark
-use Rattle.c_tree.specs.declared.operator.BinaryOp.{BinaryOp}
-use Rattle.c_tree.specs.SyntaxTree.{TypeTree, Expression, ExpressionForm, Node, Index, StepAfter, Cast, Binary, And, Or, Conditional, Comma}
-use Rattle.c_tree.specs.Grammar.{Row, ExpressionRow, AssignmentRow, ConditionalRow, OrRow, AndRow, BitOrRow, CastRow, UnaryRow, PostfixRow, tighter, place_of, IsMark}
-use Rattle.c_tree.specs.Lookahead.{row_rank, Next, CommaNext, AssignNext, AssignOpNext, QuestionNext, OrNext, AndNext, BinaryNext, next_of, Going, Stops, Goes, going_of, kind_spec, CastStart, start_of}
-use Rattle.c_tree.specs.Reads.{Reading, reading, or_primary, tight, PassTo, Takes, first_of, Reads, Both, Starts, PassFirst, CastFirst, More, Stop, CommaMore, AssignMore, AssignOpMore, QuestionMore, OrMore, AndMore, BinaryMore, IndexMore, StepMore}
-use Rattle.c_tree.specs.Measures.{expression_height, form_height, greatest_height}
-use Rattle.c_tree.specs.SyntaxView.{expression_of}
-use Rattle.c_tree.proofs.Parsing.Lookahead.{is_next, going_goes}
-use Rattle.c_tree.proofs.Parsing.Types.{NoSpec, NoStarNext, no_star_other, type_one}
-use Rattle.c_tree.proofs.Parsing.ReadsOne.{one_reading, one_more}
+use Rattle.c_syntax.specs.declared.token.Token.{Token}
+use Rattle.c_syntax.specs.declared.token.Punct.TheVariants as mark
+use Rattle.c_syntax.specs.declared.operator.BinaryOp.{BinaryOp}
+use Rattle.c_syntax.specs.SyntaxTree.{TypeTree, Expression, ExpressionForm, Node, Index, StepAfter, Cast, Binary, And, Or, Conditional, Comma}
+use Rattle.c_syntax.specs.Grammar.{Row, ExpressionRow, AssignmentRow, ConditionalRow, OrRow, AndRow, BitOrRow, CastRow, UnaryRow, PostfixRow, tighter, place_of, IsMark}
+use Rattle.c_syntax.specs.Lookahead.{row_rank, Next, CommaNext, AssignNext, AssignOpNext, QuestionNext, OrNext, AndNext, BinaryNext, next_of, Going, Stops, Goes, going_of, kind_spec, CastStart, start_of}
+use Rattle.c_syntax.specs.Reads.{Reading, reading, or_primary, tight, PassTo, Takes, first_of, Reads, Both, Starts, PassFirst, CastFirst, More, Stop, CommaMore, AssignMore, AssignOpMore, QuestionMore, OrMore, AndMore, BinaryMore, IndexMore, StepMore}
+use Rattle.c_syntax.specs.Measures.{expression_height, form_height, greatest_height}
+use Rattle.c_syntax.specs.SyntaxView.{expression_of}
+use Rattle.c_syntax.proofs.Parsing.Lookahead.{is_next, going_goes}
+use Rattle.c_syntax.proofs.Parsing.Types.{NoSpec, NoStarNext, no_star_other, type_one}
+use Rattle.c_syntax.proofs.Parsing.ReadsOne.{one_reading, one_more}
 use Rattle.c_parser.specs.declared.parser.Parsed.{Parsed}
 use Rattle.c_parser.specs.declared.operators.Level.{Level}
 use Rattle.c_parser.specs.declared.operators.Level.TheVariants as level

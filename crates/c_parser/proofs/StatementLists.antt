@@ -1,20 +1,20 @@
 -- What lists of declarations, statements and choices lead to, one after the other.
 use Rattle.std.proofs.Common.{◌≡◌, ◌≢◌, ◌≤◌, ◌+◌, ◌++◌, ◌∷◌, [], ℕ, map, List, Some, None, inl, inr, refl, sym, ap, ◌∙◌, arith, append_assoc}
-use Rattle.c_tree.specs.declared.token.Token.{Token}
-use Rattle.c_tree.specs.declared.token.Keyword.TheVariants as keyword
-use Rattle.c_tree.specs.declared.token.Punct.TheVariants as mark
-use Rattle.c_tree.specs.Grammar.{ConditionalRow, IsMark}
-use Rattle.c_tree.specs.Derives.{DerivesItems, LastItem, MoreItems, DerivesDeclarations, NoDeclaration, MoreDeclarations, DerivesStatements, NoStatement, MoreStatements, DerivesChoices, NoChoice, CaseRule, DefaultRule, ChosenRule}
-use Rattle.c_tree.specs.Lookahead.{spec_of}
-use Rattle.c_tree.specs.SyntaxTree.{DeclarationTree, ItemTree, Statements, Choices}
-use Rattle.c_tree.specs.Measures.{greatest, item_height, declaration_height, statements_height, choices_height}
-use Rattle.c_tree.proofs.Parsing.ExpressionOne.{ends_mark}
-use Rattle.c_tree.proofs.Rows.Fronts.{CaseWord, DefaultWord, first}
-use Rattle.c_tree.proofs.Rows.Given.{mark_first}
-use Rattle.c_tree.proofs.Rows.Declarations.{declaration_first}
-use Rattle.c_tree.proofs.Rows.Statements.{statements_other}
-use Rattle.c_tree.proofs.Rows.Blocks.{statements_no_else, choices_no_else}
-use Rattle.c_tree.proofs.Rows.UnitOne.{known}
+use Rattle.c_syntax.specs.declared.token.Token.{Token}
+use Rattle.c_syntax.specs.declared.token.Keyword.TheVariants as keyword
+use Rattle.c_syntax.specs.declared.token.Punct.TheVariants as mark
+use Rattle.c_syntax.specs.Grammar.{ConditionalRow, IsMark}
+use Rattle.c_syntax.specs.Derives.{DerivesItems, LastItem, MoreItems, DerivesDeclarations, NoDeclaration, MoreDeclarations, DerivesStatements, NoStatement, MoreStatements, DerivesChoices, NoChoice, CaseRule, DefaultRule, ChosenRule}
+use Rattle.c_syntax.specs.Lookahead.{spec_of}
+use Rattle.c_syntax.specs.SyntaxTree.{DeclarationTree, ItemTree, Statements, Choices}
+use Rattle.c_syntax.specs.Measures.{greatest, item_height, declaration_height, statements_height, choices_height}
+use Rattle.c_syntax.proofs.Parsing.ExpressionOne.{ends_mark}
+use Rattle.c_syntax.proofs.Rows.Fronts.{CaseWord, DefaultWord, first}
+use Rattle.c_syntax.proofs.Rows.Given.{mark_first}
+use Rattle.c_syntax.proofs.Rows.Declarations.{declaration_first}
+use Rattle.c_syntax.proofs.Rows.Statements.{statements_other}
+use Rattle.c_syntax.proofs.Rows.Blocks.{statements_no_else, choices_no_else}
+use Rattle.c_syntax.proofs.Rows.UnitOne.{known}
 use Rattle.c_parser.specs.Front.{mark_at, word_at}
 use Rattle.c_parser.specs.Fronts.{DeclarationFront, Then, NoFront, OnlyTo}
 use Rattle.c_parser.specs.StatementFronts.{StatementFront, CaseFront, DefaultFront, PartFront, PartsFront, DeclarationsFront, StatementsFront, BodyFront}

@@ -1,18 +1,18 @@
 -- Parts that end by themselves are the only ones at their front.
 use Rattle.std.proofs.Common.{◌≡◌, ◌++◌, ◌∷◌, [], ℕ, List, Option, refl, inl, inr, sym, ap, ◌∙◌, append_assoc}
 use Rattle.std.specs.Prelude.{◌⊎◌, true, false}
-use Rattle.c_tree.specs.declared.token.Token.{Token}
-use Rattle.c_tree.specs.declared.token.Punct.{Punct}
-use Rattle.c_tree.specs.declared.token.Punct.TheVariants as mark
-use Rattle.c_tree.specs.SyntaxTree.{Expression, DeclarationTree, Statement}
-use Rattle.c_tree.specs.Grammar.{ExpressionRow, IsMark}
-use Rattle.c_tree.specs.Derives.{DerivesOptional, IsForHead, DerivesDeclaration}
-use Rattle.c_tree.proofs.Rows.Fronts.{mark_sort, same_tail}
-use Rattle.c_tree.proofs.Rows.Given.{may_begin, may_end, optional_one, mark_first}
-use Rattle.c_tree.proofs.Rows.Declarations.{declaration_one}
-use Rattle.c_tree.proofs.Rows.Statements.{for_head_one}
-use Rattle.c_tree.proofs.Rows.Blocks.{statement_one}
-use Rattle.c_tree.proofs.Rows.UnitOne.{known}
+use Rattle.c_syntax.specs.declared.token.Token.{Token}
+use Rattle.c_syntax.specs.declared.token.Punct.{Punct}
+use Rattle.c_syntax.specs.declared.token.Punct.TheVariants as mark
+use Rattle.c_syntax.specs.SyntaxTree.{Expression, DeclarationTree, Statement}
+use Rattle.c_syntax.specs.Grammar.{ExpressionRow, IsMark}
+use Rattle.c_syntax.specs.Derives.{DerivesOptional, IsForHead, DerivesDeclaration}
+use Rattle.c_syntax.proofs.Rows.Fronts.{mark_sort, same_tail}
+use Rattle.c_syntax.proofs.Rows.Given.{may_begin, may_end, optional_one, mark_first}
+use Rattle.c_syntax.proofs.Rows.Declarations.{declaration_one}
+use Rattle.c_syntax.proofs.Rows.Statements.{for_head_one}
+use Rattle.c_syntax.proofs.Rows.Blocks.{statement_one}
+use Rattle.c_syntax.proofs.Rows.UnitOne.{known}
 use Rattle.c_parser.specs.Takes.{Takes, IsOne, Both, IsStatement}
 use Rattle.c_parser.specs.Fronts.{OnlyTo, DeclarationFront}
 use Rattle.c_parser.specs.StatementFronts.{StatementFront, OptionalFront, ForHeadFront}

@@ -1,18 +1,18 @@
 -- The rows of statements from their parts.
 use Rattle.std.proofs.Common.{◌≡◌, ℕ, ◌<◌, max, List, [], ◌∷◌, ◌++◌, Option, Some, None, length, refl, sym, ap, subst, ◌∙◌, append_assoc, arith}
 use Rattle.std.proofs.lemmas.List.{append-nil}
-use Rattle.c_tree.specs.declared.token.Token.{Token}
-use Rattle.c_tree.specs.declared.token.Keyword.TheVariants as keyword
-use Rattle.c_tree.specs.declared.token.Punct.{Punct}
-use Rattle.c_tree.specs.declared.token.Punct.TheVariants as mark
-use Rattle.c_tree.specs.declared.stmt.Stmt.{Stmt}
-use Rattle.c_tree.specs.declared.stmt.SwitchPart as part
-use Rattle.c_tree.specs.declared.stmt.SwitchPart.{SwitchPart}
-use Rattle.c_tree.specs.SyntaxTree.{Expression, DeclarationTree, Statement, Empty, Evaluate, Block, Break, Continue, Return, DoWhile, If, IfElse, While, For, Switch, Statements, no_statement, statement, Choices, no_choice, case_label, default_label, chosen}
-use Rattle.c_tree.specs.Grammar.{ExpressionRow, ConditionalRow, IsMark, IsKeyword, place_of, Derives}
-use Rattle.c_tree.specs.Derives.{DerivesOptional, Closing, Closed, Open, IsTested, IsForHead, DerivesStatement, EmptyRule, EvaluateRule, BlockRule, BreakRule, ContinueRule, ReturnRule, DoRule, IfRule, IfElseRule, WhileRule, ForRule, SwitchRule, DerivesStatements, NoStatement, MoreStatements, DerivesChoices, NoChoice, CaseRule, DefaultRule, ChosenRule}
-use Rattle.c_tree.specs.Measures.{statement_height, statements_height, choices_height}
-use Rattle.c_tree.specs.SyntaxView.{body_of, part_before}
+use Rattle.c_syntax.specs.declared.token.Token.{Token}
+use Rattle.c_syntax.specs.declared.token.Keyword.TheVariants as keyword
+use Rattle.c_syntax.specs.declared.token.Punct.{Punct}
+use Rattle.c_syntax.specs.declared.token.Punct.TheVariants as mark
+use Rattle.c_syntax.specs.declared.stmt.Stmt.{Stmt}
+use Rattle.c_syntax.specs.declared.stmt.SwitchPart as part
+use Rattle.c_syntax.specs.declared.stmt.SwitchPart.{SwitchPart}
+use Rattle.c_syntax.specs.SyntaxTree.{Expression, DeclarationTree, Statement, Empty, Evaluate, Block, Break, Continue, Return, DoWhile, If, IfElse, While, For, Switch, Statements, no_statement, statement, Choices, no_choice, case_label, default_label, chosen}
+use Rattle.c_syntax.specs.Grammar.{ExpressionRow, ConditionalRow, IsMark, IsKeyword, place_of, Derives}
+use Rattle.c_syntax.specs.Derives.{DerivesOptional, Closing, Closed, Open, IsTested, IsForHead, DerivesStatement, EmptyRule, EvaluateRule, BlockRule, BreakRule, ContinueRule, ReturnRule, DoRule, IfRule, IfElseRule, WhileRule, ForRule, SwitchRule, DerivesStatements, NoStatement, MoreStatements, DerivesChoices, NoChoice, CaseRule, DefaultRule, ChosenRule}
+use Rattle.c_syntax.specs.Measures.{statement_height, statements_height, choices_height}
+use Rattle.c_syntax.specs.SyntaxView.{body_of, part_before}
 use Rattle.c_parser.specs.Front.{word_at}
 use Rattle.c_parser.specs.Takes.{Takes, IsOne, Both, Ends, IsStatement}
 use Rattle.c_parser.specs.StatementRows.{tree_of, parts_of, IsBody, IsDoEnd}

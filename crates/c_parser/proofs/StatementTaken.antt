@@ -1,16 +1,16 @@
 -- Statements that hold others, from what was taken of their parts.
 use Rattle.std.proofs.Common.{◌≡◌, ℕ, ◌<◌, max, List, [], ◌∷◌, ◌++◌, Option, Some, length, refl, sym, ap, subst, ◌∙◌, append_assoc, arith}
 use Rattle.std.proofs.lemmas.List.{append-nil}
-use Rattle.c_tree.specs.declared.token.Token.{Token}
-use Rattle.c_tree.specs.declared.token.Keyword.TheVariants as keyword
-use Rattle.c_tree.specs.declared.token.Punct.TheVariants as mark
-use Rattle.c_tree.specs.declared.stmt.Stmt.{Stmt}
-use Rattle.c_tree.specs.declared.stmt.SwitchPart.{SwitchPart}
-use Rattle.c_tree.specs.SyntaxTree.{Expression, DeclarationTree, Statement, Block, DoWhile, If, IfElse, While, For, Switch, Statements, Choices, no_choice, chosen}
-use Rattle.c_tree.specs.Grammar.{IsMark, IsKeyword, place_of}
-use Rattle.c_tree.specs.Derives.{Closed, Open, IsTested, IsForHead, DerivesStatement, DerivesDeclarations, DerivesStatements, DerivesChoices, NoStatement}
-use Rattle.c_tree.specs.Measures.{statements_height, choices_height, statement_height}
-use Rattle.c_tree.specs.SyntaxView.{body_of, part_before}
+use Rattle.c_syntax.specs.declared.token.Token.{Token}
+use Rattle.c_syntax.specs.declared.token.Keyword.TheVariants as keyword
+use Rattle.c_syntax.specs.declared.token.Punct.TheVariants as mark
+use Rattle.c_syntax.specs.declared.stmt.Stmt.{Stmt}
+use Rattle.c_syntax.specs.declared.stmt.SwitchPart.{SwitchPart}
+use Rattle.c_syntax.specs.SyntaxTree.{Expression, DeclarationTree, Statement, Block, DoWhile, If, IfElse, While, For, Switch, Statements, Choices, no_choice, chosen}
+use Rattle.c_syntax.specs.Grammar.{IsMark, IsKeyword, place_of}
+use Rattle.c_syntax.specs.Derives.{Closed, Open, IsTested, IsForHead, DerivesStatement, DerivesDeclarations, DerivesStatements, DerivesChoices, NoStatement}
+use Rattle.c_syntax.specs.Measures.{statements_height, choices_height, statement_height}
+use Rattle.c_syntax.specs.SyntaxView.{body_of, part_before}
 use Rattle.c_parser.specs.Front.{word_at}
 use Rattle.c_parser.specs.Takes.{Takes, IsOne, Both, IsStatement}
 use Rattle.c_parser.specs.StatementRows.{tree_of, parts_of, IsBody, IsDoEnd}

@@ -1,20 +1,20 @@
 -- What the rows of statements lead to, part by part.
 use Rattle.std.proofs.Common.{◌≡◌, ◌≢◌, ◌<◌, ◌≤◌, ◌+◌, ◌++◌, ◌∷◌, [], ℕ, Bool, true, false, List, Option, Some, None, inl, inr, refl, sym, ap, ◌∙◌, subst, arith, append_assoc}
 use Rattle.std.specs.Prelude.{◌⊎◌, ◌↔◌, IsTrue, if◌then◌else◌}
-use Rattle.c_tree.specs.declared.token.Token.{Token}
-use Rattle.c_tree.specs.declared.token.Keyword.{Keyword}
-use Rattle.c_tree.specs.declared.token.Keyword.TheVariants as keyword
-use Rattle.c_tree.specs.declared.token.Punct.{Punct}
-use Rattle.c_tree.specs.declared.token.Punct.TheVariants as mark
-use Rattle.c_tree.specs.Grammar.{Row, ExpressionRow, IsMark, IsKeyword}
-use Rattle.c_tree.specs.Derives.{DerivesOptional, Closing, Closed, Open, IsTested, DerivesStatement}
-use Rattle.c_tree.specs.Lookahead.{row_rank, next_mark, next_rank}
-use Rattle.c_tree.specs.SyntaxTree.{Expression, Node, Statement, Empty, Evaluate, Block, Break, Continue, Return, DoWhile, If, IfElse, While, For, Switch}
-use Rattle.c_tree.specs.Measures.{expression_height, optional_height, statement_height}
-use Rattle.c_tree.proofs.Parsing.ExpressionOne.{ends_mark}
-use Rattle.c_tree.proofs.Rows.Fronts.{Sort, BreakWord, ContinueWord, ReturnWord, DoWord, IfWord, WhileWord, ForWord, SwitchWord, AnyName, StarMark, ParenOpens, BracketOpens, BraceOpens, SemicolonMark, Others, first}
-use Rattle.c_tree.proofs.Rows.Heads.{Head, EvaluateHead, BlockHead, BreakHead, ContinueHead, ReturnHead, DoHead, IfHead, IfElseHead, WhileHead, ForHead, SwitchHead, head_at}
-use Rattle.c_tree.proofs.Rows.UnitOne.{known}
+use Rattle.c_syntax.specs.declared.token.Token.{Token}
+use Rattle.c_syntax.specs.declared.token.Keyword.{Keyword}
+use Rattle.c_syntax.specs.declared.token.Keyword.TheVariants as keyword
+use Rattle.c_syntax.specs.declared.token.Punct.{Punct}
+use Rattle.c_syntax.specs.declared.token.Punct.TheVariants as mark
+use Rattle.c_syntax.specs.Grammar.{Row, ExpressionRow, IsMark, IsKeyword}
+use Rattle.c_syntax.specs.Derives.{DerivesOptional, Closing, Closed, Open, IsTested, DerivesStatement}
+use Rattle.c_syntax.specs.Lookahead.{row_rank, next_mark, next_rank}
+use Rattle.c_syntax.specs.SyntaxTree.{Expression, Node, Statement, Empty, Evaluate, Block, Break, Continue, Return, DoWhile, If, IfElse, While, For, Switch}
+use Rattle.c_syntax.specs.Measures.{expression_height, optional_height, statement_height}
+use Rattle.c_syntax.proofs.Parsing.ExpressionOne.{ends_mark}
+use Rattle.c_syntax.proofs.Rows.Fronts.{Sort, BreakWord, ContinueWord, ReturnWord, DoWord, IfWord, WhileWord, ForWord, SwitchWord, AnyName, StarMark, ParenOpens, BracketOpens, BraceOpens, SemicolonMark, Others, first}
+use Rattle.c_syntax.proofs.Rows.Heads.{Head, EvaluateHead, BlockHead, BreakHead, ContinueHead, ReturnHead, DoHead, IfHead, IfElseHead, WhileHead, ForHead, SwitchHead, head_at}
+use Rattle.c_syntax.proofs.Rows.UnitOne.{known}
 use Rattle.c_parser.specs.Front.{behind, kind_mark, kind_word, mark_at, word_at}
 use Rattle.c_parser.specs.Takes.{Ends, IsOne, Both}
 use Rattle.c_parser.specs.Fronts.{Front, ExpressionFront, TestedFront, Then, One, NoFront}

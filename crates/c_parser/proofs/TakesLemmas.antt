@@ -2,14 +2,14 @@
 use Rattle.std.proofs.Common.{Result, Ok, Err, IfOk, ◌≡◌, ℕ, ◌<◌, max, ◌↔◌, IsTrue, Bool, true, false, if◌then◌else◌, not, List, [], ◌∷◌, ◌++◌, Some, length, refl, sym, ap, subst, ◌∙◌, append_assoc, length-append, arith}
 use Rattle.std.proofs.lemmas.List.Sums.{fold_push}
 use Rattle.std.specs.List.{fold}
-use Rattle.c_tree.specs.declared.token.Token.{Token}
-use Rattle.c_tree.specs.declared.token.TokenKind.{TokenKind}
-use Rattle.c_tree.specs.declared.token.TokenKind.TheVariants as token
-use Rattle.c_tree.specs.declared.token.Keyword.{Keyword}
-use Rattle.c_tree.specs.declared.token.Punct.{Punct}
-use Rattle.c_tree.specs.Grammar.{IsMark, IsKeyword, place_of}
-use Rattle.c_tree.specs.Derives.{IsName}
-use Rattle.c_tree.specs.Measures.{greatest}
+use Rattle.c_syntax.specs.declared.token.Token.{Token}
+use Rattle.c_syntax.specs.declared.token.TokenKind.{TokenKind}
+use Rattle.c_syntax.specs.declared.token.TokenKind.TheVariants as token
+use Rattle.c_syntax.specs.declared.token.Keyword.{Keyword}
+use Rattle.c_syntax.specs.declared.token.Punct.{Punct}
+use Rattle.c_syntax.specs.Grammar.{IsMark, IsKeyword, place_of}
+use Rattle.c_syntax.specs.Derives.{IsName}
+use Rattle.c_syntax.specs.Measures.{greatest}
 use Rattle.c_parser.specs.Front.{behind, kind_mark, kind_word, kind_name, mark_at, word_at, name_at}
 use Rattle.c_parser.specs.Takes.{Takes, IsOne, Both, Behind}
 

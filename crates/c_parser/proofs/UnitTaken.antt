@@ -1,10 +1,10 @@
 -- An external, from what was taken of its parts.
 use Rattle.std.proofs.Common.{◌≡◌, ◌<◌, ◌++◌, ◌∷◌, [], ℕ, List, length, refl, sym, ap, ◌∙◌, subst, append_assoc}
-use Rattle.c_tree.specs.declared.token.Token.{Token}
-use Rattle.c_tree.specs.declared.token.Punct.TheVariants as mark
-use Rattle.c_tree.specs.SyntaxTree.{SpecsTree, ParametersTree, ItemForm, ItemTree, DeclarationTree, Statements, Block, FunctionSyntax, Defined, Declared}
-use Rattle.c_tree.specs.Grammar.{IsMark, AreSpecs, LastSpec, MoreSpecs, AreStars, place_of}
-use Rattle.c_tree.specs.Derives.{IsName, DerivesSpecs, FunctionRule, DerivesItem, DerivesDeclaration, Closed, DerivesStatement, BlockRule, DerivesFunction, DerivesExternal}
+use Rattle.c_syntax.specs.declared.token.Token.{Token}
+use Rattle.c_syntax.specs.declared.token.Punct.TheVariants as mark
+use Rattle.c_syntax.specs.SyntaxTree.{SpecsTree, ParametersTree, ItemForm, ItemTree, DeclarationTree, Statements, Block, FunctionSyntax, Defined, Declared}
+use Rattle.c_syntax.specs.Grammar.{IsMark, AreSpecs, LastSpec, MoreSpecs, AreStars, place_of}
+use Rattle.c_syntax.specs.Derives.{IsName, DerivesSpecs, FunctionRule, DerivesItem, DerivesDeclaration, Closed, DerivesStatement, BlockRule, DerivesFunction, DerivesExternal}
 use Rattle.c_parser.specs.Takes.{Takes, IsOne, Both, Behind, IsItemFront}
 use Rattle.c_parser.specs.StatementRows.{IsBody}
 use Rattle.c_parser.specs.UnitFronts.{IsListed, IsFunctionHead}

@@ -1,22 +1,22 @@
 -- What externals and whole sources lead to, part by part, and what an external takes.
 use Rattle.std.proofs.Common.{◌≡◌, ◌≢◌, ◌≤◌, ◌+◌, ◌++◌, ◌∷◌, [], ℕ, List, Some, map, length, refl, sym, ap, ◌∙◌, subst, arith, append_assoc}
 use Rattle.std.proofs.lemmas.List.{append-nil}
-use Rattle.c_tree.specs.declared.token.Token.{Token}
-use Rattle.c_tree.specs.declared.token.Punct.TheVariants as mark
-use Rattle.c_tree.specs.SyntaxTree.{ParametersTree, ItemForm, FunctionSyntax, DeclarationTree, Block, Statements, ExternalTree, Defined, Declared, UnitTree}
-use Rattle.c_tree.specs.Grammar.{IsMark}
-use Rattle.c_tree.specs.Derives.{DerivesForm, FunctionRule, PlainRule, ArrayFormRule, Closed, DerivesStatement, BlockRule, DerivesFunction, DerivesExternal, DerivesUnit, LastExternal, MoreExternals}
-use Rattle.c_tree.specs.Measures.{greatest, parameters_height, item_form_height, external_height}
-use Rattle.c_tree.specs.Source.{IsSource}
-use Rattle.c_tree.proofs.Rows.Fronts.{AnyName, ParenOpens, BracketOpens, first, same_tail}
-use Rattle.c_tree.proofs.Rows.Given.{mark_first}
-use Rattle.c_tree.proofs.Rows.Initialisers.{array_first}
-use Rattle.c_tree.proofs.Rows.Parameters.{parameters_one, name_first}
-use Rattle.c_tree.proofs.Rows.Externals.{external_one, name_other}
-use Rattle.c_tree.proofs.Rows.UnitOne.{known}
+use Rattle.c_syntax.specs.declared.token.Token.{Token}
+use Rattle.c_syntax.specs.declared.token.Punct.TheVariants as mark
+use Rattle.c_syntax.specs.SyntaxTree.{ParametersTree, ItemForm, FunctionSyntax, DeclarationTree, Block, Statements, ExternalTree, Defined, Declared, UnitTree}
+use Rattle.c_syntax.specs.Grammar.{IsMark}
+use Rattle.c_syntax.specs.Derives.{DerivesForm, FunctionRule, PlainRule, ArrayFormRule, Closed, DerivesStatement, BlockRule, DerivesFunction, DerivesExternal, DerivesUnit, LastExternal, MoreExternals}
+use Rattle.c_syntax.specs.Measures.{greatest, parameters_height, item_form_height, external_height}
+use Rattle.c_syntax.specs.Source.{IsSource}
+use Rattle.c_syntax.proofs.Rows.Fronts.{AnyName, ParenOpens, BracketOpens, first, same_tail}
+use Rattle.c_syntax.proofs.Rows.Given.{mark_first}
+use Rattle.c_syntax.proofs.Rows.Initialisers.{array_first}
+use Rattle.c_syntax.proofs.Rows.Parameters.{parameters_one, name_first}
+use Rattle.c_syntax.proofs.Rows.Externals.{external_one, name_other}
+use Rattle.c_syntax.proofs.Rows.UnitOne.{known}
 use Rattle.c_parser.specs.Front.{mark_at}
 use Rattle.c_parser.specs.Takes.{Takes}
-use Rattle.c_tree.specs.Source.{NoSource}
+use Rattle.c_syntax.specs.Source.{NoSource}
 use Rattle.c_parser.specs.Fronts.{NoFront, OnlyTo, Then, One, SpecsFront, StarsFront, DeclarationFront}
 use Rattle.c_parser.specs.DeclarationFronts.{EndsForm, FormFront, MoreItems, Ended, GoesOn, ParametersFront, IsAnyName}
 use Rattle.c_parser.specs.StatementFronts.{StatementFront}

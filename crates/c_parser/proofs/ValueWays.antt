@@ -1,17 +1,17 @@
 -- What values in braces lead to.
 use Rattle.std.proofs.Common.{◌≡◌, ◌≢◌, ◌≤◌, ◌+◌, ◌++◌, ◌∷◌, [], ℕ, List, Some, map, inl, inr, refl, sym, ap, ◌∙◌, subst, arith, append_assoc}
 use Rattle.std.specs.Prelude.{◌⊎◌}
-use Rattle.c_tree.specs.declared.token.Token.{Token}
-use Rattle.c_tree.specs.declared.token.Punct.TheVariants as mark
-use Rattle.c_tree.specs.Grammar.{AssignmentRow}
-use Rattle.c_tree.specs.Derives.{IsLastComma, DerivesList, LastOfList, MoreOfList}
-use Rattle.c_tree.specs.Lookahead.{Ends}
-use Rattle.c_tree.specs.SyntaxTree.{Expression}
-use Rattle.c_tree.specs.Measures.{greatest, expression_height}
-use Rattle.c_tree.proofs.Parsing.ExpressionOne.{ends_mark}
-use Rattle.c_tree.proofs.Rows.Fronts.{BraceCloses, first}
-use Rattle.c_tree.proofs.Rows.Given.{expression_first}
-use Rattle.c_tree.proofs.Rows.UnitOne.{known}
+use Rattle.c_syntax.specs.declared.token.Token.{Token}
+use Rattle.c_syntax.specs.declared.token.Punct.TheVariants as mark
+use Rattle.c_syntax.specs.Grammar.{AssignmentRow}
+use Rattle.c_syntax.specs.Derives.{IsLastComma, DerivesList, LastOfList, MoreOfList}
+use Rattle.c_syntax.specs.Lookahead.{Ends}
+use Rattle.c_syntax.specs.SyntaxTree.{Expression}
+use Rattle.c_syntax.specs.Measures.{greatest, expression_height}
+use Rattle.c_syntax.proofs.Parsing.ExpressionOne.{ends_mark}
+use Rattle.c_syntax.proofs.Rows.Fronts.{BraceCloses, first}
+use Rattle.c_syntax.proofs.Rows.Given.{expression_first}
+use Rattle.c_syntax.proofs.Rows.UnitOne.{known}
 use Rattle.c_parser.specs.Front.{behind, mark_at}
 use Rattle.c_parser.specs.Fronts.{NoFront, OnlyTo, Then, ExpressionFront}
 use Rattle.c_parser.specs.DeclarationFronts.{ValuesFront, BracedFront, Ended, GoesOn, EndsValues, MoreValues}

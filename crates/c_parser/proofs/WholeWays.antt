@@ -1,25 +1,25 @@
 -- Types and expressions that were read: what they take, and that nothing else stands there.
 use Rattle.std.proofs.Common.{◌≡◌, ◌≢◌, ◌<◌, ◌≤◌, ◌∷◌, [], ℕ, List, Some, None, length, refl, sym, ap, ◌∙◌, subst, arith, length-append}
-use Rattle.c_tree.specs.declared.token.Token.{Token}
-use Rattle.c_tree.specs.declared.token.TokenKind.{TokenKind}
-use Rattle.c_tree.specs.declared.token.TokenKind.TheVariants as token
-use Rattle.c_tree.specs.declared.token.Keyword.{Keyword}
-use Rattle.c_tree.specs.declared.token.Keyword.TheVariants as keyword
-use Rattle.c_tree.specs.declared.token.Punct.{Punct}
-use Rattle.c_tree.specs.declared.token.Punct.TheVariants as mark
-use Rattle.c_tree.specs.SyntaxTree.{SpecsTree}
-use Rattle.c_tree.specs.Grammar.{Row, Derives, AreSpecs, LastSpec, MoreSpecs, AreStars}
-use Rattle.c_tree.specs.Derives.{DerivesSpecs}
-use Rattle.c_tree.specs.Lookahead.{spec_of}
-use Rattle.c_tree.specs.Reads.{reading, Reads}
-use Rattle.c_tree.specs.SyntaxView.{expression_of}
-use Rattle.c_tree.proofs.Parsing.Begins.{expression_begins}
-use Rattle.c_tree.proofs.Parsing.ExpressionReads.{derives_read}
-use Rattle.c_tree.proofs.Parsing.ReadsDerive.{reads_derived}
-use Rattle.c_tree.proofs.Parsing.ReadsOne.{one_reading}
-use Rattle.c_tree.proofs.Parsing.Types.{specs_one}
-use Rattle.c_tree.proofs.Rows.Fronts.{StarMark, mark_sort, keyword_sort, kind_sort, first}
-use Rattle.c_tree.proofs.Rows.SpecsAndStars.{specs_first, stars_one}
+use Rattle.c_syntax.specs.declared.token.Token.{Token}
+use Rattle.c_syntax.specs.declared.token.TokenKind.{TokenKind}
+use Rattle.c_syntax.specs.declared.token.TokenKind.TheVariants as token
+use Rattle.c_syntax.specs.declared.token.Keyword.{Keyword}
+use Rattle.c_syntax.specs.declared.token.Keyword.TheVariants as keyword
+use Rattle.c_syntax.specs.declared.token.Punct.{Punct}
+use Rattle.c_syntax.specs.declared.token.Punct.TheVariants as mark
+use Rattle.c_syntax.specs.SyntaxTree.{SpecsTree}
+use Rattle.c_syntax.specs.Grammar.{Row, Derives, AreSpecs, LastSpec, MoreSpecs, AreStars}
+use Rattle.c_syntax.specs.Derives.{DerivesSpecs}
+use Rattle.c_syntax.specs.Lookahead.{spec_of}
+use Rattle.c_syntax.specs.Reads.{reading, Reads}
+use Rattle.c_syntax.specs.SyntaxView.{expression_of}
+use Rattle.c_syntax.proofs.Parsing.Begins.{expression_begins}
+use Rattle.c_syntax.proofs.Parsing.ExpressionReads.{derives_read}
+use Rattle.c_syntax.proofs.Parsing.ReadsDerive.{reads_derived}
+use Rattle.c_syntax.proofs.Parsing.ReadsOne.{one_reading}
+use Rattle.c_syntax.proofs.Parsing.Types.{specs_one}
+use Rattle.c_syntax.proofs.Rows.Fronts.{StarMark, mark_sort, keyword_sort, kind_sort, first}
+use Rattle.c_syntax.proofs.Rows.SpecsAndStars.{specs_first, stars_one}
 use Rattle.c_parser.specs.declared.parser.Parsed.{Parsed}
 use Rattle.c_parser.specs.Front.{kind_mark, mark_at}
 use Rattle.c_parser.specs.Parses.{IsParsed, NoReading, ReadsSpecs, ReadsStars, read}

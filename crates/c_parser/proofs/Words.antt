@@ -1,16 +1,16 @@
 -- The words and stars of a type, taken one by one.
 use Rattle.std.proofs.Common.{◌≡◌, ◌≢◌, ℕ, ◌+◌, ◌-◌, ◌<◌, ◌≤◌, zero, suc, List, [], ◌∷◌, ◌++◌, length, Option, Some, None, refl, sym, ap, ◌∙◌, subst, arith, append_assoc}
-use Rattle.c_tree.specs.declared.token.Token.{Token}
-use Rattle.c_tree.specs.declared.token.TokenKind.{TokenKind}
-use Rattle.c_tree.specs.declared.token.TokenKind.TheVariants as token
-use Rattle.c_tree.specs.declared.token.Keyword.{Keyword}
-use Rattle.c_tree.specs.declared.token.Keyword.TheVariants as keyword
-use Rattle.c_tree.specs.declared.token.Punct.{Punct}
-use Rattle.c_tree.specs.declared.token.Punct.TheVariants as mark
-use Rattle.c_tree.specs.declared.syntax.SpecWord.{SpecWord}
-use Rattle.c_tree.specs.SyntaxTree.{SpecsTree, TypeTree}
-use Rattle.c_tree.specs.Grammar.{spec_keyword, IsMark, IsKeyword, place_of, AreSpecs, LastSpec, MoreSpecs, AreStars, NoStar, MoreStars}
-use Rattle.c_tree.specs.Lookahead.{keyword_spec, kind_spec, spec_of}
+use Rattle.c_syntax.specs.declared.token.Token.{Token}
+use Rattle.c_syntax.specs.declared.token.TokenKind.{TokenKind}
+use Rattle.c_syntax.specs.declared.token.TokenKind.TheVariants as token
+use Rattle.c_syntax.specs.declared.token.Keyword.{Keyword}
+use Rattle.c_syntax.specs.declared.token.Keyword.TheVariants as keyword
+use Rattle.c_syntax.specs.declared.token.Punct.{Punct}
+use Rattle.c_syntax.specs.declared.token.Punct.TheVariants as mark
+use Rattle.c_syntax.specs.declared.syntax.SpecWord.{SpecWord}
+use Rattle.c_syntax.specs.SyntaxTree.{SpecsTree, TypeTree}
+use Rattle.c_syntax.specs.Grammar.{spec_keyword, IsMark, IsKeyword, place_of, AreSpecs, LastSpec, MoreSpecs, AreStars, NoStar, MoreStars}
+use Rattle.c_syntax.specs.Lookahead.{keyword_spec, kind_spec, spec_of}
 use Rattle.c_parser.specs.Front.{behind, kind_mark, mark_at}
 use Rattle.c_parser.specs.Parses.{ReadsSpecs, ReadsStars, ReadsType}
 use Rattle.c_parser.proofs.TakesLemmas.{kind_marked}

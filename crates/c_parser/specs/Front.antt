@@ -1,14 +1,14 @@
 -- What stands at the front of the tokens that are left.
 use Rattle.std.specs.Prelude.{◌&&◌, ℕ, Bool, true, false, List, [], ◌∷◌, Option, Some, None}
-use Rattle.c_tree.specs.declared.token.Token.{Token}
-use Rattle.c_tree.specs.declared.token.TokenKind.{TokenKind}
-use Rattle.c_tree.specs.declared.token.TokenKind.TheVariants as token
-use Rattle.c_tree.specs.declared.token.Keyword.{Keyword}
-use Rattle.c_tree.specs.declared.token.Keyword.TheVariants as keyword
-use Rattle.c_tree.specs.declared.token.Punct.{Punct}
-use Rattle.c_tree.specs.declared.token.Punct.TheVariants as mark
-use Rattle.c_tree.specs.declared.syntax.SpecWord.{SpecWord}
-use Rattle.c_tree.specs.Lookahead.{spec_of}
+use Rattle.c_syntax.specs.declared.token.Token.{Token}
+use Rattle.c_syntax.specs.declared.token.TokenKind.{TokenKind}
+use Rattle.c_syntax.specs.declared.token.TokenKind.TheVariants as token
+use Rattle.c_syntax.specs.declared.token.Keyword.{Keyword}
+use Rattle.c_syntax.specs.declared.token.Keyword.TheVariants as keyword
+use Rattle.c_syntax.specs.declared.token.Punct.{Punct}
+use Rattle.c_syntax.specs.declared.token.Punct.TheVariants as mark
+use Rattle.c_syntax.specs.declared.syntax.SpecWord.{SpecWord}
+use Rattle.c_syntax.specs.Lookahead.{spec_of}
 
 -- the tokens behind the first
 abbrev pub behind : List Token → List Token

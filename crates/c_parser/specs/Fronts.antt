@@ -1,11 +1,11 @@
 -- What may stand at the front of the tokens that are left, and when nothing of a row does.
 use Rattle.std.specs.Prelude.{◌≡◌, ◌≢◌, ◌+◌, ◌≤◌, ℕ, List, [], ◌∷◌, ◌++◌, Some, None}
-use Rattle.c_tree.specs.declared.token.Token.{Token}
-use Rattle.c_tree.specs.declared.token.Punct.TheVariants as mark
-use Rattle.c_tree.specs.Grammar.{Row, Derives, AreStars}
-use Rattle.c_tree.specs.Derives.{DerivesSpecs, DerivesDeclaration, IsTested}
-use Rattle.c_tree.specs.Lookahead.{Ends, spec_of}
-use Rattle.c_tree.specs.Measures.{expression_height, declaration_height, greatest_height}
+use Rattle.c_syntax.specs.declared.token.Token.{Token}
+use Rattle.c_syntax.specs.declared.token.Punct.TheVariants as mark
+use Rattle.c_syntax.specs.Grammar.{Row, Derives, AreStars}
+use Rattle.c_syntax.specs.Derives.{DerivesSpecs, DerivesDeclaration, IsTested}
+use Rattle.c_syntax.specs.Lookahead.{Ends, spec_of}
+use Rattle.c_syntax.specs.Measures.{expression_height, declaration_height, greatest_height}
 use Rattle.c_parser.specs.Front.{mark_at}
 
 -- tokens of a row are at the front, with a tree that may stand under so many nodes, before what may follow them

@@ -1,12 +1,12 @@
 -- The operators that the parser tells apart, by what they are in the grammar.
 use Rattle.std.specs.Prelude.{◌≡◌, Bool, Option, Some, None}
-use Rattle.c_tree.specs.declared.operator.BinaryOp.{BinaryOp}
-use Rattle.c_tree.specs.declared.operator.BinaryOp.TheVariants as binary
-use Rattle.c_tree.specs.declared.token.Punct.{Punct}
-use Rattle.c_tree.specs.declared.syntax.PrefixOp.{PrefixOp}
-use Rattle.c_tree.specs.SyntaxTree.{Expression, ExpressionForm, And, Or, Binary, Assign, AssignOp}
-use Rattle.c_tree.specs.Grammar.{Row, OrRow, AndRow, BitOrRow, BitXorRow, BitAndRow, EqualityRow, RelationRow, ShiftRow, SumRow, ProductRow, CastRow}
-use Rattle.c_tree.specs.Lookahead.{Next, OrNext, AndNext, BinaryNext, AssignNext, AssignOpNext, Start, StepStart, PrefixStart, mark_start}
+use Rattle.c_syntax.specs.declared.operator.BinaryOp.{BinaryOp}
+use Rattle.c_syntax.specs.declared.operator.BinaryOp.TheVariants as binary
+use Rattle.c_syntax.specs.declared.token.Punct.{Punct}
+use Rattle.c_syntax.specs.declared.syntax.PrefixOp.{PrefixOp}
+use Rattle.c_syntax.specs.SyntaxTree.{Expression, ExpressionForm, And, Or, Binary, Assign, AssignOp}
+use Rattle.c_syntax.specs.Grammar.{Row, OrRow, AndRow, BitOrRow, BitXorRow, BitAndRow, EqualityRow, RelationRow, ShiftRow, SumRow, ProductRow, CastRow}
+use Rattle.c_syntax.specs.Lookahead.{Next, OrNext, AndNext, BinaryNext, AssignNext, AssignOpNext, Start, StepStart, PrefixStart, mark_start}
 use Rattle.c_parser.specs.declared.operators.Level.{Level}
 use Rattle.c_parser.specs.declared.operators.Level.TheVariants as level
 use Rattle.c_parser.specs.declared.operators.Infix.{Infix}

@@ -1,7 +1,7 @@
 -- What a fault says of the tokens (docs/LANGUAGE.md, "Grammar").
 use Rattle.std.specs.Prelude.{⊤, List}
-use Rattle.c_tree.specs.declared.token.Token.{Token}
-use Rattle.c_tree.specs.Source.{NoSource, IsPlace}
+use Rattle.c_syntax.specs.declared.token.Token.{Token}
+use Rattle.c_syntax.specs.Source.{NoSource, IsPlace}
 use Rattle.c_parser.specs.declared.fault.ParseFault.{ParseFault}
 use Rattle.c_parser.specs.declared.fault.ParseFault.TheVariants as faults
 

@@ -1,16 +1,16 @@
 -- What the parser owes: what was read by a row, from the front of the tokens or on from a primary that was read already.
 use Rattle.std.specs.Prelude.{◌≡◌, ◌≢◌, ℕ, ◌+◌, ◌<◌, ◌≤◌, Bool, true, List, [], ◌∷◌, ◌++◌, length, Option, Some, None}
-use Rattle.c_tree.specs.declared.token.Token.{Token}
-use Rattle.c_tree.specs.declared.token.TokenKind.{TokenKind}
-use Rattle.c_tree.specs.declared.token.TokenKind.TheVariants as token
-use Rattle.c_tree.specs.declared.token.Punct.TheVariants as mark
-use Rattle.c_tree.specs.declared.expr.Expr.{Expr}
-use Rattle.c_tree.specs.SyntaxTree.{SpecsTree, TypeTree, ExpressionForm, Node, Number, Character, Expressions, no_argument, argument}
-use Rattle.c_tree.specs.Grammar.{Row, PostfixRow, PrimaryRow, tighter, place_of, IsMark, AreSpecs, AreStars, IsType}
-use Rattle.c_tree.specs.Lookahead.{next_of, going_of, spec_of, start_of}
-use Rattle.c_tree.specs.Reads.{Reading, reading, first_of, Reads, Starts, More, ArgumentsReading, ReadsArguments, listed, separator_of}
-use Rattle.c_tree.specs.Measures.{expression_height, arguments_height, greatest_height}
-use Rattle.c_tree.specs.SyntaxView.{expression_of, trees_of}
+use Rattle.c_syntax.specs.declared.token.Token.{Token}
+use Rattle.c_syntax.specs.declared.token.TokenKind.{TokenKind}
+use Rattle.c_syntax.specs.declared.token.TokenKind.TheVariants as token
+use Rattle.c_syntax.specs.declared.token.Punct.TheVariants as mark
+use Rattle.c_syntax.specs.declared.expr.Expr.{Expr}
+use Rattle.c_syntax.specs.SyntaxTree.{SpecsTree, TypeTree, ExpressionForm, Node, Number, Character, Expressions, no_argument, argument}
+use Rattle.c_syntax.specs.Grammar.{Row, PostfixRow, PrimaryRow, tighter, place_of, IsMark, AreSpecs, AreStars, IsType}
+use Rattle.c_syntax.specs.Lookahead.{next_of, going_of, spec_of, start_of}
+use Rattle.c_syntax.specs.Reads.{Reading, reading, first_of, Reads, Starts, More, ArgumentsReading, ReadsArguments, listed, separator_of}
+use Rattle.c_syntax.specs.Measures.{expression_height, arguments_height, greatest_height}
+use Rattle.c_syntax.specs.SyntaxView.{expression_of, trees_of}
 use Rattle.c_parser.specs.declared.parser.Parsed.{Parsed}
 use Rattle.c_parser.specs.declared.parser.Arguments.{Arguments}
 use Rattle.c_parser.specs.Front.{behind, mark_at}

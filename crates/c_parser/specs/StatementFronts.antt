@@ -1,15 +1,15 @@
 -- What may stand at the front of the tokens that are left by the rows of statements.
 use Rattle.std.specs.Prelude.{◌≡◌, ◌⊎◌, ◌+◌, ℕ, max, Bool, true, false, List, map, Option, Some, None}
-use Rattle.c_tree.specs.declared.token.Token.{Token}
-use Rattle.c_tree.specs.declared.token.Keyword.{Keyword}
-use Rattle.c_tree.specs.declared.token.Keyword.TheVariants as keyword
-use Rattle.c_tree.specs.declared.token.Punct.{Punct}
-use Rattle.c_tree.specs.declared.token.Punct.TheVariants as mark
-use Rattle.c_tree.specs.SyntaxTree.{Expression, DeclarationTree, Statements}
-use Rattle.c_tree.specs.Grammar.{ExpressionRow, ConditionalRow, IsMark, IsKeyword}
-use Rattle.c_tree.specs.Derives.{DerivesOptional, IsForHead, DerivesDeclarations, Closing, DerivesStatement, DerivesStatements, DerivesChoices}
-use Rattle.c_tree.specs.Lookahead.{spec_of}
-use Rattle.c_tree.specs.Measures.{greatest, expression_height, optional_height, declaration_height, statement_height, statements_height, choices_height}
+use Rattle.c_syntax.specs.declared.token.Token.{Token}
+use Rattle.c_syntax.specs.declared.token.Keyword.{Keyword}
+use Rattle.c_syntax.specs.declared.token.Keyword.TheVariants as keyword
+use Rattle.c_syntax.specs.declared.token.Punct.{Punct}
+use Rattle.c_syntax.specs.declared.token.Punct.TheVariants as mark
+use Rattle.c_syntax.specs.SyntaxTree.{Expression, DeclarationTree, Statements}
+use Rattle.c_syntax.specs.Grammar.{ExpressionRow, ConditionalRow, IsMark, IsKeyword}
+use Rattle.c_syntax.specs.Derives.{DerivesOptional, IsForHead, DerivesDeclarations, Closing, DerivesStatement, DerivesStatements, DerivesChoices}
+use Rattle.c_syntax.specs.Lookahead.{spec_of}
+use Rattle.c_syntax.specs.Measures.{greatest, expression_height, optional_height, declaration_height, statement_height, statements_height, choices_height}
 use Rattle.c_parser.specs.Takes.{Ends, IsOne, Both}
 use Rattle.c_parser.specs.StatementRows.{IsBody, IsDoEnd}
 use Rattle.c_parser.specs.Fronts.{Front, Then, One, ExpressionFront}

@@ -1,14 +1,14 @@
 -- What the parts of statements take, and the tree of what stands between the braces of a switch.
 use Rattle.std.specs.Prelude.{List, [], ◌∷◌}
-use Rattle.c_tree.specs.declared.token.Token.{Token}
-use Rattle.c_tree.specs.declared.token.Keyword.TheVariants as keyword
-use Rattle.c_tree.specs.declared.token.Punct.TheVariants as mark
-use Rattle.c_tree.specs.declared.stmt.Stmt.{Stmt}
-use Rattle.c_tree.specs.declared.stmt.SwitchPart.{SwitchPart}
-use Rattle.c_tree.specs.SyntaxTree.{Expression, DeclarationTree, Statement, Statements, Choices, no_choice}
-use Rattle.c_tree.specs.Grammar.{IsMark, IsKeyword}
-use Rattle.c_tree.specs.Derives.{IsTested, DerivesDeclarations, DerivesStatements}
-use Rattle.c_tree.specs.SyntaxView.{statement_of, part_before}
+use Rattle.c_syntax.specs.declared.token.Token.{Token}
+use Rattle.c_syntax.specs.declared.token.Keyword.TheVariants as keyword
+use Rattle.c_syntax.specs.declared.token.Punct.TheVariants as mark
+use Rattle.c_syntax.specs.declared.stmt.Stmt.{Stmt}
+use Rattle.c_syntax.specs.declared.stmt.SwitchPart.{SwitchPart}
+use Rattle.c_syntax.specs.SyntaxTree.{Expression, DeclarationTree, Statement, Statements, Choices, no_choice}
+use Rattle.c_syntax.specs.Grammar.{IsMark, IsKeyword}
+use Rattle.c_syntax.specs.Derives.{IsTested, DerivesDeclarations, DerivesStatements}
+use Rattle.c_syntax.specs.SyntaxView.{statement_of, part_before}
 use Rattle.c_parser.specs.Takes.{Both, IsOne}
 
 -- a statement

@@ -1,11 +1,11 @@
 -- What a part of the parser does with the tokens: some are taken from the front, and have a tree by a row of the grammar.
 use Rattle.std.specs.Prelude.{◌≡◌, ◌≢◌, ℕ, Bool, true, false, List, [], ◌∷◌, ◌++◌, Some}
-use Rattle.c_tree.specs.declared.token.Token.{Token}
-use Rattle.c_tree.specs.declared.token.Keyword.TheVariants as keyword
-use Rattle.c_tree.specs.declared.token.Punct.TheVariants as mark
-use Rattle.c_tree.specs.SyntaxTree.{ItemForm, Statement}
-use Rattle.c_tree.specs.Grammar.{IsMark, AreStars, place_of}
-use Rattle.c_tree.specs.Derives.{IsName, IsLastComma, DerivesForm, Closing, Closed, Open, DerivesStatement}
+use Rattle.c_syntax.specs.declared.token.Token.{Token}
+use Rattle.c_syntax.specs.declared.token.Keyword.TheVariants as keyword
+use Rattle.c_syntax.specs.declared.token.Punct.TheVariants as mark
+use Rattle.c_syntax.specs.SyntaxTree.{ItemForm, Statement}
+use Rattle.c_syntax.specs.Grammar.{IsMark, AreStars, place_of}
+use Rattle.c_syntax.specs.Derives.{IsName, IsLastComma, DerivesForm, Closing, Closed, Open, DerivesStatement}
 use Rattle.c_parser.specs.Front.{word_at}
 
 -- tokens of a row were taken from the front

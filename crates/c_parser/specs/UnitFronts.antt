@@ -1,11 +1,11 @@
 -- What externals and whole sources lead to from the front of the tokens, and what the parts of an external take.
 use Rattle.std.specs.Prelude.{◌≡◌, ◌+◌, ◌≤◌, ℕ, List, [], ◌∷◌, ◌++◌, map}
-use Rattle.c_tree.specs.declared.token.Token.{Token}
-use Rattle.c_tree.specs.declared.token.Punct.TheVariants as mark
-use Rattle.c_tree.specs.SyntaxTree.{SpecsTree, ParametersTree, Parameters, UnitTree}
-use Rattle.c_tree.specs.Grammar.{IsMark, AreStars}
-use Rattle.c_tree.specs.Derives.{IsName, DerivesSpecs, DerivesForm, DerivesExternal, DerivesUnit}
-use Rattle.c_tree.specs.Measures.{greatest, parameters_height, external_height, greatest_height}
+use Rattle.c_syntax.specs.declared.token.Token.{Token}
+use Rattle.c_syntax.specs.declared.token.Punct.TheVariants as mark
+use Rattle.c_syntax.specs.SyntaxTree.{SpecsTree, ParametersTree, Parameters, UnitTree}
+use Rattle.c_syntax.specs.Grammar.{IsMark, AreStars}
+use Rattle.c_syntax.specs.Derives.{IsName, DerivesSpecs, DerivesForm, DerivesExternal, DerivesUnit}
+use Rattle.c_syntax.specs.Measures.{greatest, parameters_height, external_height, greatest_height}
 use Rattle.c_parser.specs.Fronts.{Front, Then, One}
 use Rattle.c_parser.specs.DeclarationFronts.{FormFront, InitialiserFront, MoreItems}
 use Rattle.c_parser.specs.StatementFronts.{BodyFront}

@@ -1,11 +1,11 @@
 //! Where a parser stands in its tokens.
 ghost use Rattle.std.specs.Prelude.{◌≡◌, ◌≢◌, ◌↔◌, ◌<◌, ◌-◌, ◌^◌, length, IfOk, IfErr, IsTrue, IsSome, MatchOption, ◌∷◌, Some, None, true, if◌then◌else◌};
-ghost use Rattle.c_tree.specs.Grammar.{place_of};
-ghost use Rattle.c_tree.specs.Lookahead.{spec_of, kind_spec, keyword_spec};
+ghost use Rattle.c_syntax.specs.Grammar.{place_of};
+ghost use Rattle.c_syntax.specs.Lookahead.{spec_of, kind_spec, keyword_spec};
 ghost use Rattle.c_parser.specs.Front.{behind, kind_at, kind_mark, kind_word, kind_name, mark_at, word_at, name_at, opens_type, is_open, is_there, opens, is_void_alone, is_void_word, is_void_kind, is_close_kind, is_separator_kind, is_separator_at};
 
 use crate::fault::Refusal;
-use c_tree::{Keyword, Punct, SpecWord, Token, TokenKind};
+use c_syntax::{Keyword, Punct, SpecWord, Token, TokenKind};
 use std::marker::Model;
 
 /// The tokens that are left, fewer than 2 to the 32nd. Contracts see the list of them.
@@ -16,7 +16,7 @@ pub(crate) struct Cursor<'a> {
 
 impl<'a> Model for Cursor<'a> {
     ghost use Rattle.std.specs.Prelude.{List, length, ◌<◌, ◌^◌};
-    ghost use Rattle.c_tree.specs.declared.token.Token.{Token};
+    ghost use Rattle.c_syntax.specs.declared.token.Token.{Token};
 
     ghost Value = { List Token };
 

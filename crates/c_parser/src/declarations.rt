@@ -1,12 +1,12 @@
 //! The rows of declarations: items, parameters and initialisers.
 ghost use Rattle.std.specs.Prelude.{◌≡◌, ◌≢◌, ◌⊎◌, ◌+◌, ◌<◌, ◌≤◌, false, Some, length, map, IfOk, IfErr, IsTrue};
 ghost use Rattle.c_parser.specs.Front.{behind, mark_at};
-ghost use Rattle.c_tree.specs.declared.token.Punct.TheVariants as mark;
-ghost use Rattle.c_tree.specs.SyntaxTree.{Braced};
-ghost use Rattle.c_tree.specs.Grammar.{ConditionalRow, IsMark, place_of};
-ghost use Rattle.c_tree.specs.Derives.{IsName, DerivesSpecs, DerivesOptional, DerivesList, DerivesInitial, DerivesArray, DerivesArrayMark, DerivesName, DerivesParameter, DerivesParameterList, DerivesParameters, DerivesForm, DerivesInitialiser, DerivesItem, DerivesItems, DerivesDeclaration, IsLastComma};
-ghost use Rattle.c_tree.specs.Measures.{greatest, expression_height, optional_height, array_height, parameter_height, parameters_height, item_form_height, initial_height, item_height, declaration_height};
-ghost use Rattle.c_tree.specs.SyntaxView.{specs_of, expression_of, brackets_of, array_of, parameter_of, parameters_of, item_form_of, initial_of, item_of, declaration_of};
+ghost use Rattle.c_syntax.specs.declared.token.Punct.TheVariants as mark;
+ghost use Rattle.c_syntax.specs.SyntaxTree.{Braced};
+ghost use Rattle.c_syntax.specs.Grammar.{ConditionalRow, IsMark, place_of};
+ghost use Rattle.c_syntax.specs.Derives.{IsName, DerivesSpecs, DerivesOptional, DerivesList, DerivesInitial, DerivesArray, DerivesArrayMark, DerivesName, DerivesParameter, DerivesParameterList, DerivesParameters, DerivesForm, DerivesInitialiser, DerivesItem, DerivesItems, DerivesDeclaration, IsLastComma};
+ghost use Rattle.c_syntax.specs.Measures.{greatest, expression_height, optional_height, array_height, parameter_height, parameters_height, item_form_height, initial_height, item_height, declaration_height};
+ghost use Rattle.c_syntax.specs.SyntaxView.{specs_of, expression_of, brackets_of, array_of, parameter_of, parameters_of, item_form_of, initial_of, item_of, declaration_of};
 ghost use Rattle.c_parser.specs.Fronts.{NoFront, OnlyTo, Then, One, DeclarationFront};
 ghost use Rattle.c_parser.specs.Refusals.{Refuses};
 ghost use Rattle.c_parser.specs.DeclarationFronts.{ItemFront, FormFront, ArrayFront, LengthFront, InitialiserFront, BracedFront, ValuesFront, ParametersFront, ParameterListFront, ParameterFront, NameFront, ArrayMarkFront, IsAnyName, MoreItems};
@@ -14,7 +14,7 @@ ghost use Rattle.c_parser.specs.Takes.{Takes, IsOne, Both, Behind, IsItemFront, 
 
 use crate::fault::Refusal;
 use crate::parser::Parser;
-use c_tree::{Brackets, Decl, Expr, Init, Item, ItemKind, Keyword, Param, Params, Punct, Specs};
+use c_syntax::{Brackets, Decl, Expr, Init, Item, ItemKind, Keyword, Param, Params, Punct, Specs};
 use word_base::{Items, Text};
 
 /// A part of a tree, with its height.

@@ -3,12 +3,12 @@
 //! A row that may begin with a primary that was read already takes it as its start: so nested parentheses are closed one by
 //! one in a loop, and none of them costs a call.
 ghost use Rattle.std.specs.Prelude.{◌≡◌, ◌+◌, ◌<◌, ◌≤◌, max, Bool, true, false, length, IfOk, IfErr, Some, None, MatchOption};
-ghost use Rattle.c_tree.specs.Grammar.{ExpressionRow, AssignmentRow, ConditionalRow, CastRow};
-ghost use Rattle.c_tree.specs.SyntaxTree.{Comma, Conditional, Cast};
-ghost use Rattle.c_tree.specs.Lookahead.{next_of, going_of, Stops};
-ghost use Rattle.c_tree.specs.Measures.{greatest_height};
-ghost use Rattle.c_tree.specs.SyntaxView.{expression_of, type_of};
-ghost use Rattle.c_tree.specs.declared.token.Punct.TheVariants as marks;
+ghost use Rattle.c_syntax.specs.Grammar.{ExpressionRow, AssignmentRow, ConditionalRow, CastRow};
+ghost use Rattle.c_syntax.specs.SyntaxTree.{Comma, Conditional, Cast};
+ghost use Rattle.c_syntax.specs.Lookahead.{next_of, going_of, Stops};
+ghost use Rattle.c_syntax.specs.Measures.{greatest_height};
+ghost use Rattle.c_syntax.specs.SyntaxView.{expression_of, type_of};
+ghost use Rattle.c_syntax.specs.declared.token.Punct.TheVariants as marks;
 ghost use Rattle.c_parser.specs.Front.{mark_at};
 ghost use Rattle.c_parser.specs.Operators.{level_row, row_at, infix_form, assignment_form, next_assignment, IsInfix};
 ghost use Rattle.c_parser.specs.declared.fault.Refusal.TheVariants as refusals;
@@ -18,7 +18,7 @@ ghost use Rattle.c_parser.specs.Refusals.{Refuses};
 use crate::fault::Refusal;
 use crate::operators::{Assignment, Infix, Level, assignment_of, infix_of};
 use crate::parser::{Parsed, Parser};
-use c_tree::{ExprKind, Punct, TypeName};
+use c_syntax::{ExprKind, Punct, TypeName};
 
 impl<'a> Parser<'a> {
     /// The row `expression`, under so many nodes.

@@ -1,13 +1,13 @@
 //! The rows of operands: `unary`, `postfix` and `primary`.
 ghost use Rattle.std.specs.Prelude.{◌≡◌, ◌+◌, ◌<◌, ◌≤◌, max, Bool, true, false, length, IfOk, IfErr, IsSome, Some, None, List, MatchOption};
-ghost use Rattle.c_tree.specs.declared.token.Keyword.TheVariants as keywords;
-ghost use Rattle.c_tree.specs.SyntaxTree.{StepBefore, Prefix, SizeofValue, SizeofType, Index, StepAfter, Call, Node};
-ghost use Rattle.c_tree.specs.declared.token.Punct.TheVariants as marks;
+ghost use Rattle.c_syntax.specs.declared.token.Keyword.TheVariants as keywords;
+ghost use Rattle.c_syntax.specs.SyntaxTree.{StepBefore, Prefix, SizeofValue, SizeofType, Index, StepAfter, Call, Node};
+ghost use Rattle.c_syntax.specs.declared.token.Punct.TheVariants as marks;
 ghost use Rattle.c_parser.specs.declared.fault.Refusal.TheVariants as refusals;
-ghost use Rattle.c_tree.specs.Grammar.{UnaryRow, PrimaryRow, step_mark, prefix_mark, place_of};
-ghost use Rattle.c_tree.specs.Reads.{separator_of};
-ghost use Rattle.c_tree.specs.Measures.{greatest_height};
-ghost use Rattle.c_tree.specs.SyntaxView.{expression_of, form_of, type_of};
+ghost use Rattle.c_syntax.specs.Grammar.{UnaryRow, PrimaryRow, step_mark, prefix_mark, place_of};
+ghost use Rattle.c_syntax.specs.Reads.{separator_of};
+ghost use Rattle.c_syntax.specs.Measures.{greatest_height};
+ghost use Rattle.c_syntax.specs.SyntaxView.{expression_of, form_of, type_of};
 ghost use Rattle.c_parser.specs.Front.{mark_at, word_at, name_at, opens_type};
 ghost use Rattle.c_parser.specs.Operators.{step_at, prefix_at};
 ghost use Rattle.c_parser.specs.Parses.{MayStart, IsMeasured, IsParsed, IsOperand, IsBehind, IsOneBehind, IsConstant, constant_form, constant_at, IsNode, ReadsClosed, Opened, AreRead, NoReading, NoOperand, NoneBehind, NoArguments, NotClosed};
@@ -16,7 +16,7 @@ ghost use Rattle.c_parser.specs.Refusals.{Refuses};
 use crate::fault::Refusal;
 use crate::operators::{prefix_of, step_of};
 use crate::parser::{Arguments, Parsed, Parser};
-use c_tree::{Expr, ExprKind, Keyword, PrefixOp, Punct, TokenKind, TypeName};
+use c_syntax::{Expr, ExprKind, Keyword, PrefixOp, Punct, TokenKind, TypeName};
 use word_base::Text;
 
 impl<'a> Parser<'a> {

@@ -1,11 +1,11 @@
 //! Operators, by their marks.
 ghost use Rattle.std.specs.Prelude.{◌≡◌, ◌≢◌, Some, None};
-ghost use Rattle.c_tree.specs.Grammar.{tighter};
-ghost use Rattle.c_tree.specs.Lookahead.{next_mark, mark_start};
+ghost use Rattle.c_syntax.specs.Grammar.{tighter};
+ghost use Rattle.c_syntax.specs.Lookahead.{next_mark, mark_start};
 ghost use Rattle.c_parser.specs.declared.operators.Level.TheVariants as levels;
 ghost use Rattle.c_parser.specs.Operators.{level_row, row_at, next_infix, next_assignment, start_step, start_prefix};
 
-use c_tree::{BinaryOp, PrefixOp, Punct};
+use c_syntax::{BinaryOp, PrefixOp, Punct};
 
 /// The ten levels of operators between operands, from the loosest to the tightest.
 #[derive(Clone, Copy, Debug, PartialEq, Eq)]

@@ -1,14 +1,14 @@
 //! What the parts of the parser share: where it stands, and how high a tree may be.
 ghost use Rattle.std.specs.Prelude.{◌≡◌, ◌↔◌, ◌+◌, ◌<◌, ◌≤◌, ◌^◌, length, IfOk, IfErr, None};
-ghost use Rattle.c_tree.specs.Measures.{greatest_height};
-ghost use Rattle.c_tree.specs.SyntaxView.{specs_of, type_of};
+ghost use Rattle.c_syntax.specs.Measures.{greatest_height};
+ghost use Rattle.c_syntax.specs.SyntaxView.{specs_of, type_of};
 ghost use Rattle.c_parser.specs.Parses.{ReadsSpecs, ReadsStars, ReadsType};
 ghost use Rattle.c_parser.specs.Refusals.{Refuses};
-ghost use Rattle.c_tree.specs.Lookahead.{spec_of};
+ghost use Rattle.c_syntax.specs.Lookahead.{spec_of};
 
 use crate::cursor::Cursor;
 use crate::fault::Refusal;
-use c_tree::{Expr, ExprKind, Punct, SpecWord, Specs, Token, TypeName};
+use c_syntax::{Expr, ExprKind, Punct, SpecWord, Specs, Token, TypeName};
 use std::alloc::Global;
 use word_base::Items;
 

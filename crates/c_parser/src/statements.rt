@@ -1,12 +1,12 @@
 //! The rows of statements.
 ghost use Rattle.std.specs.Prelude.{◌≡◌, ◌≢◌, ◌⊎◌, ◌+◌, ◌<◌, ◌≤◌, max, false, [], length, map, Some, IfOk, IfErr};
-ghost use Rattle.c_tree.specs.declared.token.Keyword.TheVariants as keyword;
-ghost use Rattle.c_tree.specs.declared.token.Punct.TheVariants as mark;
-ghost use Rattle.c_tree.specs.SyntaxTree.{no_choice, chosen, Block, DoWhile, If, IfElse, While, For, Switch};
-ghost use Rattle.c_tree.specs.Grammar.{ExpressionRow, IsMark};
-ghost use Rattle.c_tree.specs.Derives.{DerivesOptional, DerivesDeclarations, IsTested, IsForHead, DerivesChoices};
-ghost use Rattle.c_tree.specs.Measures.{greatest, expression_height, optional_height, declaration_height, statement_height, statements_height, choices_height};
-ghost use Rattle.c_tree.specs.SyntaxView.{expression_of, optional_of, declaration_of, body_of, part_before};
+ghost use Rattle.c_syntax.specs.declared.token.Keyword.TheVariants as keyword;
+ghost use Rattle.c_syntax.specs.declared.token.Punct.TheVariants as mark;
+ghost use Rattle.c_syntax.specs.SyntaxTree.{no_choice, chosen, Block, DoWhile, If, IfElse, While, For, Switch};
+ghost use Rattle.c_syntax.specs.Grammar.{ExpressionRow, IsMark};
+ghost use Rattle.c_syntax.specs.Derives.{DerivesOptional, DerivesDeclarations, IsTested, IsForHead, DerivesChoices};
+ghost use Rattle.c_syntax.specs.Measures.{greatest, expression_height, optional_height, declaration_height, statement_height, statements_height, choices_height};
+ghost use Rattle.c_syntax.specs.SyntaxView.{expression_of, optional_of, declaration_of, body_of, part_before};
 ghost use Rattle.c_parser.specs.declared.fault.Refusal.TheVariants as refusals;
 ghost use Rattle.c_parser.specs.Front.{mark_at, word_at};
 ghost use Rattle.c_parser.specs.Fronts.{NoFront, OnlyTo, TestedFront};
@@ -18,7 +18,7 @@ ghost use Rattle.c_parser.specs.StatementRows.{tree_of, parts_of, IsBody, IsDoEn
 use crate::declarations::Tall;
 use crate::fault::Refusal;
 use crate::parser::Parser;
-use c_tree::{Decl, Expr, Keyword, Punct, Stmt, StmtKind, SwitchPart};
+use c_syntax::{Decl, Expr, Keyword, Punct, Stmt, StmtKind, SwitchPart};
 
 /// What stands between the braces of a block, with the height of the highest.
 #[derive(Drop)]

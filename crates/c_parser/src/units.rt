@@ -1,13 +1,13 @@
 //! Whole sources.
 ghost use Rattle.std.specs.Prelude.{◌≡◌, ◌+◌, ◌<◌, ◌≤◌, length, IfOk, IfErr};
-ghost use Rattle.c_tree.specs.Lexes.{most_tokens};
-ghost use Rattle.c_tree.specs.Grammar.{place_of};
-ghost use Rattle.c_tree.specs.Derives.{DerivesSpecs, DerivesExternal};
-ghost use Rattle.c_tree.specs.Measures.{parameters_height, item_form_height, external_height};
-ghost use Rattle.c_tree.specs.SyntaxView.{specs_of, parameters_of, item_form_of, external_of, unit_of};
-ghost use Rattle.c_tree.specs.declared.decl.ItemKind.TheVariants as functions;
-ghost use Rattle.c_tree.specs.Source.{IsSource};
-ghost use Rattle.c_tree.specs.Source.{NoSource, IsPlace, end_of};
+ghost use Rattle.c_syntax.specs.Lexes.{most_tokens};
+ghost use Rattle.c_syntax.specs.Grammar.{place_of};
+ghost use Rattle.c_syntax.specs.Derives.{DerivesSpecs, DerivesExternal};
+ghost use Rattle.c_syntax.specs.Measures.{parameters_height, item_form_height, external_height};
+ghost use Rattle.c_syntax.specs.SyntaxView.{specs_of, parameters_of, item_form_of, external_of, unit_of};
+ghost use Rattle.c_syntax.specs.declared.decl.ItemKind.TheVariants as functions;
+ghost use Rattle.c_syntax.specs.Source.{IsSource};
+ghost use Rattle.c_syntax.specs.Source.{NoSource, IsPlace, end_of};
 ghost use Rattle.c_parser.specs.ParseFaults.{Says};
 ghost use Rattle.c_parser.specs.Refusals.{Refuses};
 ghost use Rattle.c_parser.specs.Fronts.{NoFront};
@@ -17,7 +17,7 @@ ghost use Rattle.c_parser.specs.UnitFronts.{ExternalFront, IsListed, ListedFront
 use crate::declarations::Tall;
 use crate::fault::{ParseFault, Refusal};
 use crate::parser::Parser;
-use c_tree::{External, FunctionDef, ItemKind, Params, Punct, Specs, Token, Unit};
+use c_syntax::{External, FunctionDef, ItemKind, Params, Punct, Specs, Token, Unit};
 use std::alloc::Global;
 use word_base::{Items, Text};
 

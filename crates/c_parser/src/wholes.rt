@@ -1,9 +1,9 @@
 //! Whole parts that begin at the next token, as the rows of declarations and statements want them.
 ghost use Rattle.std.specs.Prelude.{◌≡◌, ◌+◌, ◌<◌, ◌≤◌, length, IfOk, IfErr, None};
-ghost use Rattle.c_tree.specs.Grammar.{Derives, ExpressionRow, AssignmentRow, ConditionalRow, AreStars};
-ghost use Rattle.c_tree.specs.Derives.{DerivesSpecs};
-ghost use Rattle.c_tree.specs.Measures.{expression_height};
-ghost use Rattle.c_tree.specs.SyntaxView.{expression_of, specs_of};
+ghost use Rattle.c_syntax.specs.Grammar.{Derives, ExpressionRow, AssignmentRow, ConditionalRow, AreStars};
+ghost use Rattle.c_syntax.specs.Derives.{DerivesSpecs};
+ghost use Rattle.c_syntax.specs.Measures.{expression_height};
+ghost use Rattle.c_syntax.specs.SyntaxView.{expression_of, specs_of};
 ghost use Rattle.c_parser.specs.Takes.{Takes};
 ghost use Rattle.c_parser.specs.Fronts.{NoFront, OnlyTo, ExpressionFront, SpecsFront, StarsFront};
 ghost use Rattle.c_parser.specs.Refusals.{Refuses};
@@ -11,7 +11,7 @@ ghost use Rattle.c_parser.specs.Refusals.{Refuses};
 use crate::declarations::Tall;
 use crate::fault::Refusal;
 use crate::parser::{Parsed, Parser};
-use c_tree::{Expr, Specs};
+use c_syntax::{Expr, Specs};
 
 fn whole(parsed: Parsed) -> Tall<Expr>
     ensures { result ≡ record { tree = parsed.tree; height = parsed.height } }

@@ -1,10 +1,5 @@
 -- Rows of parts in memory, as lists.
-use Rattle.std.proofs.Common.{◌≡◌, List, ℕ, refl, ap, rules}
-use Rattle.c_tree.specs.declared.expr.ExprKind.{Row_of-Expr, end_of-Expr, more_of-Expr, items-the_row-Expr, the_lemmas}
-use Rattle.c_tree.specs.declared.expr.ExprKind as kind
-use Rattle.c_tree.specs.SyntaxTree as tree
-use Rattle.c_tree.specs.SyntaxTree.{Node, argument}
-use Rattle.c_tree.specs.SyntaxView.{form_of, arguments_of, trees_of}
+use Rattle.std.proofs.Common.{◌≡◌, ℕ, refl, ap, rules}
 use Rattle.c_tree.specs.declared.typed_expression.ExprForm as typed
 use Rattle.c_tree.specs.declared.typed_expression.ExprForm.{Row_of-TypedExpr, end_of-TypedExpr, more_of-TypedExpr, items-the_row-TypedExpr}
 use Rattle.c_tree.specs.declared.typed_statement.TypedStmt as stmt
@@ -12,14 +7,6 @@ use Rattle.c_tree.specs.declared.typed_statement.TypedStmt.{Row_of-TypedStmt, en
 use Rattle.c_tree.specs.TypedTree as expr
 use Rattle.c_tree.specs.TypedTree.{more, both}
 use Rattle.c_tree.specs.View.{form_of as typed_form_of, exprs_of, argument_list, stmt_of, stmts_of, statement_list, choices_of, choice_before, choice_list, expr_of}
-
-rows_items : (m : _) (k : Row_of-Expr m) → arguments_of k ≡ trees_of (items-the_row-Expr m k)
-rows_items m end_of-Expr = refl
-rows_items m (more_of-Expr {n = n} e a rest) = ap (argument (Node (form_of e) a)) (rows_items n rest)
-
--- a call of a list of arguments
-pub call_form : (n : List ℕ) (l : _) → form_of (kind.Call n l) ≡ tree.Call n (trees_of l.items)
-call_form n l = search (rules, the_lemmas, rows_items)
 
 typed_rows : (m : _) (k : Row_of-TypedExpr m) → exprs_of k ≡ argument_list (items-the_row-TypedExpr m k)
 typed_rows m end_of-TypedExpr = refl

@@ -3,10 +3,10 @@
 use Rattle.std.specs.Prelude.{ℕ, not, Result, Ok, Err}
 use Rattle.word_base.specs.declared.outcome.UndefinedKind.{UndefinedKind}
 use Rattle.word_base.specs.Words.{Calc, Good, Bad, truth, int_add, int_subtract, int_multiply, int_quotient, int_remainder, int_negate, unsigned_add, unsigned_subtract, unsigned_multiply, unsigned_quotient, unsigned_remainder, unsigned_negate, bits_and, bits_or, bits_xor, complement, shift_left, int_shift_right, unsigned_shift_right, equal, int_less, unsigned_less}
-use Rattle.c_tree.specs.declared.operator.UnaryOp.{UnaryOp}
-use Rattle.c_tree.specs.declared.operator.UnaryOp.TheVariants.{Minus, Plus, Complement}
-use Rattle.c_tree.specs.declared.operator.BinaryOp.{BinaryOp}
-use Rattle.c_tree.specs.declared.operator.BinaryOp.TheVariants.{Add, Sub, Mul, Div, Rem, And, Or, Xor, Shl, Shr, Eq, Ne, Lt, Gt, Le, Ge}
+use Rattle.c_syntax.specs.declared.operator.UnaryOp.{UnaryOp}
+use Rattle.c_syntax.specs.declared.operator.UnaryOp.TheVariants.{Minus, Plus, Complement}
+use Rattle.c_syntax.specs.declared.operator.BinaryOp.{BinaryOp}
+use Rattle.c_syntax.specs.declared.operator.BinaryOp.TheVariants.{Add, Sub, Mul, Div, Rem, And, Or, Xor, Shl, Shr, Eq, Ne, Lt, Gt, Le, Ge}
 
 -- two ints
 abbrev pub int_binary : BinaryOp → ℕ → ℕ → Calc

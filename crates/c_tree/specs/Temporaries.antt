@@ -1,7 +1,7 @@
 -- How many temporaries an expression, a statement or a function needs, where the code of each operator keeps a left operand in
 -- one while it evaluates a right one (docs/LANGUAGE.md, "Types").
 use Rattle.std.specs.Prelude.{ℕ, ◌+◌, max, Bool, true, false, if◌then◌else◌, Option, Some, None}
-use Rattle.c_tree.specs.declared.operator.UnaryOp.TheVariants.{Minus}
+use Rattle.c_syntax.specs.declared.operator.UnaryOp.TheVariants.{Minus}
 use Rattle.c_tree.specs.TypedTree as tree
 use Rattle.c_tree.specs.TypedTree.{Expr, Node, Lvalue, Named, At, Form, Exprs, Stmt, Stmts, Choices}
 

@@ -2,8 +2,8 @@
 ghost use Rattle.std.specs.Prelude.{◌≡◌};
 ghost use Rattle.c_tree.specs.Eval as eval;
 
-use crate::operator::BinaryOp;
 use crate::program::{Base, ScalarType};
+use c_syntax::BinaryOp;
 
 /// Whether a value of this type is a pointer.
 pub fn points(kind: Option<ScalarType>) -> bool

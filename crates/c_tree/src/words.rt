@@ -4,7 +4,7 @@ ghost use Rattle.word_base.specs.Words as words;
 ghost use Rattle.c_tree.specs.Operators as operators;
 ghost use Rattle.c_tree.specs.Operators.{answer};
 
-use crate::operator::{BinaryOp, UnaryOp};
+use c_syntax::{BinaryOp, UnaryOp};
 use word_base::{UndefinedKind, signed, wrap16};
 
 /// An operator on two ints: the word of its value, or why it has none.

@@ -3,10 +3,10 @@ use Rattle.std.proofs.Common.{◌≡◌, ℕ, false, is_some, List, length, Opti
 use Rattle.c_tree.specs.declared.program.Base.{Base}
 use Rattle.c_tree.specs.declared.program.VarRef.{VarRef}
 use Rattle.c_tree.specs.declared.program.VarRef.TheVariants as refs
-use Rattle.c_tree.specs.declared.decl.Init.{Init}
-use Rattle.c_tree.specs.declared.decl.Init.TheVariants as init
-use Rattle.c_tree.specs.declared.decl.Item.{Item}
-use Rattle.c_tree.specs.SyntaxView.{item_form_of, initial_of, item_of}
+use Rattle.c_syntax.specs.declared.decl.Init.{Init}
+use Rattle.c_syntax.specs.declared.decl.Init.TheVariants as init
+use Rattle.c_syntax.specs.declared.decl.Item.{Item}
+use Rattle.c_syntax.specs.SyntaxView.{item_form_of, initial_of, item_of}
 use Rattle.c_types.specs.declared.declarations.Declared.{Declared}
 use Rattle.c_types.specs.declared.declarations.Declared.TheVariants as declares
 use Rattle.c_types.specs.declared.fault.Rule.TheVariants.{Mismatch, Misplaced}

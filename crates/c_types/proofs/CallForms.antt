@@ -1,12 +1,12 @@
 -- Forms of expressions in memory, and calls, whose arguments are a list there.
 use Rattle.std.proofs.Common.{◌≡◌, ℕ, List, sym, subst, Vec, Global}
 use Rattle.std.specs.Prelude.{Result, IfOk, IfErr}
-use Rattle.c_tree.specs.declared.expr.Expr.{Expr}
-use Rattle.c_tree.specs.declared.expr.ExprKind as kind
+use Rattle.c_syntax.specs.declared.expr.Expr.{Expr}
+use Rattle.c_syntax.specs.declared.expr.ExprKind as kind
 use Rattle.c_tree.specs.declared.typed_expression.TypedExpr.{TypedExpr}
 use Rattle.c_tree.specs.declared.typed_expression.ExprForm as typed
-use Rattle.c_tree.specs.SyntaxTree as tree
-use Rattle.c_tree.specs.SyntaxView.{form_of, expression_of, trees_of}
+use Rattle.c_syntax.specs.SyntaxTree as tree
+use Rattle.c_syntax.specs.SyntaxView.{form_of, expression_of, trees_of}
 use Rattle.c_tree.specs.TypedTree.{Kind, Node, Call, Exprs}
 use Rattle.c_tree.specs.View.{form_of as typed_form_of, argument_list, expr_of}
 use Rattle.c_tree.proofs.Views.{call_form, typed_call_form}

@@ -2,11 +2,11 @@
 use Rattle.std.proofs.Common.{◌≡◌, ℕ, ◌+◌, ◌<◌, ◌≤◌, ◌||◌, Bool, true, false, List, [], ◌∷◌, ◌++◌, drop, get_or, length, refl, ap, sym, ◌∙◌}
 use Rattle.std.proofs.Math.ListN.{drop_of_length-le}
 use Rattle.std.proofs.lemmas.List.{drop_more}
-use Rattle.c_tree.specs.declared.stmt.SwitchPart.{SwitchPart}
+use Rattle.c_syntax.specs.declared.stmt.SwitchPart.{SwitchPart}
 use Rattle.c_tree.specs.declared.typed_statement.Choice.{Choice}
-use Rattle.c_tree.specs.SyntaxTree as tree
-use Rattle.c_tree.specs.SyntaxTree.{Statement}
-use Rattle.c_tree.specs.SyntaxView.{part_before}
+use Rattle.c_syntax.specs.SyntaxTree as tree
+use Rattle.c_syntax.specs.SyntaxTree.{Statement}
+use Rattle.c_syntax.specs.SyntaxView.{part_before}
 use Rattle.c_tree.specs.TypedTree.{Choices, no_more}
 use Rattle.c_tree.specs.View.{choice_before, choice_list}
 use Rattle.c_types.specs.declared.blocks.Body.{Body}

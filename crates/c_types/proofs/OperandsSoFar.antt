@@ -1,7 +1,7 @@
 -- Lists of operands, one behind another.
 use Rattle.std.proofs.Common.{◌≡◌, List, ◌++◌, map}
-use Rattle.c_tree.specs.declared.expr.Expr.{Expr}
-use Rattle.c_tree.specs.SyntaxView.{trees_of}
+use Rattle.c_syntax.specs.declared.expr.Expr.{Expr}
+use Rattle.c_syntax.specs.SyntaxView.{trees_of}
 use Rattle.c_types.specs.declared.operands.Operand.{Operand}
 use Rattle.c_types.specs.Outcome.{Is, ◌>>=◌}
 use Rattle.c_types.specs.Scopes.{Scope}

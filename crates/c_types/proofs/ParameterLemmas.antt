@@ -1,10 +1,10 @@
 -- A turn of the loop over parameters.
 use Rattle.std.proofs.Common.{◌≡◌, ℕ, ◌+◌, ◌<◌, List, [], ◌∷◌, ◌++◌, map, drop, get_or, length, refl, ap, sym, ◌∙◌, append_assoc}
 use Rattle.std.proofs.lemmas.List.{drop_more}
-use Rattle.c_tree.specs.declared.decl.Param.{Param}
+use Rattle.c_syntax.specs.declared.decl.Param.{Param}
 use Rattle.c_tree.specs.declared.program.ScalarType.{ScalarType}
 use Rattle.c_tree.specs.declared.program.VarRef.TheVariants as refs
-use Rattle.c_tree.specs.SyntaxView.{parameter_of}
+use Rattle.c_syntax.specs.SyntaxView.{parameter_of}
 use Rattle.c_types.specs.declared.fault.Rule.{Rule}
 use Rattle.c_types.specs.declared.fault.Refusal.{Refusal}
 use Rattle.c_types.specs.declared.fault.Refusal.TheVariants as refusals

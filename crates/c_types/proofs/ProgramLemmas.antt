@@ -4,9 +4,9 @@ use Rattle.std.specs.Prelude.{Vec, Result, Ok, Err, IfErr}
 use Rattle.std.specs.Result.{IsErrAnd}
 use Rattle.std.specs.Global.{Global}
 use Rattle.c_tree.specs.declared.program.VarRef.{VarRef}
-use Rattle.c_tree.specs.declared.unit.External.{External}
-use Rattle.c_tree.specs.SyntaxTree.{UnitTree}
-use Rattle.c_tree.specs.SyntaxView.{unit_of}
+use Rattle.c_syntax.specs.declared.unit.External.{External}
+use Rattle.c_syntax.specs.SyntaxTree.{UnitTree}
+use Rattle.c_syntax.specs.SyntaxView.{unit_of}
 use Rattle.c_tree.specs.TypedTree.{FunctionTree, ProgramTree}
 use Rattle.c_types.specs.declared.fault.TypeFault.{TypeFault}
 use Rattle.c_types.specs.declared.fault.TypeFault.TheVariants as faults

@@ -1,11 +1,11 @@
 -- What was typed of lists of declarations, and what is left of them.
 use Rattle.std.proofs.Common.{◌≡◌, ℕ, ◌+◌, ◌<◌, List, [], ◌∷◌, ◌++◌, map, drop, length, get_or, refl, sym, ap, ◌∙◌}
 use Rattle.std.proofs.lemmas.List.{drop_more}
-use Rattle.c_tree.specs.declared.expr.Expr.{Expr}
-use Rattle.c_tree.specs.declared.decl.Param.{Param}
+use Rattle.c_syntax.specs.declared.expr.Expr.{Expr}
+use Rattle.c_syntax.specs.declared.decl.Param.{Param}
 use Rattle.c_tree.specs.declared.program.ScalarType.{ScalarType}
 use Rattle.c_tree.specs.declared.program.Initial.{Initial}
-use Rattle.c_tree.specs.SyntaxView.{expression_of, parameter_of}
+use Rattle.c_syntax.specs.SyntaxView.{expression_of, parameter_of}
 use Rattle.c_types.specs.declared.local.Naming.{Naming}
 use Rattle.c_types.specs.declared.initialisers.Entry as memory
 use Rattle.c_types.specs.Outcome.{Outcome, Is, Broken, ◌>>=◌}

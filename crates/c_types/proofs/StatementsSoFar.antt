@@ -3,15 +3,15 @@ use Rattle.std.proofs.Common.{◌≡◌, ℕ, ◌+◌, ◌<◌, ◌≤◌, List,
 use Rattle.std.specs.Prelude.{Result, IfOk, IfErr}
 use Rattle.std.proofs.Math.ListN.{drop_of_length-le}
 use Rattle.std.proofs.lemmas.List.{drop_more}
-use Rattle.c_tree.specs.declared.decl.Decl.{Decl}
-use Rattle.c_tree.specs.declared.stmt.Stmt.{Stmt}
-use Rattle.c_tree.specs.declared.stmt.StmtKind as kind
+use Rattle.c_syntax.specs.declared.decl.Decl.{Decl}
+use Rattle.c_syntax.specs.declared.stmt.Stmt.{Stmt}
+use Rattle.c_syntax.specs.declared.stmt.StmtKind as kind
 use Rattle.c_tree.specs.declared.typed_statement.TypedStmt as memory
 use Rattle.c_tree.specs.declared.typed_statement.TypedStmt.{TypedStmt}
 use Rattle.c_tree.specs.Eval.{kind_of}
-use Rattle.c_tree.specs.SyntaxTree as tree
-use Rattle.c_tree.specs.SyntaxTree.{DeclarationTree, Expression, Statement, Statements}
-use Rattle.c_tree.specs.SyntaxView.{statement_of, body_of, declaration_of}
+use Rattle.c_syntax.specs.SyntaxTree as tree
+use Rattle.c_syntax.specs.SyntaxTree.{DeclarationTree, Expression, Statement, Statements}
+use Rattle.c_syntax.specs.SyntaxView.{statement_of, body_of, declaration_of}
 use Rattle.c_tree.specs.TypedTree as typed
 use Rattle.c_tree.specs.TypedTree.{Expr, Stmts, Block, Do_while, If, both, done}
 use Rattle.c_tree.specs.declared.program.VarRef.{VarRef}

@@ -1,18 +1,18 @@
 -- Switches, whose labels and statements are a list in memory.
 use Rattle.std.proofs.Common.{◌≡◌, ℕ, ◌+◌, ◌<◌, Bool, true, false, not, List, [], ◌∷◌, drop, get_or, length, refl, ap, sym, ◌∙◌, subst, Vec, Global}
 use Rattle.std.specs.Prelude.{Result, Ok, Err, IfOk, IfErr}
-use Rattle.c_tree.specs.declared.expr.Expr as syntax
-use Rattle.c_tree.specs.declared.stmt.Stmt.{Stmt}
-use Rattle.c_tree.specs.declared.stmt.StmtKind as kind
-use Rattle.c_tree.specs.declared.stmt.SwitchPart as part
-use Rattle.c_tree.specs.declared.stmt.SwitchPart.{SwitchPart}
+use Rattle.c_syntax.specs.declared.expr.Expr as syntax
+use Rattle.c_syntax.specs.declared.stmt.Stmt.{Stmt}
+use Rattle.c_syntax.specs.declared.stmt.StmtKind as kind
+use Rattle.c_syntax.specs.declared.stmt.SwitchPart as part
+use Rattle.c_syntax.specs.declared.stmt.SwitchPart.{SwitchPart}
 use Rattle.c_tree.specs.declared.typed_statement.Choice as choice
 use Rattle.c_tree.specs.declared.typed_statement.Choice.{Choice}
 use Rattle.c_tree.specs.declared.typed_statement.TypedStmt.{TypedStmt}
 use Rattle.c_tree.specs.Eval.{kind_of, points}
-use Rattle.c_tree.specs.SyntaxTree as tree
-use Rattle.c_tree.specs.SyntaxTree.{Expression, Statement}
-use Rattle.c_tree.specs.SyntaxView.{expression_of, part_before, statement_of}
+use Rattle.c_syntax.specs.SyntaxTree as tree
+use Rattle.c_syntax.specs.SyntaxTree.{Expression, Statement}
+use Rattle.c_syntax.specs.SyntaxView.{expression_of, part_before, statement_of}
 use Rattle.c_tree.specs.TypedTree as typed
 use Rattle.c_tree.specs.TypedTree.{Expr, Switch}
 use Rattle.c_tree.specs.View.{stmt_of}

@@ -1,10 +1,10 @@
 -- Statements of a source whose parts are lists in memory.
 use Rattle.std.proofs.Common.{◌≡◌, ℕ, map, refl, ap, rules}
-use Rattle.c_tree.specs.declared.stmt.StmtKind as stmt
-use Rattle.c_tree.specs.declared.stmt.StmtKind.{Row_of-Stmt, end_of-Stmt, more_of-Stmt, items-the_row-Stmt, Row_of-SwitchPart, end_of-SwitchPart, more_of-SwitchPart, items-the_row-SwitchPart, the_lemmas}
-use Rattle.c_tree.specs.SyntaxTree as tree
-use Rattle.c_tree.specs.SyntaxTree.{statement}
-use Rattle.c_tree.specs.SyntaxView.{statement_of, statements_of, choices_of, part_before, body_of, declaration_of, expression_of}
+use Rattle.c_syntax.specs.declared.stmt.StmtKind as stmt
+use Rattle.c_syntax.specs.declared.stmt.StmtKind.{Row_of-Stmt, end_of-Stmt, more_of-Stmt, items-the_row-Stmt, Row_of-SwitchPart, end_of-SwitchPart, more_of-SwitchPart, items-the_row-SwitchPart, the_lemmas}
+use Rattle.c_syntax.specs.SyntaxTree as tree
+use Rattle.c_syntax.specs.SyntaxTree.{statement}
+use Rattle.c_syntax.specs.SyntaxView.{statement_of, statements_of, choices_of, part_before, body_of, declaration_of, expression_of}
 use Rattle.c_types.specs.Bodies.{parts_of}
 
 rows : (m : _) (k : Row_of-Stmt m) → statements_of k ≡ body_of (items-the_row-Stmt m k)

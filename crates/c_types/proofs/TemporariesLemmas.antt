@@ -9,7 +9,7 @@ use Rattle.c_tree.specs.declared.typed_statement.TypedStmt as stmt
 use Rattle.c_tree.specs.declared.typed_statement.TypedStmt.{TypedStmt}
 use Rattle.c_tree.specs.declared.typed_statement.Choice as choice
 use Rattle.c_tree.specs.declared.typed_statement.Choice.{Choice}
-use Rattle.c_tree.specs.declared.operator.BinaryOp.{BinaryOp}
+use Rattle.c_syntax.specs.declared.operator.BinaryOp.{BinaryOp}
 use Rattle.c_tree.specs.TypedTree.{Choices, no_more, Binary}
 use Rattle.c_tree.specs.View.{expr_of, form_of, argument_list, stmt_of, statement_list, choice_list, choice_before}
 use Rattle.c_tree.proofs.Views.{typed_call_form, block_of_list, switch_of_list}

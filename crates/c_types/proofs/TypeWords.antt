@@ -3,8 +3,8 @@ use Rattle.std.proofs.Common.{◌≡◌, ℕ, ◌+◌, ◌||◌, Bool, true, fal
 use Rattle.std.proofs.Math.Bool.{or-true}
 use Rattle.std.proofs.lemmas.List.Sums.{sum_by-cons}
 use Rattle.std.proofs.lemmas.Bool.Decides.{nat_tests}
-use Rattle.c_tree.specs.declared.syntax.SpecWord.{SpecWord}
-use Rattle.c_tree.specs.declared.syntax.SpecWord.TheVariants.{Static, Void, Char, Short, Int, Signed, Unsigned}
+use Rattle.c_syntax.specs.declared.syntax.SpecWord.{SpecWord}
+use Rattle.c_syntax.specs.declared.syntax.SpecWord.TheVariants.{Static, Void, Char, Short, Int, Signed, Unsigned}
 use Rattle.c_types.specs.Typing.{same_word, has, repeats}
 
 -- how often a word stands there

@@ -12,17 +12,17 @@ use Rattle.c_tree.specs.declared.program.Base.{Base}
 use Rattle.c_tree.specs.declared.program.ScalarType.{ScalarType}
 use Rattle.c_tree.specs.declared.program.VarRef.TheVariants as refs
 use Rattle.c_tree.specs.declared.program.Initial.{Initial}
-use Rattle.c_tree.specs.declared.decl.Param.{Param}
-use Rattle.c_tree.specs.declared.decl.Item.{Item}
-use Rattle.c_tree.specs.declared.decl.Init.{Init}
-use Rattle.c_tree.specs.declared.decl.Init.TheVariants as init
-use Rattle.c_tree.specs.declared.unit.External.{External}
-use Rattle.c_tree.specs.declared.unit.External.TheVariants as externals_of
-use Rattle.c_tree.specs.declared.unit.FunctionDef.{FunctionDef}
-use Rattle.c_tree.specs.declared.decl.Decl.{Decl}
-use Rattle.c_tree.specs.SyntaxTree.{ItemTree, FunctionSyntax, ParameterTree}
+use Rattle.c_syntax.specs.declared.decl.Param.{Param}
+use Rattle.c_syntax.specs.declared.decl.Item.{Item}
+use Rattle.c_syntax.specs.declared.decl.Init.{Init}
+use Rattle.c_syntax.specs.declared.decl.Init.TheVariants as init
+use Rattle.c_syntax.specs.declared.unit.External.{External}
+use Rattle.c_syntax.specs.declared.unit.External.TheVariants as externals_of
+use Rattle.c_syntax.specs.declared.unit.FunctionDef.{FunctionDef}
+use Rattle.c_syntax.specs.declared.decl.Decl.{Decl}
+use Rattle.c_syntax.specs.SyntaxTree.{ItemTree, FunctionSyntax, ParameterTree}
 use Rattle.c_tree.specs.TypedTree.{Kind, Stmt}
-use Rattle.c_tree.specs.SyntaxView.{parameter_of, initial_of, item_of, external_of, unit_of}
+use Rattle.c_syntax.specs.SyntaxView.{parameter_of, initial_of, item_of, external_of, unit_of}
 use Rattle.c_types.specs.declared.declarations.Declared.{Declared}
 use Rattle.c_types.specs.declared.declarations.Declared.TheVariants as declares
 use Rattle.c_types.specs.declared.fault.Rule.{Rule}

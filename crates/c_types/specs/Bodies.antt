@@ -1,12 +1,12 @@
 -- What the rules make of parts of a body, of which so much was read.
 use Rattle.std.specs.Prelude.{ℕ, Bool, ◌||◌, not, List, [], ◌∷◌, map}
-use Rattle.c_tree.specs.SyntaxTree.{DeclarationTree, Expression, Statement, Statements}
-use Rattle.c_tree.specs.SyntaxTree as tree
+use Rattle.c_syntax.specs.SyntaxTree.{DeclarationTree, Expression, Statement, Statements}
+use Rattle.c_syntax.specs.SyntaxTree as tree
 use Rattle.c_tree.specs.TypedTree.{Expr, Stmt, Stmts, Block, Choices, Do_while, If, Switch}
 use Rattle.c_tree.specs.Eval.{kind_of}
 use Rattle.c_tree.specs.View.{choice_before, choice_list, stmt_of}
-use Rattle.c_tree.specs.SyntaxView.{part_before}
-use Rattle.c_tree.specs.declared.stmt.SwitchPart.{SwitchPart}
+use Rattle.c_syntax.specs.SyntaxView.{part_before}
+use Rattle.c_syntax.specs.declared.stmt.SwitchPart.{SwitchPart}
 use Rattle.c_tree.specs.declared.typed_statement.Choice.{Choice}
 use Rattle.c_tree.specs.declared.typed_statement.TypedStmt.{TypedStmt}
 use Rattle.c_types.specs.declared.labels.Labelled as memory

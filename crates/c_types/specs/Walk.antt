@@ -2,8 +2,8 @@
 use Rattle.std.specs.Prelude.{◌||◌, not, List, [], ◌∷◌, ◌++◌, length, is_some, Option, Some, None}
 use Rattle.c_tree.specs.declared.program.Base.{Base}
 use Rattle.c_tree.specs.declared.program.ScalarType.{ScalarType}
-use Rattle.c_tree.specs.SyntaxTree as tree
-use Rattle.c_tree.specs.SyntaxTree.{SpecsTree, InitialTree, ItemTree, FunctionSyntax, ExternalTree, Defined, UnitTree}
+use Rattle.c_syntax.specs.SyntaxTree as tree
+use Rattle.c_syntax.specs.SyntaxTree.{SpecsTree, InitialTree, ItemTree, FunctionSyntax, ExternalTree, Defined, UnitTree}
 use Rattle.c_types.specs.declared.fault.Rule.{Rule}
 use Rattle.c_types.specs.declared.fault.Rule.TheVariants.{Redeclared, Mismatch}
 use Rattle.c_types.specs.declared.local.Naming.TheVariants.{Needed}

@@ -1,6 +1,6 @@
 //! The declarations of blocks: ISO 9899:1990 6.5.4 and 6.6.2. The objects of a function are numbered in order of declaration.
 ghost use Rattle.std.specs.Prelude.{◌≡◌, IfOk, IfErr, OnOk, map, length, is_some};
-ghost use Rattle.c_tree.specs.SyntaxView.{item_of, declaration_of};
+ghost use Rattle.c_syntax.specs.SyntaxView.{item_of, declaration_of};
 ghost use Rattle.c_types.specs.declared.fault.Refusal.TheVariants as refusals;
 ghost use Rattle.c_types.specs.declared.fault.Rule.TheVariants as rule;
 ghost use Rattle.c_types.specs.Answers.{Refuses};
@@ -16,7 +16,8 @@ use crate::local::Local;
 use crate::meaning::{Meaning, ObjectType};
 use crate::scopes::Scopes;
 use crate::type_words::plain;
-use c_tree::{Base, Decl, Item, ScalarType, TypedStmt, VarRef};
+use c_syntax::{Decl, Item};
+use c_tree::{Base, ScalarType, TypedStmt, VarRef};
 use word_base::Text;
 
 /// The body of a function, as far as it is typed.

@@ -2,8 +2,8 @@
 ghost use Rattle.std.specs.Prelude.{◌≡◌, IfOk, IfErr, map};
 ghost use Rattle.c_tree.specs.View.{expr_of};
 ghost use Rattle.c_tree.specs.TypedTree as typed;
-ghost use Rattle.c_tree.specs.SyntaxTree as tree;
-ghost use Rattle.c_tree.specs.SyntaxView.{expression_of, trees_of};
+ghost use Rattle.c_syntax.specs.SyntaxTree as tree;
+ghost use Rattle.c_syntax.specs.SyntaxView.{expression_of, trees_of};
 ghost use Rattle.c_types.specs.Outcome.{Outcome, Is};
 ghost use Rattle.c_types.specs.Answers.{Refuses};
 ghost use Rattle.c_types.specs.Tables.{scope_of};
@@ -16,7 +16,8 @@ use crate::fault::{Refusal, Rule};
 use crate::kinds::{Class, class_of};
 use crate::operands::Operand;
 use crate::scopes::{Scopes, is_in, is_out};
-use c_tree::{Expr, ExprKind, TypedExpr};
+use c_syntax::{Expr, ExprKind};
+use c_tree::TypedExpr;
 
 /// What a call has once its arguments are typed.
 #[derive(Drop)]

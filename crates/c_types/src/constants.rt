@@ -2,13 +2,14 @@
 ghost use Rattle.std.specs.Prelude.{◌≡◌, if◌then◌else◌};
 ghost use Rattle.c_tree.specs.Eval as eval;
 ghost use Rattle.c_tree.specs.Operators as operators;
-ghost use Rattle.c_tree.specs.SyntaxView.{expression_of};
+ghost use Rattle.c_syntax.specs.SyntaxView.{expression_of};
 ghost use Rattle.c_tree.specs.View.{expr_of};
 ghost use Rattle.c_types.specs.Constants as constants;
 
+use c_syntax::{BinaryOp, Expr, ExprKind, UnaryOp};
 use c_tree::{
-    BinaryOp, Expr, ExprForm, ExprKind, ScalarType, TypedExpr, UnaryOp, int_binary, int_unary,
-    is_unsigned, points, truth, unsigned_binary, unsigned_unary, without_sign,
+    ExprForm, ScalarType, TypedExpr, int_binary, int_unary, is_unsigned, points, truth,
+    unsigned_binary, unsigned_unary, without_sign,
 };
 
 /// The word of a constant expression, which is typed as this.

@@ -1,6 +1,6 @@
 //! Declarators and parameters: ISO 9899:1990 6.5.4 and 6.7.1.
 ghost use Rattle.std.specs.Prelude.{◌≡◌, IfOk, IfErr, OnOk, map};
-ghost use Rattle.c_tree.specs.SyntaxView.{expression_of, array_of, brackets_of, parameter_of, parameters_of, item_form_of, initial_of};
+ghost use Rattle.c_syntax.specs.SyntaxView.{expression_of, array_of, brackets_of, parameter_of, parameters_of, item_form_of, initial_of};
 ghost use Rattle.c_types.specs.declared.fault.Refusal.TheVariants as refusals;
 ghost use Rattle.c_types.specs.declared.fault.Rule.TheVariants as rule;
 ghost use Rattle.c_types.specs.Answers.{Refuses};
@@ -15,7 +15,8 @@ use crate::local::Naming;
 use crate::meaning::{FunctionType, Meaning, ObjectType};
 use crate::scopes::Scopes;
 use crate::type_words::plain;
-use c_tree::{Base, Brackets, Expr, Init, Item, ItemKind, Param, Params, ScalarType, VarRef};
+use c_syntax::{Brackets, Expr, Init, Item, ItemKind, Param, Params};
+use c_tree::{Base, ScalarType, VarRef};
 use word_base::{Items, Text};
 
 /// What a declarator declares.

@@ -2,8 +2,8 @@
 ghost use Rattle.std.specs.Prelude.{◌≡◌, IfOk, IfErr, Some};
 ghost use Rattle.c_tree.specs.View.{expr_of};
 ghost use Rattle.c_tree.specs.TypedTree.{Node, Const};
-ghost use Rattle.c_tree.specs.SyntaxTree as tree;
-ghost use Rattle.c_tree.specs.SyntaxView.{expression_of, trees_of, type_of};
+ghost use Rattle.c_syntax.specs.SyntaxTree as tree;
+ghost use Rattle.c_syntax.specs.SyntaxView.{expression_of, trees_of, type_of};
 ghost use Rattle.c_types.specs.declared.fault.Rule.TheVariants as rule;
 ghost use Rattle.c_types.specs.Outcome.{Is, breaks};
 ghost use Rattle.c_types.specs.Answers.{Refuses};
@@ -22,9 +22,8 @@ use crate::type_words::{is_null, type_named};
 use crate::writes::{
     address, assigned, assigned_by, indexed, loaded, not_lvalue, stepped_after, stepped_before,
 };
-use c_tree::{
-    BinaryOp, Expr, ExprForm, ExprKind, PrefixOp, ScalarType, TypeName, TypedExpr, UnaryOp,
-};
+use c_syntax::{BinaryOp, Expr, ExprKind, PrefixOp, TypeName, UnaryOp};
+use c_tree::{ExprForm, ScalarType, TypedExpr};
 use std::alloc::Global;
 
 impl<'a> Scopes<'a> {

@@ -1,7 +1,7 @@
 //! Initialisers: ISO 9899:1990 6.5.7, and the addresses that are known before the program runs: 6.4.
 ghost use Rattle.std.specs.Prelude.{◌≡◌, IfOk, IfErr, OnOk, Some, None, map};
 ghost use Rattle.c_tree.specs.Eval.{kind_of};
-ghost use Rattle.c_tree.specs.SyntaxView.{expression_of, item_form_of, initial_of};
+ghost use Rattle.c_syntax.specs.SyntaxView.{expression_of, item_form_of, initial_of};
 ghost use Rattle.c_tree.specs.View.{expr_of};
 ghost use Rattle.c_types.specs.Answers.{Refuses};
 ghost use Rattle.c_types.specs.Declarations as rules;
@@ -19,10 +19,8 @@ use crate::operands::Operand;
 use crate::renumber::number_in;
 use crate::scopes::Scopes;
 use crate::type_words::is_null;
-use c_tree::{
-    BinaryOp, Expr, ExprForm, ExprKind, Init, Initial, ItemKind, PrefixOp, ScalarType, Target,
-    TargetForm, TypedExpr, TypedStmt, VarRef,
-};
+use c_syntax::{BinaryOp, Expr, ExprKind, Init, ItemKind, PrefixOp};
+use c_tree::{ExprForm, Initial, ScalarType, Target, TargetForm, TypedExpr, TypedStmt, VarRef};
 use std::alloc::Global;
 use word_base::Items;
 

@@ -1,9 +1,9 @@
 //! Laws of typed programs.
 ghost use Rattle.std.specs.Prelude.{◌≡◌, All};
 ghost use Rattle.word_base.specs.Name.{IsName};
-ghost use Rattle.c_tree.specs.Counts.{IsWithinLimits};
-ghost use Rattle.c_tree.specs.FunctionNames.{function_names};
-ghost use Rattle.c_tree.specs.SyntaxTree.{UnitTree};
+ghost use Rattle.c_syntax.specs.Counts.{IsWithinLimits};
+ghost use Rattle.c_syntax.specs.FunctionNames.{function_names};
+ghost use Rattle.c_syntax.specs.SyntaxTree.{UnitTree};
 ghost use Rattle.c_tree.specs.TypedTree.{ProgramTree};
 ghost use Rattle.c_tree.specs.WellFormedProgram.{IsProgram};
 ghost use Rattle.c_types.specs.Checked.{IsTyped};

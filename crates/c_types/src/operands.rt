@@ -14,7 +14,8 @@ ghost use Rattle.c_types.specs.OperandView.{operand_of, pair_of};
 use crate::conversions::{balanced, met};
 use crate::fault::{Refusal, Rule, mismatch};
 use crate::kinds::{Class, INT, UNSIGNED, class_of, same_kind};
-use c_tree::{BinaryOp, ExprForm, ScalarType, TypedExpr, UnaryOp};
+use c_syntax::{BinaryOp, UnaryOp};
+use c_tree::{ExprForm, ScalarType, TypedExpr};
 use std::alloc::Global;
 
 /// An operand, and whether its text is that of a null pointer.

@@ -1,10 +1,10 @@
 //! The check of a whole source, and its typed program.
 ghost use Rattle.std.specs.Prelude.{◌≡◌, map, All, IfOk, IfErr};
 ghost use Rattle.word_base.specs.Name.{IsName};
-ghost use Rattle.c_tree.specs.FunctionNames.{function_names};
+ghost use Rattle.c_syntax.specs.FunctionNames.{function_names};
 ghost use Rattle.c_tree.specs.ProgramView.{program_of};
 ghost use Rattle.c_tree.specs.View.{function_of as function_view, object_of};
-ghost use Rattle.c_tree.specs.SyntaxView.{unit_of};
+ghost use Rattle.c_syntax.specs.SyntaxView.{unit_of};
 ghost use Rattle.c_tree.specs.WellFormedProgram.{IsProgram};
 ghost use Rattle.c_types.specs.Checked.{IsTyped};
 ghost use Rattle.c_types.specs.Faults.{Says};
@@ -16,7 +16,8 @@ use crate::functions::{TypedFunction, function_of};
 use crate::meaning::ObjectType;
 use crate::units::{Contents, File, Static};
 use crate::whole::frames_of;
-use c_tree::{Function, Object, Program, Unit, VarRef};
+use c_syntax::Unit;
+use c_tree::{Function, Object, Program, VarRef};
 use std::alloc::Global;
 use word_base::{Items, NoMemory};
 

@@ -1,6 +1,6 @@
 //! Scopes: ISO 9899:1990 6.1.2.1.
 ghost use Rattle.std.specs.Prelude.{◌≡◌, option_copied, IfErr, OnOk};
-ghost use Rattle.c_tree.specs.SyntaxView.{expression_of};
+ghost use Rattle.c_syntax.specs.SyntaxView.{expression_of};
 ghost use Rattle.c_types.specs.declared.fault.Refusal.TheVariants as refusals;
 ghost use Rattle.c_types.specs.Scopes as rules;
 ghost use Rattle.c_types.specs.Tables.{scope_of, names_of, tables_of, around_of, closed};
@@ -8,7 +8,7 @@ ghost use Rattle.c_types.specs.Typing as typing;
 
 use crate::fault::Refusal;
 use crate::meaning::{Meaning, ObjectType};
-use c_tree::{Expr, ExprKind};
+use c_syntax::{Expr, ExprKind};
 use indexmap::{IndexMap, IndexSet};
 use std::alloc::Global;
 use std::mem;

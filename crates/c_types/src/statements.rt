@@ -1,8 +1,8 @@
 //! The typed trees of statements: ISO 9899:1990 6.6.
 ghost use Rattle.std.specs.Prelude.{◌≡◌, ◌∷◌, true, false, IfOk, IfErr, OnOk, OnErr, map, Some, None, []};
 ghost use Rattle.c_tree.specs.Eval.{kind_of};
-ghost use Rattle.c_tree.specs.SyntaxTree as tree;
-ghost use Rattle.c_tree.specs.SyntaxView.{body_of, declaration_of, expression_of, optional_of, part_before, statement_of};
+ghost use Rattle.c_syntax.specs.SyntaxTree as tree;
+ghost use Rattle.c_syntax.specs.SyntaxView.{body_of, declaration_of, expression_of, optional_of, part_before, statement_of};
 ghost use Rattle.c_tree.specs.TypedTree.{Block, done};
 ghost use Rattle.c_tree.specs.View.{expr_of, option_expr_of, statement_list, stmt_of};
 ghost use Rattle.c_types.specs.declared.fault.Refusal.TheVariants as refusals;
@@ -24,10 +24,8 @@ use crate::conversions::given;
 use crate::fault::{Refusal, Rule, mismatch};
 use crate::labels::{Labelled, switched};
 use crate::operands::Operand;
-use c_tree::{
-    Choice, Decl, Enclosing, Expr, ScalarType, Stmt, StmtKind, SwitchPart, TypedExpr, TypedStmt,
-    points,
-};
+use c_syntax::{Decl, Expr, Stmt, StmtKind, SwitchPart};
+use c_tree::{Choice, Enclosing, ScalarType, TypedExpr, TypedStmt, points};
 use std::alloc::Global;
 
 /// What stands once between the braces of a switch.

@@ -3,12 +3,13 @@
 //! The code of an operator keeps its left operand in one while it evaluates the right one, unless that one is simple.
 ghost use Rattle.std.specs.Prelude.{◌≡◌, ◌+◌, max, IfOk};
 ghost use Rattle.c_tree.specs.TypedTree.{no_more, Binary, Assign, AssignOp};
-ghost use Rattle.c_tree.specs.declared.operator.BinaryOp.{BinaryOp};
+ghost use Rattle.c_syntax.specs.declared.operator.BinaryOp.{BinaryOp};
 ghost use Rattle.c_tree.specs.View.{expr_of, lvalue_of, argument_list, option_expr_of, stmt_of, statement_list, choice_list, choice_before};
 ghost use Rattle.c_types.specs.OperandForms.{constant_form, simple_form};
 ghost use Rattle.c_tree.specs.Temporaries as counts;
 
-use c_tree::{Choice, ExprForm, Target, TargetForm, TypedExpr, TypedStmt, UnaryOp};
+use c_syntax::UnaryOp;
+use c_tree::{Choice, ExprForm, Target, TargetForm, TypedExpr, TypedStmt};
 use word_base::NoMemory;
 
 /// The number of temporaries of a statement.

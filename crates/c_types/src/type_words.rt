@@ -1,13 +1,14 @@
 //! The words of types, and what the text of an expression alone says: ISO 9899:1990 6.5.2 and 6.2.2.3.
 ghost use Rattle.std.specs.Prelude.{◌≡◌, IfOk, IfErr, count_by, nat_lt};
-ghost use Rattle.c_tree.specs.SyntaxView.{expression_of, specs_of, type_of};
+ghost use Rattle.c_syntax.specs.SyntaxView.{expression_of, specs_of, type_of};
 ghost use Rattle.c_types.specs.Answers.{Refuses};
 ghost use Rattle.c_types.specs.Outcome.{Is};
 ghost use Rattle.c_types.specs.Typing as rules;
 
 use crate::fault::{Refusal, Rule};
 use crate::kinds::starred;
-use c_tree::{Base, Expr, ExprKind, ScalarType, SpecWord, Specs, TypeName};
+use c_syntax::{Expr, ExprKind, SpecWord, Specs, TypeName};
+use c_tree::{Base, ScalarType};
 
 fn same_word(a: SpecWord, b: SpecWord) -> bool
     ensures { result ≡ rules.same_word a b }

@@ -1,7 +1,7 @@
 //! Whole sources: ISO 9899:1990 6.7.
 ghost use Rattle.std.specs.Prelude.{◌≡◌, ◌&&◌, ◌||◌, not, ℕ, List, map, length, is_none, is_some, option_copied, IfOk, IfErr, OnOk, unwrap_or, []};
 ghost use Rattle.c_tree.specs.declared.program.VarRef.{VarRef};
-ghost use Rattle.c_tree.specs.SyntaxView.{item_of, function_of, external_of, initial_of, parameter_of, declaration_of, specs_of, unit_of};
+ghost use Rattle.c_syntax.specs.SyntaxView.{item_of, function_of, external_of, initial_of, parameter_of, declaration_of, specs_of, unit_of};
 ghost use Rattle.c_types.specs.Answers.{Refuses};
 ghost use Rattle.c_types.specs.Outcome.{Is, Broken, breaks};
 ghost use Rattle.c_types.specs.declared.fault.Rule.TheVariants as rule;
@@ -26,9 +26,8 @@ use crate::local::{Local, Naming};
 use crate::meaning::{FunctionType, Meaning, ObjectType};
 use crate::scopes::{Scopes, is_in, is_out};
 use crate::type_words::spelled;
-use c_tree::{
-    Base, Decl, External, FunctionDef, Init, Initial, Item, Param, ScalarType, Unit, VarRef,
-};
+use c_syntax::{Decl, External, FunctionDef, Init, Item, Param, Unit};
+use c_tree::{Base, Initial, ScalarType, VarRef};
 use indexmap::IndexSet;
 use std::alloc::Global;
 use word_base::{Items, NoMemory, Text};

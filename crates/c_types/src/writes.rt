@@ -13,7 +13,8 @@ use crate::conversions::given;
 use crate::fault::{Refusal, Rule, mismatch};
 use crate::kinds::{Class, class_of, pointed, pointer_to};
 use crate::operands::{Operand, sum};
-use c_tree::{BinaryOp, ExprForm, Target, TargetForm, TypedExpr};
+use c_syntax::BinaryOp;
+use c_tree::{ExprForm, Target, TargetForm, TypedExpr};
 use std::alloc::Global;
 
 /// No object stands where one is written, at the node that writes.

@@ -1,16 +1,16 @@
 -- A source has at most one fault, but for the place that one of syntax names and for which one of types, and none where it is accepted.
 use Rattle.std.proofs.Common.{◌≡◌, ◌≢◌, ◌∙◌, ℕ, List, refl, sym, ap, subst}
-use Rattle.c_tree.specs.declared.token.Token.{Token}
-use Rattle.c_tree.specs.Lexes.{Lexes}
-use Rattle.c_tree.proofs.OneReading.{one_token_list}
+use Rattle.c_syntax.specs.declared.token.Token.{Token}
+use Rattle.c_syntax.specs.Lexes.{Lexes}
+use Rattle.c_syntax.proofs.OneReading.{one_token_list}
 use Rattle.c_lexer.specs.declared.fault.LexFault.{LexFault}
 use Rattle.c_lexer.specs.declared.fault.LexFault.TheVariants as lex_faults
 use Rattle.c_lexer.specs.LexFaults.{Says}
 use Rattle.c_lexer.proofs.OneAnswer.{says_one, lexes_not_says}
-use Rattle.c_tree.specs.SyntaxTree.{UnitTree}
+use Rattle.c_syntax.specs.SyntaxTree.{UnitTree}
 use Rattle.c_tree.specs.TypedTree.{ProgramTree}
-use Rattle.c_tree.specs.Source.{IsSource, NoSource}
-use Rattle.c_tree.proofs.Rows.UnitOne.{one_source}
+use Rattle.c_syntax.specs.Source.{IsSource, NoSource}
+use Rattle.c_syntax.proofs.Rows.UnitOne.{one_source}
 use Rattle.c_types.specs.declared.fault.TypeFault.{TypeFault}
 use Rattle.cc_driver.specs.Thin.{IsThinProgram}
 use Rattle.cc_driver.specs.SourceFaults.{HasFault, HasNoProgramFor, HasProgram, HasTree, IsTypedWith, IsUntyped, IsTypeFault, IsOfTypes, IsSameFault, of_lex_fault}

@@ -1,6 +1,6 @@
 -- A source with a typed program has no fault of types.
 use Rattle.std.proofs.Common.{◌≢◌}
-use Rattle.c_tree.specs.SyntaxTree.{UnitTree}
+use Rattle.c_syntax.specs.SyntaxTree.{UnitTree}
 use Rattle.c_tree.specs.TypedTree.{ProgramTree}
 use Rattle.c_types.specs.declared.fault.TypeFault.{TypeFault}
 use Rattle.c_types.specs.declared.fault.TypeFault.TheVariants as faults

@@ -1,12 +1,12 @@
 -- Why a source is refused, and the line that says so (docs/COMMANDS.md, "Statuses and lines").
 use Rattle.std.specs.Prelude.{◌≡◌, ◌≢◌, ℕ, List, [], ◌∷◌, ◌++◌, codes, decimal}
-use Rattle.c_tree.specs.declared.token.Token.{Token}
-use Rattle.c_tree.specs.Lexes.{Lexes}
+use Rattle.c_syntax.specs.declared.token.Token.{Token}
+use Rattle.c_syntax.specs.Lexes.{Lexes}
 use Rattle.c_lexer.specs.declared.fault.LexFault.{LexFault}
 use Rattle.c_lexer.specs.declared.fault.LexFault.TheVariants as lex_faults
 use Rattle.c_lexer.specs.LexFaults.{Says}
-use Rattle.c_tree.specs.SyntaxTree.{UnitTree}
-use Rattle.c_tree.specs.Source.{IsSource, NoSource, IsPlace}
+use Rattle.c_syntax.specs.SyntaxTree.{UnitTree}
+use Rattle.c_syntax.specs.Source.{IsSource, NoSource, IsPlace}
 use Rattle.c_parser.specs.declared.fault.ParseFault.{ParseFault}
 use Rattle.c_parser.specs.declared.fault.ParseFault.TheVariants as parse_faults
 use Rattle.c_tree.specs.TypedTree.{ProgramTree}

@@ -1,7 +1,7 @@
 //! The tree of a source as one line, for tests: each node in parentheses, its form first and then its parts.
 //!
 //! Nodes are written from a list of those that are yet to be written, so that no tree is too high for it.
-use c_tree::{
+use c_syntax::{
     BinaryOp, Brackets, Decl, Expr, ExprKind, External, FunctionDef, Init, Item, ItemKind, Param,
     Params, PrefixOp, SpecWord, Specs, Stmt, StmtKind, SwitchPart,
 };

@@ -2,9 +2,10 @@
 //!
 //! Nodes are written from a list of those that are yet to be written, so that no tree is too high for it.
 use crate::tree_text::{assignment_text, binary_text};
+use c_syntax::UnaryOp;
 use c_tree::{
     Base, Choice, ExprForm, Function, Initial, Object, Program, ScalarType, Target, TargetForm,
-    TypedExpr, TypedStmt, UnaryOp, VarRef,
+    TypedExpr, TypedStmt, VarRef,
 };
 use std::alloc::Global;
 use std::test::Fail;

@@ -4,8 +4,8 @@ use Rattle.std.proofs.Common.{◌≡◌, refl}
 use Rattle.word_base.specs.declared.outcome.Ending.TheVariants as ending
 use Rattle.word_base.specs.declared.outcome.Outcome.TheVariants.{Ended}
 use Rattle.c_tree.specs.declared.program.VarRef.TheVariants.{Scalar}
-use Rattle.c_tree.specs.declared.operator.UnaryOp.TheVariants.{Minus, Complement}
-use Rattle.c_tree.specs.declared.operator.BinaryOp.TheVariants as op
+use Rattle.c_syntax.specs.declared.operator.UnaryOp.TheVariants.{Minus, Complement}
+use Rattle.c_syntax.specs.declared.operator.BinaryOp.TheVariants as op
 use Rattle.c_tree.specs.TypedTree.{Named, Const, Read, Unary, Binary, Assign, AssignOp, StepBefore, StepAfter, Out, Convert, Block, Do_expr, Return, done, both, FunctionTree, ProgramTree}
 use Rattle.c_tree.specs.SourceRun.{source_run}
 use Rattle.c_tree.proofs.Examples.Types.{int, unsigned, int_pointer, int_at, unsigned_at, void_at, object, main_with, program, alone, silent}

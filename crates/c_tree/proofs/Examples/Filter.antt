@@ -4,7 +4,7 @@ use Rattle.std.proofs.Common.{◌≡◌, refl}
 use Rattle.word_base.specs.declared.outcome.Ending.TheVariants as ending
 use Rattle.word_base.specs.declared.outcome.Outcome.TheVariants.{Ended}
 use Rattle.c_tree.specs.declared.program.VarRef.TheVariants.{Scalar, Static}
-use Rattle.c_tree.specs.declared.operator.BinaryOp.TheVariants as op
+use Rattle.c_syntax.specs.declared.operator.BinaryOp.TheVariants as op
 use Rattle.c_tree.specs.TypedTree.{Named, At, Const, Read, AddressOf, Load, Binary, Assign, AssignOp, StepAfter, Call, In, Out, none, more, Block, Do_expr, For, Return, done, both, FunctionTree, ProgramTree}
 use Rattle.c_tree.specs.SourceRun.{source_run}
 use Rattle.c_tree.proofs.Examples.Types.{int, int_pointer, int_at, pointer_at, void_at, words, object, function, main_with, program, on_port_0}

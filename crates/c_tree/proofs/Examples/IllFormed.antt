@@ -8,8 +8,8 @@ use Rattle.c_tree.specs.declared.enclosing.Enclosing.TheVariants as around
 use Rattle.c_tree.specs.declared.program.VarRef.{VarRef}
 use Rattle.c_tree.specs.declared.program.VarRef.TheVariants.{Scalar, Local, Static}
 use Rattle.c_tree.specs.declared.program.Initial.TheVariants as initial
-use Rattle.c_tree.specs.declared.operator.BinaryOp.{BinaryOp}
-use Rattle.c_tree.specs.declared.operator.BinaryOp.TheVariants as op
+use Rattle.c_syntax.specs.declared.operator.BinaryOp.{BinaryOp}
+use Rattle.c_syntax.specs.declared.operator.BinaryOp.TheVariants as op
 use Rattle.c_tree.specs.TypedTree.{Kind, Expr, Node, Exprs, Stmt, Choices, Named, Const, Read, AddressOf, Binary, Assign, AssignOp, Call, Out, none, more, Block, Fill, Do_expr, While, Switch, Break, Continue, Return, done, both, no_more, case, default, body, ObjectTree, FunctionTree, ProgramTree}
 use Rattle.c_tree.specs.Store.{is_pointer}
 use Rattle.c_tree.specs.Kinds.{IsInteger, IsPointer}

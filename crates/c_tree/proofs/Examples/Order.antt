@@ -5,7 +5,7 @@ use Rattle.word_base.specs.declared.outcome.UndefinedKind.TheVariants.{NoValue}
 use Rattle.word_base.specs.declared.outcome.Ending.TheVariants as ending
 use Rattle.word_base.specs.declared.outcome.Outcome.TheVariants.{Ended, Undefined}
 use Rattle.c_tree.specs.declared.program.VarRef.TheVariants.{Scalar, Local, Static}
-use Rattle.c_tree.specs.declared.operator.BinaryOp.TheVariants as op
+use Rattle.c_syntax.specs.declared.operator.BinaryOp.TheVariants as op
 use Rattle.c_tree.specs.TypedTree.{Named, At, Const, Read, AddressOf, Load, Binary, And, Or, Pick, Assign, AssignOp, StepAfter, Call, In, Out, Comma, Convert, none, more, Block, Do_expr, For, Return, done, both, FunctionTree, ProgramTree}
 use Rattle.c_tree.specs.SourceRun.{source_run}
 use Rattle.c_tree.proofs.Examples.Types.{int, int_pointer, int_at, unsigned_at, pointer_at, void_at, object, function, main_with, program, silent, on_port_0}

@@ -5,8 +5,8 @@ use Rattle.word_base.specs.declared.outcome.Ending.TheVariants as ending
 use Rattle.word_base.specs.declared.outcome.Outcome.TheVariants.{Ended}
 use Rattle.c_tree.specs.declared.program.VarRef.TheVariants.{Scalar, Local, Static}
 use Rattle.c_tree.specs.declared.program.Initial.TheVariants as initial
-use Rattle.c_tree.specs.declared.operator.UnaryOp.TheVariants.{Minus}
-use Rattle.c_tree.specs.declared.operator.BinaryOp.TheVariants as op
+use Rattle.c_syntax.specs.declared.operator.UnaryOp.TheVariants.{Minus}
+use Rattle.c_syntax.specs.declared.operator.BinaryOp.TheVariants as op
 use Rattle.c_tree.specs.TypedTree.{Named, At, Const, Read, AddressOf, Load, Unary, Binary, Not, Pick, Assign, AssignOp, StepBefore, StepAfter, Out, Convert, Block, Fill, Do_expr, If, For, Return, done, both, FunctionTree, ProgramTree}
 use Rattle.c_tree.specs.SourceRun.{source_run}
 use Rattle.c_tree.proofs.Examples.Types.{int, int_pointer, int_pointer_pointer, void_pointer, int_at, pointer_at, pointer_pointer_at, void_pointer_at, void_at, words, object, main_with, program, alone, silent}

@@ -4,7 +4,7 @@ use Rattle.std.proofs.Common.{◌≡◌, refl}
 use Rattle.word_base.specs.declared.outcome.Ending.TheVariants as ending
 use Rattle.word_base.specs.declared.outcome.Outcome.TheVariants.{Ended, More}
 use Rattle.c_tree.specs.declared.program.VarRef.TheVariants.{Scalar}
-use Rattle.c_tree.specs.declared.operator.BinaryOp.TheVariants as op
+use Rattle.c_syntax.specs.declared.operator.BinaryOp.TheVariants as op
 use Rattle.c_tree.specs.TypedTree.{Named, Const, Read, Binary, Assign, StepAfter, Call, In, Out, Comma, none, more, Block, Do_expr, If, While, Do_while, For, Switch, Break, Continue, Return, done, both, no_more, case, default, body, FunctionTree, ProgramTree}
 use Rattle.c_tree.specs.SourceRun.{source_run}
 use Rattle.c_tree.proofs.Examples.Types.{int, int_at, void_at, function, main_with, program, alone, silent, on_port_0}

@@ -4,8 +4,8 @@ use Rattle.std.proofs.Common.{◌≡◌, refl}
 use Rattle.word_base.specs.declared.outcome.UndefinedKind.TheVariants.{Overflow, DivideByZero, ShiftCount, Indeterminate, BadPointer}
 use Rattle.word_base.specs.declared.outcome.Outcome.TheVariants.{Undefined}
 use Rattle.c_tree.specs.declared.program.VarRef.TheVariants.{Scalar, Local, Static}
-use Rattle.c_tree.specs.declared.operator.UnaryOp.TheVariants.{Minus}
-use Rattle.c_tree.specs.declared.operator.BinaryOp.TheVariants as op
+use Rattle.c_syntax.specs.declared.operator.UnaryOp.TheVariants.{Minus}
+use Rattle.c_syntax.specs.declared.operator.BinaryOp.TheVariants as op
 use Rattle.c_tree.specs.TypedTree.{Named, At, Const, Read, AddressOf, Load, Unary, Binary, Not, Assign, AssignOp, StepBefore, StepAfter, Call, Out, Comma, Convert, none, more, Block, Do_expr, If, For, Return, done, both, FunctionTree, ProgramTree}
 use Rattle.c_tree.specs.SourceRun.{source_run}
 use Rattle.c_tree.proofs.Examples.Types.{int, unsigned, int_pointer, void_pointer, int_at, unsigned_at, pointer_at, pointer_pointer_at, void_pointer_at, void_at, object, function, main_with, program, alone, silent}

@@ -12,8 +12,8 @@ use Rattle.std.proofs.lemmas.List.Quantifiers.{all_pairs_push}
 use Rattle.std.proofs.lemmas.List.Sums.{passes_at_first}
 use Rattle.std.proofs.lemmas.Option.{slice_get-map, slice_get_within, get_or_from_slice_get}
 use Rattle.std.proofs.lemmas.Slice.Eq.{bytes_eq-Decides}
-use Rattle.c_tree.specs.SyntaxTree as tree
-use Rattle.c_tree.specs.SyntaxTree.{FunctionSyntax, Defined, UnitTree}
+use Rattle.c_syntax.specs.SyntaxTree as tree
+use Rattle.c_syntax.specs.SyntaxTree.{FunctionSyntax, Defined, UnitTree}
 use Rattle.c_types.specs.Units.{TypedFunction, is_among, bodies_behind}
 use Rattle.c_types.proofs.Formed.FileSoFar.{function_names}
 

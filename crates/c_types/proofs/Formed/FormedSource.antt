@@ -3,14 +3,14 @@ use Rattle.std.proofs.Common.{◌≡◌, ◌∙◌, List, map, ap, sym, subst}
 use Rattle.std.specs.Prelude.{All, Vec}
 use Rattle.std.specs.Global.{Global}
 use Rattle.word_base.specs.Name.{IsName}
-use Rattle.c_tree.specs.Counts.{IsWithinLimits}
-use Rattle.c_tree.specs.FunctionNames.{function_names}
-use Rattle.c_tree.specs.SyntaxTree.{UnitTree}
-use Rattle.c_tree.specs.SyntaxView.{unit_of}
+use Rattle.c_syntax.specs.Counts.{IsWithinLimits}
+use Rattle.c_syntax.specs.FunctionNames.{function_names}
+use Rattle.c_syntax.specs.SyntaxTree.{UnitTree}
+use Rattle.c_syntax.specs.SyntaxView.{unit_of}
 use Rattle.c_tree.specs.TypedTree.{ProgramTree}
 use Rattle.c_tree.specs.WellFormedProgram.{IsProgram}
 use Rattle.c_tree.specs.declared.program.VarRef.{VarRef}
-use Rattle.c_tree.specs.declared.unit.External.{External}
+use Rattle.c_syntax.specs.declared.unit.External.{External}
 use Rattle.c_types.specs.declared.functions.TypedFunction as memory
 use Rattle.c_types.specs.declared.units.Contents.{Contents}
 use Rattle.c_types.specs.declared.units.File as files

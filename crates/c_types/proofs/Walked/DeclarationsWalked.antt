@@ -3,8 +3,8 @@ use Rattle.std.proofs.Common.{ℕ, Bool, true, false, List, [], ◌∷◌, lengt
 use Rattle.c_tree.specs.declared.program.Base.{Base}
 use Rattle.c_tree.specs.declared.program.VarRef.{VarRef}
 use Rattle.c_tree.specs.declared.program.VarRef.TheVariants as refs
-use Rattle.c_tree.specs.SyntaxTree as tree
-use Rattle.c_tree.specs.SyntaxTree.{Expression, ArrayMark, ParameterTree, ItemForm, InitialTree, ItemTree, DeclarationTree}
+use Rattle.c_syntax.specs.SyntaxTree as tree
+use Rattle.c_syntax.specs.SyntaxTree.{Expression, ArrayMark, ParameterTree, ItemForm, InitialTree, ItemTree, DeclarationTree}
 use Rattle.c_types.specs.declared.fault.Rule.TheVariants.{Redeclared, NotConstant}
 use Rattle.c_types.specs.declared.local.Naming.{Naming}
 use Rattle.c_types.specs.declared.local.Naming.TheVariants.{Free}

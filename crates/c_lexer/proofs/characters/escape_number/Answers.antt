@@ -1,5 +1,5 @@
 use Rattle.std.proofs.Common.{arith, ◌≡◌, ◌<◌, ◌∙◌}
-use Rattle.c_tree.specs.Constants.{number_of}
+use Rattle.c_syntax.specs.Constants.{number_of}
 use Rattle.c_lexer.proofs.CharacterLemmas.{number_below, kept_whole}
 use Rattle.c_lexer.proofs.characters.escape_number.Goals as goal
 

@@ -1,4 +1,4 @@
-use Rattle.c_tree.specs.Constants.{OctalEscape}
+use Rattle.c_syntax.specs.Constants.{OctalEscape}
 use Rattle.c_lexer.proofs.CharacterLemmas.{hex_item, sign_item}
 use Rattle.c_lexer.proofs.characters.item_value.Goals as goal
 

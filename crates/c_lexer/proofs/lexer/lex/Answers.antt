@@ -1,8 +1,8 @@
 use Rattle.std.proofs.Common.{rules, subst, ◌≡◌, length}
 use Rattle.std.proofs.lemmas.Result.{err_from_is_err_and}
 use Rattle.std.proofs.lemmas.List.{nil_from_length}
-use Rattle.c_tree.specs.Lexes.{Lexes, ReadsTo}
-use Rattle.c_tree.proofs.OneReading.{one_token_list}
+use Rattle.c_syntax.specs.Lexes.{Lexes, ReadsTo}
+use Rattle.c_syntax.proofs.OneReading.{one_token_list}
 use Rattle.c_lexer.proofs.OneAnswer.{lexes_not_says, says_one}
 use Rattle.c_lexer.proofs.LexerLemmas.{reads_past_blank, memory_alone}
 use Rattle.c_lexer.proofs.lexer.lex.Goals as goal

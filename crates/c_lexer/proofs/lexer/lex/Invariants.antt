@@ -1,5 +1,5 @@
 use Rattle.std.proofs.Common.{length, ◌≤◌}
-use Rattle.c_tree.specs.Lexes.{ReadsTo, most_tokens}
+use Rattle.c_syntax.specs.Lexes.{ReadsTo, most_tokens}
 use Rattle.c_lexer.proofs.lexer.lex.Given as goal
 
 abbrev pub invariant-loop-rest : goal.invariant-loop-rest

@@ -1,5 +1,5 @@
 use Rattle.std.proofs.Common.{rules, sym, subst, ap, ◌≡◌, ◌∙◌, ◌∷◌, [], ◌++◌, length}
-use Rattle.c_tree.specs.Lexes.{ReadsTo, most_tokens}
+use Rattle.c_syntax.specs.Lexes.{ReadsTo, most_tokens}
 use Rattle.c_lexer.proofs.LexerLemmas.{token_at, reads_past_token, too_many}
 use Rattle.c_lexer.proofs.lexer.push_token.Goals as goal
 

@@ -1,5 +1,5 @@
 use Rattle.std.proofs.Common.{◌≡◌, ◌+◌, ◌++◌, ◌∷◌, [], min, sym, ap, ◌∙◌, rules}
-use Rattle.c_tree.specs.Source.{end_of}
+use Rattle.c_syntax.specs.Source.{end_of}
 use Rattle.c_parser.proofs.Places.{end_last}
 use Rattle.c_parser.proofs.units.end.Goals as goal
 

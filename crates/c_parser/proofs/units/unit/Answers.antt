@@ -1,8 +1,8 @@
 use Rattle.std.proofs.Common.{◌≡◌, length, map, rules, arith}
-use Rattle.c_tree.specs.Derives.{DerivesUnit, LastExternal}
-use Rattle.c_tree.specs.Measures.{external_height}
-use Rattle.c_tree.specs.SyntaxView.{external_of, unit_of}
-use Rattle.c_tree.proofs.Weights.Statements.{within_limits}
+use Rattle.c_syntax.specs.Derives.{DerivesUnit, LastExternal}
+use Rattle.c_syntax.specs.Measures.{external_height}
+use Rattle.c_syntax.specs.SyntaxView.{external_of, unit_of}
+use Rattle.c_syntax.proofs.Weights.Statements.{within_limits}
 use Rattle.c_parser.proofs.FrontLemmas.{first_fails, fails_as, fails_on, leads_from, leads_further}
 use Rattle.c_parser.proofs.Refusals.{passed_on}
 use Rattle.c_parser.proofs.TakesLemmas.{mapped}

@@ -1,4 +1,4 @@
-use Rattle.c_tree.specs.SyntaxView.{unit_of}
+use Rattle.c_syntax.specs.SyntaxView.{unit_of}
 use Rattle.c_tree.specs.ProgramView.{program_of}
 use Rattle.std.proofs.Common.{subst}
 use Rattle.c_types.specs.Answers.{Refuses}

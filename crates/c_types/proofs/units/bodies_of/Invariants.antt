@@ -1,5 +1,5 @@
 use Rattle.std.proofs.Common.{◌≡◌, [], drop}
-use Rattle.c_tree.specs.SyntaxView.{unit_of}
+use Rattle.c_syntax.specs.SyntaxView.{unit_of}
 use Rattle.c_types.specs.Tables.{names_of}
 use Rattle.c_types.specs.Units.{bodies_behind}
 use Rattle.c_types.proofs.units.bodies_of.Given as goal

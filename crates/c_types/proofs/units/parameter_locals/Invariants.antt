@@ -1,5 +1,5 @@
 use Rattle.std.proofs.Common.{◌≡◌, ◌++◌, map, drop}
-use Rattle.c_tree.specs.SyntaxView.{parameter_of}
+use Rattle.c_syntax.specs.SyntaxView.{parameter_of}
 use Rattle.c_types.specs.Units.{parameter_locals}
 use Rattle.c_types.specs.View.{local_tree_of}
 use Rattle.c_types.proofs.units.parameter_locals.Given as goal

@@ -1,7 +1,7 @@
 use Rattle.std.proofs.Common.{subst}
-use Rattle.c_tree.specs.Source.{IsSource}
-use Rattle.c_tree.specs.SyntaxView.{unit_of}
-use Rattle.c_tree.proofs.NamedFunctions.{all_named}
+use Rattle.c_syntax.specs.Source.{IsSource}
+use Rattle.c_syntax.specs.SyntaxView.{unit_of}
+use Rattle.c_syntax.proofs.NamedFunctions.{all_named}
 use Rattle.cc_driver.proofs.front.typed_program.Goals as goal
 
 pub check-requires : goal.check-requires

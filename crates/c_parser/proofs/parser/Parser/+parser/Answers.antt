@@ -1,8 +1,8 @@
 use Rattle.std.proofs.Common.{rules, ◌≡◌, ◌≢◌, true, Some, None, sym, arith, subst, ◌+◌, ◌<◌, false, length, refl, ap, ◌∙◌}
 use Rattle.std.proofs.lemmas.Result.{IfOk-weaker}
-use Rattle.c_tree.specs.Grammar.{ExpressionRow, CastRow, UnaryRow}
-use Rattle.c_tree.specs.declared.token.Punct.TheVariants as mark
-use Rattle.c_tree.specs.Lookahead.{next_of, going_of, Stops}
+use Rattle.c_syntax.specs.Grammar.{ExpressionRow, CastRow, UnaryRow}
+use Rattle.c_syntax.specs.declared.token.Punct.TheVariants as mark
+use Rattle.c_syntax.specs.Lookahead.{next_of, going_of, Stops}
 use Rattle.c_parser.specs.Front.{mark_at, opens_type, behind, word_at, name_at}
 use Rattle.c_parser.specs.Operators.{next_assignment, level_row, row_at, step_at, prefix_at}
 use Rattle.c_parser.proofs.Refusals.{refuses_all, passed_on, known_to, goes_out, known_so, memory_alone}
@@ -10,14 +10,14 @@ use Rattle.c_parser.proofs.Rows.{assignment_more, conditional_more, assignment_d
 use Rattle.c_parser.proofs.RowsRefuse.{expression_first_refused, expression_read, expression_refused, more_begins, commas_done, comma_too_high, comma_refused, comma_more, assignment_first_refused, assignment_read, assignment_refused, not_assigned_to, assignment_too_high, assigned_refused, conditional_first_refused, conditional_read, conditional_refused, conditional_too_high, chosen_refused, no_colon, other_refused, more_done, level_more, operator_too_high, operand_refused, cast_tightest, is_looser, looser_refused, level_read, level_refused, cast_passes, cast_starts, cast_first_refused, cast_start_refused, cast_too_high, cast_not_closed, cast_operand_refused}
 use Rattle.c_parser.proofs.parser.Parser.+parser.Goals as goal
 use Rattle.c_parser.specs.Parses.{IsParsed, IsNode}
-use Rattle.c_tree.specs.SyntaxView.{trees_of}
-use Rattle.c_tree.specs.Measures.{greatest_height}
+use Rattle.c_syntax.specs.SyntaxView.{trees_of}
+use Rattle.c_syntax.specs.Measures.{greatest_height}
 use Rattle.c_parser.proofs.Firsts.{cast_parsed, constant_operand, name_operand, call_operand, step_parsed, prefix_parsed, size_parsed, size_type_parsed, unary_starts, unary_passes}
-use Rattle.c_tree.specs.declared.token.Keyword.TheVariants as keyword
-use Rattle.c_tree.specs.SyntaxTree.{Node, Name, Call, SizeofType}
-use Rattle.c_tree.specs.SyntaxView.{type_of}
+use Rattle.c_syntax.specs.declared.token.Keyword.TheVariants as keyword
+use Rattle.c_syntax.specs.SyntaxTree.{Node, Name, Call, SizeofType}
+use Rattle.c_syntax.specs.SyntaxView.{type_of}
 use Rattle.c_parser.proofs.Parens.{opened_length, parens_begin, parens_fewer, parens_measured, parens_more, parens_close}
-use Rattle.c_tree.proofs.Views.{call_form}
+use Rattle.c_syntax.proofs.Views.{call_form}
 use Rattle.c_parser.proofs.Arguments.{arguments_begin, arguments_none, arguments_done, arguments_more}
 use Rattle.c_parser.proofs.OperandsRefuse.{part_too_high, part_refused, step_part, prefix_part, size_part, size_too_high, size_type_refused, index_too_high, index_refused, index_not_closed, behind_refused, unary_start_refused, unary_no_operand, unary_none_behind, cast_no_operand, other_no_operand, named_not, call_refused, arguments_too_high, argument_refused, arguments_not_closed, parens_refused, parens_not_closed, parens_behind_refused}
 use Rattle.c_parser.proofs.Words.{behind_shorter}

@@ -1,8 +1,8 @@
 use Rattle.std.proofs.Common.{◌+◌, ◌*◌, length, ◌-◌}
-use Rattle.c_tree.specs.Grammar.{ExpressionRow}
+use Rattle.c_syntax.specs.Grammar.{ExpressionRow}
 use Rattle.c_parser.proofs.RowsRefuse.{MoreSoFar, LevelsSoFar}
 use Rattle.c_parser.proofs.parser.Parser.+parser.Given as goal
-use Rattle.c_tree.specs.Lookahead.{row_rank}
+use Rattle.c_syntax.specs.Lookahead.{row_rank}
 use Rattle.c_parser.specs.Operators.{level_row, row_at}
 use Rattle.c_parser.proofs.Rows.{BehindSoFar}
 use Rattle.c_parser.proofs.Arguments.{ArgumentsSoFar}

@@ -1,7 +1,7 @@
 use Rattle.std.proofs.Common.{◌≡◌, ◌+◌, ◌*◌, ◌≤◌, max, length, map}
-use Rattle.c_tree.specs.Derives.{DerivesDeclarations, DerivesStatements, DerivesChoices}
-use Rattle.c_tree.specs.Measures.{greatest, declaration_height, statements_height, choices_height}
-use Rattle.c_tree.specs.SyntaxView.{declaration_of, body_of}
+use Rattle.c_syntax.specs.Derives.{DerivesDeclarations, DerivesStatements, DerivesChoices}
+use Rattle.c_syntax.specs.Measures.{greatest, declaration_height, statements_height, choices_height}
+use Rattle.c_syntax.specs.SyntaxView.{declaration_of, body_of}
 use Rattle.c_parser.specs.Takes.{Takes, Both}
 use Rattle.c_parser.specs.StatementRows.{parts_of}
 use Rattle.c_parser.specs.StatementFronts.{PartsFront, StatementsFront, BodyFront}

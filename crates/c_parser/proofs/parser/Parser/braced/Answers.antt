@@ -1,5 +1,5 @@
 use Rattle.std.proofs.Common.{arith}
-use Rattle.c_tree.specs.declared.token.Punct.TheVariants as mark
+use Rattle.c_syntax.specs.declared.token.Punct.TheVariants as mark
 use Rattle.c_parser.proofs.DeclarationRows.{braced_taken}
 use Rattle.c_parser.proofs.FrontLemmas.{first_fails, second_fails, both_lead, one_leads, mark_fails}
 use Rattle.c_parser.proofs.Refusals.{passed_on, known_to}

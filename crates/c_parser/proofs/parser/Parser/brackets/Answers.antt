@@ -1,5 +1,5 @@
-use Rattle.c_tree.specs.declared.token.Punct.TheVariants as mark
-use Rattle.c_tree.specs.SyntaxView.{brackets_of}
+use Rattle.c_syntax.specs.declared.token.Punct.TheVariants as mark
+use Rattle.c_syntax.specs.SyntaxView.{brackets_of}
 use Rattle.c_parser.proofs.TakesLemmas.{mark_taken}
 use Rattle.c_parser.proofs.DeclarationRows.{array_taken}
 use Rattle.c_parser.proofs.FrontLemmas.{first_fails, second_fails, both_lead, fails_as, leads_as, one_leads, mark_fails}

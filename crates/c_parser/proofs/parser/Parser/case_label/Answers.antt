@@ -1,7 +1,7 @@
 use Rattle.std.proofs.Common.{arith}
-use Rattle.c_tree.specs.declared.token.Punct.TheVariants as mark
-use Rattle.c_tree.specs.declared.token.Keyword.TheVariants as keyword
-use Rattle.c_tree.specs.SyntaxView.{expression_of}
+use Rattle.c_syntax.specs.declared.token.Punct.TheVariants as mark
+use Rattle.c_syntax.specs.declared.token.Keyword.TheVariants as keyword
+use Rattle.c_syntax.specs.SyntaxView.{expression_of}
 use Rattle.c_parser.proofs.TakesLemmas.{mapped, joined, mark_taken, word_taken}
 use Rattle.c_parser.proofs.StatementRows.{case_row}
 use Rattle.c_parser.proofs.FrontLemmas.{first_fails, second_fails, second_never, both_lead, one_leads, mark_fails, word_fails}

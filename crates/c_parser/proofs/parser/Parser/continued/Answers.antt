@@ -1,8 +1,8 @@
 use Rattle.std.proofs.Common.{arith}
-use Rattle.c_tree.specs.declared.token.Punct.TheVariants as mark
-use Rattle.c_tree.specs.declared.token.Keyword.TheVariants as keyword
-use Rattle.c_tree.specs.SyntaxTree.{Continue}
-use Rattle.c_tree.specs.Derives.{Closed}
+use Rattle.c_syntax.specs.declared.token.Punct.TheVariants as mark
+use Rattle.c_syntax.specs.declared.token.Keyword.TheVariants as keyword
+use Rattle.c_syntax.specs.SyntaxTree.{Continue}
+use Rattle.c_syntax.specs.Derives.{Closed}
 use Rattle.c_parser.proofs.TakesLemmas.{joined, mark_taken, word_taken, one_fewer}
 use Rattle.c_parser.proofs.StatementRows.{stated, continue_row}
 use Rattle.c_parser.proofs.FrontLemmas.{second_fails, fails_as, one_leads, mark_fails}

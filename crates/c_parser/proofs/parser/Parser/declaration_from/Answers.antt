@@ -1,7 +1,7 @@
 use Rattle.std.proofs.Common.{map, refl}
-use Rattle.c_tree.specs.declared.token.Punct.TheVariants as mark
-use Rattle.c_tree.specs.SyntaxTree.{DeclarationTree}
-use Rattle.c_tree.specs.SyntaxView.{specs_of, item_of}
+use Rattle.c_syntax.specs.declared.token.Punct.TheVariants as mark
+use Rattle.c_syntax.specs.SyntaxTree.{DeclarationTree}
+use Rattle.c_syntax.specs.SyntaxView.{specs_of, item_of}
 use Rattle.c_parser.proofs.DeclarationRows.{declaration_behind}
 use Rattle.c_parser.proofs.FrontLemmas.{first_fails, second_fails, mark_fails}
 use Rattle.c_parser.proofs.Refusals.{passed_on, known_to}

@@ -1,7 +1,7 @@
 use Rattle.std.proofs.Common.{refl, arith}
-use Rattle.c_tree.specs.Derives.{DerivesDeclarations, NoDeclaration}
-use Rattle.c_tree.specs.Measures.{declaration_height}
-use Rattle.c_tree.specs.SyntaxView.{declaration_of}
+use Rattle.c_syntax.specs.Derives.{DerivesDeclarations, NoDeclaration}
+use Rattle.c_syntax.specs.Measures.{declaration_height}
+use Rattle.c_syntax.specs.SyntaxView.{declaration_of}
 use Rattle.c_parser.proofs.TakesLemmas.{nothing}
 use Rattle.c_parser.proofs.Lists.{grown, height_grown, with_next, declarations_more}
 use Rattle.c_parser.proofs.FrontLemmas.{first_fails, fails_as, leads_on, leads_further, fails_on, only_on}

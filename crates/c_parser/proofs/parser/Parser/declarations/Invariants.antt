@@ -1,7 +1,7 @@
 use Rattle.std.proofs.Common.{◌≡◌, ◌+◌, ◌≤◌, length, map}
-use Rattle.c_tree.specs.Derives.{DerivesDeclarations}
-use Rattle.c_tree.specs.Measures.{greatest, declaration_height}
-use Rattle.c_tree.specs.SyntaxView.{declaration_of}
+use Rattle.c_syntax.specs.Derives.{DerivesDeclarations}
+use Rattle.c_syntax.specs.Measures.{greatest, declaration_height}
+use Rattle.c_syntax.specs.SyntaxView.{declaration_of}
 use Rattle.c_parser.specs.Takes.{Takes}
 use Rattle.c_parser.specs.StatementFronts.{DeclarationsFront}
 use Rattle.c_parser.proofs.FrontLemmas.{LeadsOn}

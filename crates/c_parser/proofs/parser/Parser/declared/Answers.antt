@@ -1,4 +1,4 @@
-use Rattle.c_tree.specs.SyntaxView.{specs_of, item_form_of, item_of, declaration_of}
+use Rattle.c_syntax.specs.SyntaxView.{specs_of, item_form_of, item_of, declaration_of}
 use Rattle.c_parser.proofs.FrontLemmas.{first_fails, second_fails}
 use Rattle.c_parser.proofs.Refusals.{passed_on}
 use Rattle.c_parser.proofs.UnitTaken.{declared_taken}

@@ -1,5 +1,5 @@
-use Rattle.c_tree.specs.declared.token.Punct.TheVariants as mark
-use Rattle.c_tree.specs.declared.token.Keyword.TheVariants as keyword
+use Rattle.c_syntax.specs.declared.token.Punct.TheVariants as mark
+use Rattle.c_syntax.specs.declared.token.Keyword.TheVariants as keyword
 use Rattle.c_parser.proofs.TakesLemmas.{joined, mark_taken, word_taken}
 use Rattle.c_parser.proofs.FrontLemmas.{first_fails, second_fails, fails_as, one_leads, mark_fails, word_fails}
 use Rattle.c_parser.proofs.Refusals.{passed_on, known_to}

@@ -1,7 +1,7 @@
 use Rattle.std.proofs.Common.{arith}
-use Rattle.c_tree.specs.declared.token.Punct.TheVariants as mark
-use Rattle.c_tree.specs.SyntaxTree.{Empty}
-use Rattle.c_tree.specs.Derives.{Closed}
+use Rattle.c_syntax.specs.declared.token.Punct.TheVariants as mark
+use Rattle.c_syntax.specs.SyntaxTree.{Empty}
+use Rattle.c_syntax.specs.Derives.{Closed}
 use Rattle.c_parser.proofs.TakesLemmas.{mark_taken, one_fewer}
 use Rattle.c_parser.proofs.StatementRows.{stated, empty_row}
 use Rattle.c_parser.proofs.parser.Parser.empty.Goals as goal

@@ -1,8 +1,8 @@
 use Rattle.std.proofs.Common.{arith}
-use Rattle.c_tree.specs.declared.token.Punct.TheVariants as mark
-use Rattle.c_tree.specs.SyntaxTree.{Evaluate}
-use Rattle.c_tree.specs.Derives.{Closed}
-use Rattle.c_tree.specs.SyntaxView.{expression_of}
+use Rattle.c_syntax.specs.declared.token.Punct.TheVariants as mark
+use Rattle.c_syntax.specs.SyntaxTree.{Evaluate}
+use Rattle.c_syntax.specs.Derives.{Closed}
+use Rattle.c_syntax.specs.SyntaxView.{expression_of}
 use Rattle.c_parser.proofs.TakesLemmas.{joined, mark_taken, one_fewer}
 use Rattle.c_parser.proofs.StatementRows.{stated, evaluate_row}
 use Rattle.c_parser.proofs.FrontLemmas.{first_fails, second_fails, fails_as, mark_fails}

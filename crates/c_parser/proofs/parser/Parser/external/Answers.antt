@@ -1,7 +1,7 @@
 use Rattle.std.proofs.Common.{◌≡◌, ◌≢◌, Some, rules, arith}
-use Rattle.c_tree.specs.declared.token.Punct.TheVariants as mark
-use Rattle.c_tree.specs.SyntaxTree.{Parameters}
-use Rattle.c_tree.specs.SyntaxView.{specs_of, parameters_of, item_form_of}
+use Rattle.c_syntax.specs.declared.token.Punct.TheVariants as mark
+use Rattle.c_syntax.specs.SyntaxTree.{Parameters}
+use Rattle.c_syntax.specs.SyntaxView.{specs_of, parameters_of, item_form_of}
 use Rattle.c_parser.specs.Front.{mark_at}
 use Rattle.c_parser.proofs.FrontLemmas.{first_fails, second_fails, fails_as, taken_leads}
 use Rattle.c_parser.proofs.Refusals.{passed_on, known_to, goes_out}

@@ -1,7 +1,7 @@
 use Rattle.std.proofs.Common.{refl, map}
-use Rattle.c_tree.specs.declared.token.Punct.TheVariants as mark
-use Rattle.c_tree.specs.SyntaxTree.{FunctionSyntax}
-use Rattle.c_tree.specs.SyntaxView.{specs_of, parameters_of, declaration_of, body_of}
+use Rattle.c_syntax.specs.declared.token.Punct.TheVariants as mark
+use Rattle.c_syntax.specs.SyntaxTree.{FunctionSyntax}
+use Rattle.c_syntax.specs.SyntaxView.{specs_of, parameters_of, declaration_of, body_of}
 use Rattle.c_parser.proofs.FrontLemmas.{first_fails, second_fails, one_leads, mark_fails}
 use Rattle.c_parser.proofs.Refusals.{passed_on, known_to}
 use Rattle.c_parser.proofs.TakesLemmas.{mark_taken}

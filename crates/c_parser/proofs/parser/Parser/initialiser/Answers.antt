@@ -1,5 +1,5 @@
 use Rattle.std.proofs.Common.{arith}
-use Rattle.c_tree.specs.Derives.{OneRule}
+use Rattle.c_syntax.specs.Derives.{OneRule}
 use Rattle.c_parser.proofs.DeclarationRows.{initial_taken}
 use Rattle.c_parser.proofs.FrontLemmas.{second_fails, both_lead, fails_as, leads_as, one_leads, only_stays}
 use Rattle.c_parser.proofs.Refusals.{passed_on, known_to}

@@ -1,5 +1,5 @@
 use Rattle.std.proofs.Common.{arith}
-use Rattle.c_tree.specs.SyntaxView.{item_form_of}
+use Rattle.c_syntax.specs.SyntaxView.{item_form_of}
 use Rattle.c_parser.proofs.DeclarationRows.{item_front}
 use Rattle.c_parser.proofs.FrontLemmas.{first_fails, second_fails, both_lead, fails_as, leads_as, taken_leads}
 use Rattle.c_parser.proofs.Refusals.{passed_on, goes_out}

@@ -1,7 +1,7 @@
 use Rattle.std.proofs.Common.{sym, ap, ◌∙◌}
-use Rattle.c_tree.specs.declared.token.Punct.TheVariants as mark
-use Rattle.c_tree.specs.SyntaxView.{parameters_of}
-use Rattle.c_tree.specs.Derives.{PlainRule, ArrayFormRule}
+use Rattle.c_syntax.specs.declared.token.Punct.TheVariants as mark
+use Rattle.c_syntax.specs.SyntaxView.{parameters_of}
+use Rattle.c_syntax.specs.Derives.{PlainRule, ArrayFormRule}
 use Rattle.c_parser.specs.Front.{mark_at}
 use Rattle.c_parser.proofs.DeclarationRows.{function_taken}
 use Rattle.c_parser.proofs.FrontLemmas.{first_fails, second_fails, both_lead, fails_as, leads_as, one_leads, mark_fails, fails_kept, only_kept}

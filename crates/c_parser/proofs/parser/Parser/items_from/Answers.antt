@@ -1,9 +1,9 @@
 use Rattle.std.proofs.Common.{subst, map, [], ◌∷◌, ◌++◌, sym, arith}
-use Rattle.c_tree.specs.declared.token.Punct.TheVariants as mark
+use Rattle.c_syntax.specs.declared.token.Punct.TheVariants as mark
 use Rattle.std.proofs.lemmas.List.{append-nil}
-use Rattle.c_tree.specs.SyntaxView.{item_of}
-use Rattle.c_tree.specs.Measures.{item_height}
-use Rattle.c_tree.specs.Derives.{DerivesItem, DerivesItems, LastItem}
+use Rattle.c_syntax.specs.SyntaxView.{item_of}
+use Rattle.c_syntax.specs.Measures.{item_height}
+use Rattle.c_syntax.specs.Derives.{DerivesItem, DerivesItems, LastItem}
 use Rattle.c_parser.specs.Takes.{Behind}
 use Rattle.c_parser.proofs.Lists.{begun, grown, height_begun, height_grown, with_comma, behind_comma, items_more}
 use Rattle.c_parser.proofs.FrontLemmas.{only_stays, leads_on, fails_on, only_on}

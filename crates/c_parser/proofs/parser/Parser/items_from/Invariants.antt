@@ -1,7 +1,7 @@
 use Rattle.std.proofs.Common.{◌≡◌, ◌+◌, ◌≤◌, length, map}
-use Rattle.c_tree.specs.Derives.{DerivesItem, DerivesItems}
-use Rattle.c_tree.specs.Measures.{greatest, item_height}
-use Rattle.c_tree.specs.SyntaxView.{item_of}
+use Rattle.c_syntax.specs.Derives.{DerivesItem, DerivesItems}
+use Rattle.c_syntax.specs.Measures.{greatest, item_height}
+use Rattle.c_syntax.specs.SyntaxView.{item_of}
 use Rattle.c_parser.specs.Takes.{Takes, Behind}
 use Rattle.c_parser.specs.DeclarationFronts.{MoreItems}
 use Rattle.c_parser.proofs.FrontLemmas.{LeadsOn}

@@ -1,5 +1,5 @@
-use Rattle.c_tree.specs.declared.token.Punct.TheVariants as mark
-use Rattle.c_tree.specs.SyntaxView.{parameters_of}
+use Rattle.c_syntax.specs.declared.token.Punct.TheVariants as mark
+use Rattle.c_syntax.specs.SyntaxView.{parameters_of}
 use Rattle.c_parser.proofs.FrontLemmas.{first_fails, second_fails, fails_as, one_leads, mark_fails}
 use Rattle.c_parser.proofs.Refusals.{passed_on, known_to}
 use Rattle.c_parser.proofs.TakesLemmas.{mark_taken}

@@ -1,6 +1,6 @@
 use Rattle.std.proofs.Common.{sym, arith}
-use Rattle.c_tree.specs.SyntaxTree.{ParameterTree}
-use Rattle.c_tree.specs.SyntaxView.{specs_of, array_of}
+use Rattle.c_syntax.specs.SyntaxTree.{ParameterTree}
+use Rattle.c_syntax.specs.SyntaxView.{specs_of, array_of}
 use Rattle.c_parser.proofs.DeclarationRows.{is_parameter}
 use Rattle.c_parser.proofs.FrontLemmas.{first_fails, second_fails, both_lead, fails_as, leads_as}
 use Rattle.c_parser.proofs.Refusals.{passed_on, known_to, refuses_all}

@@ -1,8 +1,8 @@
 use Rattle.std.proofs.Common.{arith}
-use Rattle.c_tree.specs.declared.token.Punct.TheVariants as mark
-use Rattle.c_tree.specs.SyntaxView.{parameter_of}
-use Rattle.c_tree.specs.Measures.{parameter_height}
-use Rattle.c_tree.specs.Derives.{DerivesParameterList, LastParameter}
+use Rattle.c_syntax.specs.declared.token.Punct.TheVariants as mark
+use Rattle.c_syntax.specs.SyntaxView.{parameter_of}
+use Rattle.c_syntax.specs.Measures.{parameter_height}
+use Rattle.c_syntax.specs.Derives.{DerivesParameterList, LastParameter}
 use Rattle.c_parser.proofs.Lists.{begun, grown, height_begun, height_grown, with_comma, parameters_more}
 use Rattle.c_parser.proofs.FrontLemmas.{first_fails, fails_as, only_stays, leads_from, fails_on, only_on}
 use Rattle.c_parser.proofs.Refusals.{passed_on}

@@ -1,7 +1,7 @@
 use Rattle.std.proofs.Common.{◌≡◌, ◌+◌, ◌<◌, ◌≤◌, length, map}
-use Rattle.c_tree.specs.Derives.{DerivesParameterList}
-use Rattle.c_tree.specs.Measures.{greatest, parameter_height}
-use Rattle.c_tree.specs.SyntaxView.{parameter_of}
+use Rattle.c_syntax.specs.Derives.{DerivesParameterList}
+use Rattle.c_syntax.specs.Measures.{greatest, parameter_height}
+use Rattle.c_syntax.specs.SyntaxView.{parameter_of}
 use Rattle.c_parser.specs.Takes.{Takes}
 use Rattle.c_parser.specs.DeclarationFronts.{ParameterListFront, MoreParameters}
 use Rattle.c_parser.proofs.FrontLemmas.{LeadsOn}

@@ -1,5 +1,5 @@
 use Rattle.std.proofs.Common.{map, sym, ap, ◌∙◌, arith}
-use Rattle.c_tree.specs.SyntaxView.{parameter_of}
+use Rattle.c_syntax.specs.SyntaxView.{parameter_of}
 use Rattle.c_parser.proofs.DeclarationRows.{void_taken, no_parameters, parameters_taken}
 use Rattle.c_parser.proofs.FrontLemmas.{fails_as, leads_as}
 use Rattle.c_parser.proofs.Refusals.{passed_on, known_to}

@@ -1,8 +1,8 @@
 use Rattle.std.proofs.Common.{arith}
-use Rattle.c_tree.specs.declared.token.Keyword.TheVariants as keyword
-use Rattle.c_tree.specs.SyntaxTree.{Return}
-use Rattle.c_tree.specs.Derives.{Closed}
-use Rattle.c_tree.specs.SyntaxView.{optional_of}
+use Rattle.c_syntax.specs.declared.token.Keyword.TheVariants as keyword
+use Rattle.c_syntax.specs.SyntaxTree.{Return}
+use Rattle.c_syntax.specs.Derives.{Closed}
+use Rattle.c_syntax.specs.SyntaxView.{optional_of}
 use Rattle.c_parser.proofs.TakesLemmas.{joined, word_taken, one_fewer}
 use Rattle.c_parser.proofs.StatementRows.{stated, return_row}
 use Rattle.c_parser.proofs.FrontLemmas.{second_fails, fails_as, one_leads}

@@ -1,6 +1,6 @@
 use Rattle.std.proofs.Common.{arith}
-use Rattle.c_tree.specs.declared.token.Punct.TheVariants as mark
-use Rattle.c_tree.specs.SyntaxView.{expression_of}
+use Rattle.c_syntax.specs.declared.token.Punct.TheVariants as mark
+use Rattle.c_syntax.specs.SyntaxView.{expression_of}
 use Rattle.c_parser.proofs.FrontLemmas.{first_fails, second_fails, both_lead, fails_as, leads_as, one_leads, mark_fails}
 use Rattle.c_parser.proofs.Refusals.{passed_on, known_to}
 use Rattle.c_parser.proofs.StatementWays.{tested_ways}

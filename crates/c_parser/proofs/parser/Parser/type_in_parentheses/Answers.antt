@@ -1,4 +1,4 @@
-use Rattle.c_tree.specs.SyntaxView.{type_of}
+use Rattle.c_syntax.specs.SyntaxView.{type_of}
 use Rattle.c_parser.proofs.Refusals.{known_to}
 use Rattle.c_parser.proofs.OperandsRefuse.{type_not_closed}
 use Rattle.c_parser.proofs.parser.Parser.type_in_parentheses.Goals as goal

@@ -1,7 +1,7 @@
 use Rattle.std.proofs.Common.{arith}
-use Rattle.c_tree.specs.SyntaxView.{expression_of}
-use Rattle.c_tree.specs.Measures.{expression_height}
-use Rattle.c_tree.specs.Derives.{DerivesList, LastOfList}
+use Rattle.c_syntax.specs.SyntaxView.{expression_of}
+use Rattle.c_syntax.specs.Measures.{expression_height}
+use Rattle.c_syntax.specs.Derives.{DerivesList, LastOfList}
 use Rattle.c_parser.proofs.Lists.{begun, grown, height_begun, height_grown, with_comma, list_more}
 use Rattle.c_parser.proofs.FrontLemmas.{first_fails, fails_as, leads_from, fails_on, only_on}
 use Rattle.c_parser.proofs.Refusals.{passed_on}

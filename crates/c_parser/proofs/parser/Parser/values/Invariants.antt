@@ -1,7 +1,7 @@
 use Rattle.std.proofs.Common.{◌≡◌, ◌+◌, ◌<◌, ◌≤◌, length, map}
-use Rattle.c_tree.specs.Derives.{DerivesList}
-use Rattle.c_tree.specs.Measures.{greatest, expression_height}
-use Rattle.c_tree.specs.SyntaxView.{expression_of}
+use Rattle.c_syntax.specs.Derives.{DerivesList}
+use Rattle.c_syntax.specs.Measures.{greatest, expression_height}
+use Rattle.c_syntax.specs.SyntaxView.{expression_of}
 use Rattle.c_parser.specs.Takes.{Takes}
 use Rattle.c_parser.specs.DeclarationFronts.{ValuesFront, MoreValues}
 use Rattle.c_parser.proofs.FrontLemmas.{LeadsOn}

@@ -1,5 +1,5 @@
 use Rattle.std.proofs.Common.{◌+◌, ◌||◌, ◌∙◌, false, ap, sym, refl, drop, rules}
-use Rattle.c_tree.specs.SyntaxView.{body_of, declaration_of, expression_of, statement_of}
+use Rattle.c_syntax.specs.SyntaxView.{body_of, declaration_of, expression_of, statement_of}
 use Rattle.c_tree.specs.View.{expr_of, stmt_of}
 use Rattle.std.specs.Prelude.{map}
 use Rattle.c_tree.specs.declared.enclosing.Enclosing.TheVariants as around

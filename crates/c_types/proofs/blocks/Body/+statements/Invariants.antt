@@ -1,5 +1,5 @@
 use Rattle.std.proofs.Common.{◌+◌, ◌*◌, max, drop}
-use Rattle.c_tree.specs.declared.stmt.StmtKind.{size-StmtKind}
+use Rattle.c_syntax.specs.declared.stmt.StmtKind.{size-StmtKind}
 use Rattle.c_types.proofs.StatementsSoFar.{StatementsSoFar}
 use Rattle.c_types.proofs.ChoicesSoFar.{ChoicesSoFar}
 use Rattle.c_types.proofs.blocks.Body.+statements.Given as goal

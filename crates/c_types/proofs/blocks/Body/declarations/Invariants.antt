@@ -1,5 +1,5 @@
 use Rattle.std.proofs.Common.{◌≡◌, drop, map}
-use Rattle.c_tree.specs.SyntaxView.{declaration_of}
+use Rattle.c_syntax.specs.SyntaxView.{declaration_of}
 use Rattle.c_types.specs.Statements.{declarations}
 use Rattle.c_types.specs.Tables.{around_of}
 use Rattle.c_types.specs.View.{opened_of}

@@ -1,5 +1,5 @@
 use Rattle.std.proofs.Common.{◌≡◌, drop, map}
-use Rattle.c_tree.specs.SyntaxView.{item_of}
+use Rattle.c_syntax.specs.SyntaxView.{item_of}
 use Rattle.c_types.specs.Statements.{block_items}
 use Rattle.c_types.specs.Tables.{around_of}
 use Rattle.c_types.specs.View.{opened_of}

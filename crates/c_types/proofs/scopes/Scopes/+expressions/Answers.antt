@@ -1,5 +1,5 @@
 use Rattle.std.proofs.Common.{rules, ap}
-use Rattle.c_tree.specs.SyntaxView.{form_of}
+use Rattle.c_syntax.specs.SyntaxView.{form_of}
 use Rattle.c_types.specs.Tables.{scope_of}
 use Rattle.c_types.proofs.CallForms.{form_is_typed, form_is_refused, call_is_typed, call_is_refused, constant_call_typed, constant_call_refused}
 use Rattle.c_types.proofs.scopes.Scopes.+expressions.Goals as goal

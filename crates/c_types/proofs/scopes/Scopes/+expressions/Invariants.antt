@@ -1,5 +1,5 @@
 use Rattle.std.proofs.Common.{◌+◌, ◌*◌, max, drop}
-use Rattle.c_tree.specs.declared.expr.ExprKind.{size-ExprKind}
+use Rattle.c_syntax.specs.declared.expr.ExprKind.{size-ExprKind}
 use Rattle.c_types.specs.Tables.{scope_of}
 use Rattle.c_types.proofs.OperandsSoFar.{OperandsSoFar}
 use Rattle.c_types.proofs.scopes.Scopes.+expressions.Given as goal

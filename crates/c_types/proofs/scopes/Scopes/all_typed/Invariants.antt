@@ -1,5 +1,5 @@
 use Rattle.std.proofs.Common.{◌≡◌, drop, map}
-use Rattle.c_tree.specs.SyntaxView.{expression_of}
+use Rattle.c_syntax.specs.SyntaxView.{expression_of}
 use Rattle.c_types.specs.Statements.{all_typed}
 use Rattle.c_types.specs.Tables.{scope_of}
 use Rattle.c_types.proofs.scopes.Scopes.all_typed.Given as goal

@@ -1,5 +1,5 @@
 use Rattle.std.proofs.Common.{◌≡◌, map, drop}
-use Rattle.c_tree.specs.SyntaxView.{parameter_of}
+use Rattle.c_syntax.specs.SyntaxView.{parameter_of}
 use Rattle.c_types.specs.Tables.{around_of, scope_of}
 use Rattle.c_types.specs.Units.{with_parameters}
 use Rattle.c_types.proofs.scopes.Scopes.declare_parameters.Given as goal

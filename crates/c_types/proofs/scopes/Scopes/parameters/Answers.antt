@@ -1,5 +1,5 @@
 use Rattle.std.proofs.Common.{◌+◌, ◌∙◌, map, drop, rules}
-use Rattle.c_tree.specs.SyntaxView.{parameter_of}
+use Rattle.c_syntax.specs.SyntaxView.{parameter_of}
 use Rattle.c_types.specs.Answers.{Refuses}
 use Rattle.c_types.specs.Declarations.{parameters}
 use Rattle.c_types.specs.Tables.{scope_of}

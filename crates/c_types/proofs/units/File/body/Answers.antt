@@ -1,5 +1,5 @@
 use Rattle.std.proofs.Common.{◌≡◌, ◌∙◌, ap, sym, refl, map, reverse}
-use Rattle.c_tree.specs.SyntaxView.{function_of, parameter_of, declaration_of, body_of}
+use Rattle.c_syntax.specs.SyntaxView.{function_of, parameter_of, declaration_of, body_of}
 use Rattle.c_tree.specs.View.{stmt_of}
 use Rattle.c_types.specs.Scopes.{open_scope}
 use Rattle.c_types.specs.Statements.{typed_body}

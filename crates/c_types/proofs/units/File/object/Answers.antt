@@ -1,6 +1,6 @@
 use Rattle.std.proofs.Common.{rules, ◌≡◌, ◌∙◌, ◌||◌, not, true, sym}
 use Rattle.std.proofs.lemmas.List.{length-map}
-use Rattle.c_tree.specs.SyntaxView.{item_of}
+use Rattle.c_syntax.specs.SyntaxView.{item_of}
 use Rattle.c_types.specs.declared.declarations.Declared.TheVariants as declares
 use Rattle.c_types.specs.Answers.{Refuses}
 use Rattle.c_types.specs.Tables.{scope_of}

@@ -1,5 +1,5 @@
 use Rattle.std.proofs.Common.{◌≡◌, drop}
-use Rattle.c_tree.specs.SyntaxView.{unit_of}
+use Rattle.c_syntax.specs.SyntaxView.{unit_of}
 use Rattle.c_types.specs.Units.{externals, typed_unit}
 use Rattle.c_types.specs.View.{file_of}
 use Rattle.c_types.proofs.units.File.of.Given as goal

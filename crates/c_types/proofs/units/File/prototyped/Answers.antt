@@ -1,5 +1,5 @@
 use Rattle.std.proofs.Common.{rules, ◌≡◌, ◌∙◌, ◌||◌, not, true, ap, refl, length}
-use Rattle.c_tree.specs.SyntaxView.{item_of}
+use Rattle.c_syntax.specs.SyntaxView.{item_of}
 use Rattle.c_types.specs.declared.declarations.Declared.TheVariants as declares
 use Rattle.c_types.specs.declared.fault.Rule.TheVariants.{Mismatch}
 use Rattle.c_types.specs.Answers.{Refuses}

@@ -1,0 +1,14 @@
+pub mod OneReading
+pub mod NamedFunctions
+pub mod Pieces
+pub mod Spellings
+pub mod Sorts
+pub mod FixedLemmas
+pub mod Numbers
+pub mod Digits
+pub mod Characters
+pub mod Reading
+pub mod Weights
+pub mod Views
+pub mod Parsing
+pub mod Rows

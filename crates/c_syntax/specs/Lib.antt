@@ -1,0 +1,15 @@
+-- A C source from its bytes to its tree: ISO 9899:1990 6.1 and the grammar of 6.3 to 6.7.
+pub mod FixedTexts
+pub mod Constants
+pub mod Spelling
+pub mod Lexes
+pub mod SyntaxTree
+pub mod Grammar
+pub mod Derives
+pub mod Lookahead
+pub mod Reads
+pub mod Measures
+pub mod Counts
+pub mod Source
+pub mod SyntaxView
+pub mod FunctionNames

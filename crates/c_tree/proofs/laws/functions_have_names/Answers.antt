@@ -1,5 +1,0 @@
-use Rattle.c_tree.proofs.NamedFunctions.{all_named}
-use Rattle.c_tree.proofs.laws.functions_have_names.Goals as goal
-
-pub returns : goal.returns
-returns c = all_named
