@@ -10,11 +10,8 @@ ghost use Rattle.c_lexer.specs.declared.fault.LexFault.TheVariants as lex_faults
 use crate::blank::behind_blank;
 use crate::fault::LexFault;
 use crate::scanner::token;
-use c_syntax::Token;
+use c_syntax::{MOST_TOKENS, Token};
 use std::alloc::Global;
-
-/// The most tokens of a text.
-const MOST_TOKENS: usize = 200_000;
 
 // Puts the token at the front of the rest behind the others, and gives what stands behind it.
 fn push_token<'a>(

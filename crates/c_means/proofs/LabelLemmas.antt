@@ -6,7 +6,8 @@ use Rattle.c_tree.specs.declared.typed_statement.Choice as choice
 use Rattle.c_tree.specs.declared.typed_statement.Choice.{Choice}
 use Rattle.c_tree.specs.TypedTree as tree
 use Rattle.c_tree.specs.Eval.{Env, Calls, choose}
-use Rattle.c_tree.specs.Exec.{has_case, from_case, from_default, run_choices}
+use Rattle.c_tree.specs.Labels.{has_case}
+use Rattle.c_tree.specs.Exec.{from_case, from_default, run_choices}
 use Rattle.c_tree.specs.View.{choice_list, choice_before}
 use Rattle.c_means.specs.Labels.{is_case, is_default, IsStart}
 

@@ -3,12 +3,13 @@ use Rattle.std.specs.Prelude.{◌≡◌, ℕ, Bool, true, false, ◌==◌, List,
 use Rattle.c_tree.specs.declared.typed_statement.Choice as choice
 use Rattle.c_tree.specs.declared.typed_statement.Choice.{Choice}
 use Rattle.c_tree.specs.Eval.{Env, Calls, choose}
-use Rattle.c_tree.specs.Exec.{has_case, from_case, from_default, run_choices}
+use Rattle.c_tree.specs.Labels.{has_case}
+use Rattle.c_tree.specs.Exec.{from_case, from_default, run_choices}
 use Rattle.c_tree.specs.View.{choice_list}
 
 -- the label of this word
 abbrev pub is_case : ℕ → Choice → Bool
-is_case word (choice.Case label) = label == word
+is_case word (choice.Case label) = word == label
 is_case word choice.Default = false
 is_case word (choice.Body s) = false
 

@@ -22,7 +22,7 @@ fn is_case(choice: &Choice, word: u16) -> bool
     ensures { result ≡ labels.is_case word choice.now }
 {
     match choice {
-        Choice::Case(label) => *label == word,
+        Choice::Case(label) => word == *label,
         Choice::Default | Choice::Body(_) => false,
     }
 }

@@ -4,7 +4,7 @@ use Rattle.word_base.specs.declared.outcome.UndefinedKind.{UndefinedKind}
 use Rattle.word_base.specs.declared.outcome.UndefinedKind.TheVariants as kinds
 use Rattle.word_base.specs.declared.outcome.Outcome.{Outcome}
 use Rattle.word_base.specs.declared.outcome.Outcome.TheVariants.{Ended, More, Undefined}
-use Rattle.word_base.specs.Ports.{Outputs}
+use Rattle.word_base.specs.Outcome.{outputs_of}
 use Rattle.c25_image.specs.Lines.{with_feed}
 use Rattle.c25_image.specs.OutsText.{outs_text}
 use Rattle.cc_driver.specs.RunText.{ending_line, running_line, fault_line, fault_status}
@@ -23,12 +23,6 @@ kind_name kinds.NoValue = codes "no value"
 abbrev pub undefined_line : UndefinedKind → ℕ → List ℕ
 undefined_line kind at = codes "undefined " ++ (kind_name kind ++ (codes " at byte " ++ decimal at))
 
--- the words that were put out
-abbrev pub outs_of : Outcome → Outputs
-outs_of (Ended outs ending) = outs
-outs_of (More outs) = outs
-outs_of (Undefined outs kind at) = outs
-
 -- the line behind the outputs, where loops had so many turns
 abbrev pub outcome_line : ℕ → Outcome → List ℕ
 outcome_line turns (Ended outs ending) = ending_line ending
@@ -37,7 +31,7 @@ outcome_line turns (Undefined outs kind at) = undefined_line kind at
 
 -- the outputs, and the line behind them
 abbrev pub outcome_text : ℕ → Outcome → List ℕ
-outcome_text turns outcome = outs_text (outs_of outcome) ++ with_feed (outcome_line turns outcome)
+outcome_text turns outcome = outs_text (outputs_of outcome) ++ with_feed (outcome_line turns outcome)
 
 -- the status where the answer was put
 abbrev pub outcome_status : Outcome → ℕ

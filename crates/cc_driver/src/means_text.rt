@@ -1,6 +1,7 @@
 //! The text of what a source means.
 ghost use Rattle.std.specs.Prelude.{◌≡◌, ◌++◌, IfOk, OnOk};
-ghost use Rattle.cc_driver.specs.MeansText.{kind_name, undefined_line, outs_of, outcome_line, outcome_text};
+ghost use Rattle.cc_driver.specs.MeansText.{kind_name, undefined_line, outcome_line, outcome_text};
+ghost use Rattle.word_base.specs.Outcome.{outputs_of};
 
 use crate::run_text::{push_ending, push_running};
 use c25_image::{push_decimal, write_outs};
@@ -32,8 +33,8 @@ fn push_undefined(text: &mut Vec<u8>, kind: UndefinedKind, at: u32) -> Result<()
 }
 
 // The words that were put out.
-fn outs_of(outcome: &Outcome) -> &[PortWord]
-    ensures { result.now ≡ outs_of outcome.now }
+fn outputs_of(outcome: &Outcome) -> &[PortWord]
+    ensures { result.now ≡ outputs_of outcome.now }
 {
     match outcome {
         Outcome::Ended { outs, .. } | Outcome::More { outs } | Outcome::Undefined { outs, .. } => {
@@ -57,7 +58,7 @@ fn push_outcome(text: &mut Vec<u8>, outcome: &Outcome, turns: u32) -> Result<(),
 pub fn outcome_text(alloc: Global, outcome: &Outcome, turns: u32) -> Result<Vec<u8>, NoMemory>
     ensures { IfOk result (λ text. text.items ≡ outcome_text turns outcome.now) }
 {
-    let mut text = write_outs(alloc, outs_of(outcome))?;
+    let mut text = write_outs(alloc, outputs_of(outcome))?;
     push_outcome(&mut text, outcome, turns)?;
     text.push(b'\n')?;
     Ok(text)
