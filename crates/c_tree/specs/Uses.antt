@@ -6,6 +6,13 @@ use Rattle.c_tree.specs.TypedTree.{Expr, Node, Lvalue, Named, At, Form, Exprs, S
 use Rattle.c_tree.specs.declared.uses.Use.{Use}
 use Rattle.c_tree.specs.declared.uses.Use.TheVariants.{Address, Call, Cases}
 
+-- the functions that are called
+abbrev pub called : List Use → List ℕ
+called [] = []
+called (Address r ∷ us) = called us
+called (Cases n ∷ us) = called us
+called (Call m at ∷ us) = m ∷ called us
+
 abbrev mutual
   pub uses : Expr → List Use
   uses (Node form kind at) = form_uses form at

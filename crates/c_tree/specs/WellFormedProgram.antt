@@ -1,5 +1,5 @@
 -- Well-formed programs: what each function and object is, and what is so of all functions together.
-use Rattle.std.specs.Prelude.{◌≡◌, ◌≢◌, ◌≤◌, ◌<◌, ℕ, ◌+◌, List, [], ◌∷◌, ◌++◌, map, length, slice_get, nat_lt, All, AllPairs, Option, Some, None}
+use Rattle.std.specs.Prelude.{◌≡◌, ◌≢◌, ◌≤◌, ◌<◌, ℕ, ◌+◌, List, [], map, length, slice_get, nat_lt, All, AllPairs, Option, Some, None}
 use Rattle.std.specs.List.{Any, sum_by}
 use Rattle.word_base.specs.Name.{IsName}
 use Rattle.c_tree.specs.declared.program.VarRef.{VarRef}
@@ -8,11 +8,9 @@ use Rattle.c_tree.specs.Temporaries.{statement_temporaries}
 use Rattle.c_tree.specs.TypedTree.{Kind, ObjectTree, FunctionTree, ProgramTree}
 use Rattle.c_tree.specs.SourceRun.{main_name}
 use Rattle.c_tree.specs.declared.enclosing.Enclosing.TheVariants as around
-use Rattle.c_tree.specs.declared.uses.Use.{Use}
-use Rattle.c_tree.specs.declared.uses.Use.TheVariants.{Call}
 use Rattle.c_tree.specs.Kinds.{int, IsType, IsKind}
-use Rattle.c_tree.specs.Rounds.{HasNoRound}
-use Rattle.c_tree.specs.Uses.{statement_uses, case_counts}
+use Rattle.c_tree.specs.Rounds.{CallsAmong, HasNoRound}
+use Rattle.c_tree.specs.Uses.{called, statement_uses, case_counts}
 use Rattle.c_tree.specs.WellFormed.{Shape, Signature, Names, IsInitial, IsWellFormed, opened}
 use Rattle.c_tree.specs.declared.limits.TheConstants.{MOST_CASES, MOST_CELLS, MOST_FRAME_SCALARS, MOST_FUNCTIONS, MOST_OBJECTS, MOST_PARAMETERS}
 
@@ -99,10 +97,9 @@ pub record IsMain (f : FunctionTree) : Type 0 where
   pub result : f.result ≡ Some int
   pub parameters : f.params ≡ []
 
--- a function calls another
-pub data Calls : List FunctionTree → ℕ → ℕ → Type 0 where
-  Calling : (fs : List FunctionTree) (n m : ℕ) (f : FunctionTree) (at : ℕ) (before behind : List Use) → slice_get fs n ≡ Some f
-      → statement_uses f.body ≡ before ++ Call m at ∷ behind → Calls fs n m
+-- the functions that each calls
+abbrev pub calls_of : List FunctionTree → List (List ℕ)
+calls_of fs = map (λ f. called (statement_uses f.body)) fs
 
 pub record IsProgram (p : ProgramTree) : Type 0 where
   pub statics : All (IsObject p) p.statics
@@ -110,7 +107,7 @@ pub record IsProgram (p : ProgramTree) : Type 0 where
   pub names : All IsName (map (λ f. f.name) p.functions)
   pub differ : AllPairs (λ a b. a ≢ b) (map (λ f. f.name) p.functions)
   pub main : Any IsMain p.functions
-  pub bodies : (n m : ℕ) → Calls p.functions n m → m < length p.functions
-  pub no_cycle : HasNoRound (Calls p.functions)
+  pub bodies : (n m : ℕ) → CallsAmong (calls_of p.functions) n m → m < length p.functions
+  pub no_cycle : HasNoRound (CallsAmong (calls_of p.functions))
   pub limits : IsLimited p.functions
   pub objects : object_count p ≤ MOST_OBJECTS

@@ -14,7 +14,7 @@ use Rattle.c_tree.specs.TypedTree.{Kind, Expr, Node, Exprs, Stmt, Choices, Named
 use Rattle.c_tree.specs.Store.{is_pointer}
 use Rattle.c_tree.specs.Kinds.{IsInteger, IsPointer}
 use Rattle.c_tree.specs.WellFormed.{Shape, Names, IsWellTyped, IsWellFormed, Takes, Updates, Calculates, Shifts, Compares, Moves, Moves_right, Subtracts, Updates_word, Updates_pointer, is_comparison, moves, opened}
-use Rattle.c_tree.specs.WellFormedProgram.{IsProgram, IsObject, IsMain, Calling, object_in, names_of}
+use Rattle.c_tree.specs.WellFormedProgram.{IsProgram, IsObject, IsMain, object_in, names_of}
 use Rattle.c_tree.proofs.Examples.Types.{int, int_pointer, int_at, pointer_at, void_at, words, object, function, program}
 use Rattle.c_tree.proofs.Examples.WellFormed.{parts, doubles_main, doubles}
 
@@ -260,7 +260,7 @@ abbrev calls_itself : ProgramTree
 calls_itself = program [] (calls_itself_f ∷ (gives_0 (codes "main") 51) ∷ [])
 
 calls_itself_is : ¬ IsProgram calls_itself
-calls_itself_is = λ h. h.no_cycle 0 (0 ∷ []) (omega arith, (Calling calls_itself.functions 0 0 calls_itself_f 21 [] [] refl refl, refl))
+calls_itself_is = λ h. h.no_cycle 0 (0 ∷ []) (omega arith, ((0 ∷ [], refl, (0, omega arith, refl)), refl))
 
 -- no two functions have one name:
 -- int main(void) {return 0;} int main(void) {return 0;}

@@ -1,8 +1,8 @@
 -- Trees that are well formed: a whole program, and the bodies of two examples that run. Before them stand the rules by which each
 -- part of a tree is found to be so.
-use Rattle.std.specs.Prelude.{◌≡◌, ◌≢◌, ◌<◌, ◌≤◌, ⊤, ℕ, zero, suc, ◌+◌, codes, List, [], ◌∷◌, ◌++◌, length, slice_get, All, AllPairs, Option, Some}
-use Rattle.std.specs.List.{AllByRecursion}
-use Rattle.std.proofs.Common.{refl, ap, ◌∙◌, subst, inl, inr, arith}
+use Rattle.std.specs.Prelude.{◌≡◌, ◌≢◌, ◌<◌, ◌≤◌, ⊤, ℕ, zero, suc, ◌+◌, codes, List, [], ◌∷◌, length, All, AllPairs, Option, Some}
+use Rattle.std.specs.List.{AllByRecursion, Contains}
+use Rattle.std.proofs.Common.{refl, ap, sym, ◌∙◌, subst, inl, inr, arith}
 use Rattle.std.proofs.lemmas.List.Elements.{All-from_recursion}
 use Rattle.std.proofs.lemmas.List.Kept.{AllPairs-cons}
 use Rattle.std.proofs.lemmas.Option.{slice_get_within}
@@ -12,15 +12,13 @@ use Rattle.c_tree.specs.declared.program.VarRef.{VarRef}
 use Rattle.c_tree.specs.declared.program.VarRef.TheVariants.{Scalar, Local}
 use Rattle.c_tree.specs.declared.program.Initial.TheVariants as initial
 use Rattle.c_syntax.specs.declared.operator.BinaryOp.TheVariants as op
-use Rattle.c_tree.specs.declared.uses.Use.{Use}
-use Rattle.c_tree.specs.declared.uses.Use.TheVariants as used
 use Rattle.c_tree.specs.Temporaries.{statement_temporaries}
 use Rattle.c_tree.specs.TypedTree.{Named, Const, Read, AddressOf, Load, Binary, Assign, Call, Out, none, more, Block, Fill, Do_expr, Return, done, both, ObjectTree, FunctionTree, ProgramTree}
 use Rattle.c_tree.specs.Kinds.{IsType, IsKind}
-use Rattle.c_tree.specs.Rounds.{IsWay, HasNoRound}
+use Rattle.c_tree.specs.Rounds.{CallsAmong, IsWay, HasNoRound}
 use Rattle.c_tree.specs.Uses.{statement_uses, case_counts}
 use Rattle.c_tree.specs.WellFormed.{Shape, Names, IsInitial, IsWellFormed, IsNew, AreNew, IsFilled, opened, Calculates, Shifts, Compares, Moves, Moves_right, Subtracts, Updates_word, Updates_pointer}
-use Rattle.c_tree.specs.WellFormedProgram.{IsProgram, IsFunction, IsObject, IsParameter, IsLimited, Calls, Calling, static_in, object_in, names_of}
+use Rattle.c_tree.specs.WellFormedProgram.{IsProgram, IsFunction, IsObject, IsParameter, IsLimited, calls_of, static_in, object_in, names_of}
 use Rattle.c_tree.proofs.Examples.Types.{int, int_pointer, int_at, pointer_at, void_at, words, object, function, main_with, program}
 use Rattle.c_tree.proofs.Examples.Pointers.{sum}
 use Rattle.c_tree.proofs.Examples.Statements.{falls}
@@ -90,41 +88,31 @@ name_by code rest short first each = record {
 }
 
 -- functions that call only such as stand before them: those are there, and no function reaches itself
-abbrev CallsBefore : ℕ → Use → Type 0
-CallsBefore n (used.Call m at) = m < n
-CallsBefore n (used.Address v) = ⊤
-CallsBefore n (used.Cases k) = ⊤
-
-abbrev CallBefore : ℕ → List FunctionTree → Type 0
+abbrev CallBefore : ℕ → List (List ℕ) → Type 0
 CallBefore n [] = ⊤
-CallBefore n (f ∷ fs) = AllByRecursion (CallsBefore n) (statement_uses f.body) × CallBefore (suc n) fs
+CallBefore n (list ∷ lists) = AllByRecursion (λ m. m < n) list × CallBefore (suc n) lists
 
-among : (n m at : ℕ) (before behind : List Use) → AllByRecursion (CallsBefore n) (before ++ used.Call m at ∷ behind) → m < n
-among n m at [] behind all = all.0
-among n m at (u ∷ before) behind all = among n m at before behind all.1
-
-before_at : (fs : List FunctionTree) (first n m at : ℕ) (f : FunctionTree) (before behind : List Use) → CallBefore first fs → slice_get fs n ≡ Some f
-    → statement_uses f.body ≡ before ++ used.Call m at ∷ behind → m < n + first
-before_at [] first n m at f before behind all there is = absurd (cc there)
-before_at (g ∷ fs) first zero m at f before behind all there is =
-    let same : g ≡ f = cc there in
-    let less : m < first = among first m at before behind (subst (AllByRecursion (CallsBefore first)) (ap (λ h. statement_uses h.body) same ∙ is) all.0)
+before_at : (lists : List (List ℕ)) (first n m : ℕ) → CallBefore first lists → CallsAmong lists n m → m < n + first
+before_at [] first n m all call = absurd (cc call.1)
+before_at (list ∷ lists) first zero m all call =
+    let same : list ≡ call.0 = cc call.1 in
+    let found : Contains list m = subst (λ l. Contains l m) (sym same) call.2 in
+    let less : m < first = subst (λ k. k < first) found.2 (All-from_recursion (λ k. k < first) list all.0 found.0 m found.1)
     in omega (arith, less)
-before_at (g ∷ fs) first (suc n) m at f before behind all there is = omega (arith, before_at fs (suc first) n m at f before behind all.1 there is)
+before_at (list ∷ lists) first (suc n) m all call = omega (arith, before_at lists (suc first) n m all.1 call)
 
-call_before : (fs : List FunctionTree) → CallBefore 0 fs → (n m : ℕ) → Calls fs n m → m < n
-call_before _ all _ _ (Calling fs n m f at before behind there is) = omega (arith, before_at fs 0 n m at f before behind all there is)
+call_before : (lists : List (List ℕ)) → CallBefore 0 lists → (n m : ℕ) → CallsAmong lists n m → m < n
+call_before lists all n m call = omega (arith, before_at lists 0 n m all call)
 
-way_before : (fs : List FunctionTree) → CallBefore 0 fs → (n : ℕ) (ms : List ℕ) (z : ℕ) → IsWay (Calls fs) n ms z → z + length ms ≤ n
-way_before fs all n [] z way = omega (arith, way)
-way_before fs all n (m ∷ ms) z way = omega (arith, call_before fs all n m way.0, way_before fs all m ms z way.1)
+way_before : (lists : List (List ℕ)) → CallBefore 0 lists → (n : ℕ) (ms : List ℕ) (z : ℕ) → IsWay (CallsAmong lists) n ms z → z + length ms ≤ n
+way_before lists all n [] z way = omega (arith, way)
+way_before lists all n (m ∷ ms) z way = omega (arith, call_before lists all n m way.0, way_before lists all m ms z way.1)
 
-no_round : (fs : List FunctionTree) → CallBefore 0 fs → HasNoRound (Calls fs)
-no_round fs all n ms round = omega (arith, round.0, way_before fs all n ms n round.1)
+no_round : (lists : List (List ℕ)) → CallBefore 0 lists → HasNoRound (CallsAmong lists)
+no_round lists all n ms round = omega (arith, round.0, way_before lists all n ms n round.1)
 
-have_bodies : (fs : List FunctionTree) → CallBefore 0 fs → (n m : ℕ) → Calls fs n m → m < length fs
-have_bodies _ all _ _ (Calling fs n m f at before behind there is) =
-    omega (arith, call_before fs all n m (Calling fs n m f at before behind there is), slice_get_within fs n f there)
+have_bodies : (lists : List (List ℕ)) → CallBefore 0 lists → (n m : ℕ) → CallsAmong lists n m → m < length lists
+have_bodies lists all n m call = omega (arith, call_before lists all n m call, slice_get_within lists n call.0 call.1)
 
 -- a static array with a list, a pointer to its end, a function that another calls, and a block in a block:
 -- int k[2] = {7, 1}; int *e = k + 2; int twice(int n) {return n + n;} int main(void) {int m[2] = {3}; {int x; x = twice(m[0]); __out(0, x);} return 0;}
@@ -161,7 +149,7 @@ doubles_names = search (name_by, letter, arith)
 doubles_limits : IsLimited doubles.functions
 doubles_limits = limited_by doubles.functions (omega arith) (search parts)
 
-doubles_calls : CallBefore 0 doubles.functions
+doubles_calls : CallBefore 0 (calls_of doubles.functions)
 doubles_calls = search arith
 
 doubles_is : IsProgram doubles
@@ -171,8 +159,8 @@ doubles_is = record {
   names = All-from_recursion IsName (codes "twice" ∷ codes "main" ∷ []) doubles_names;
   differ = differ_by (codes "twice" ∷ codes "main" ∷ []) ((λ same. omega (arith, ap length same), tt), (tt, tt));
   main = (1, doubles_main, omega arith, refl, record { name = refl; result = refl; parameters = refl });
-  bodies = have_bodies doubles.functions doubles_calls;
-  no_cycle = no_round doubles.functions doubles_calls;
+  bodies = have_bodies (calls_of doubles.functions) doubles_calls;
+  no_cycle = no_round (calls_of doubles.functions) doubles_calls;
   limits = doubles_limits;
   objects = omega arith;
 }
