@@ -1,6 +1,6 @@
 -- The typed program of a source, and what its faults say.
 use Rattle.std.proofs.Common.{◌≡◌, ℕ, ◌++◌, ◌∷◌, [], List, map, ap, ◌∙◌, sym, refl, subst, append-nil}
-use Rattle.std.specs.Prelude.{Vec, Result, Ok, Err, IfErr}
+use Rattle.std.specs.Prelude.{Vec, Result, Ok, Err, IfErr, All}
 use Rattle.std.specs.Result.{IsErrAnd}
 use Rattle.std.specs.Global.{Global}
 use Rattle.c_tree.specs.declared.program.VarRef.{VarRef}
@@ -8,24 +8,30 @@ use Rattle.c_syntax.specs.declared.unit.External.{External}
 use Rattle.c_syntax.specs.SyntaxTree.{UnitTree}
 use Rattle.c_syntax.specs.SyntaxView.{unit_of}
 use Rattle.c_tree.specs.TypedTree.{FunctionTree, ProgramTree}
-use Rattle.c_types.specs.declared.fault.TypeFault.{TypeFault}
-use Rattle.c_types.specs.declared.fault.TypeFault.TheVariants as faults
-use Rattle.c_types.specs.declared.functions.TypedFunction as memory
+use Rattle.c_rules.specs.declared.fault.TypeFault.{TypeFault}
+use Rattle.c_rules.specs.declared.fault.TypeFault.TheVariants as faults
+use Rattle.c_frames.specs.declared.functions.TypedFunction as memory
 use Rattle.c_types.specs.declared.units.File as files
 use Rattle.c_types.specs.declared.units.Contents.{Contents}
-use Rattle.c_types.specs.declared.fault.Rule.{Rule}
-use Rattle.c_types.specs.declared.fault.Rule.TheVariants as rules
-use Rattle.c_types.specs.declared.fault.Refusal.{Refusal}
-use Rattle.c_types.specs.declared.fault.Refusal.TheVariants as refusals
-use Rattle.c_types.specs.Answers.{Refuses}
-use Rattle.c_types.specs.Checked.{AreWhole, IsTyped, Breaks}
-use Rattle.c_types.specs.Faults.{Says, SaysOf, rule_fault, fault_of}
-use Rattle.c_types.specs.Visits.{broken_in}
-use Rattle.c_types.proofs.Walked.SourceWalked.{walk_finds}
-use Rattle.c_types.specs.Outcome.{Is}
-use Rattle.c_types.specs.Programs.{frame, function_tree, functions_with, program_tree, static_object}
-use Rattle.c_types.specs.Units.{TypedFunction, File, typed_unit}
-use Rattle.c_types.specs.View.{typed_function_of, static_tree_of, file_of, frame_lists, made_of}
+use Rattle.c_rules.specs.declared.fault.Rule.{Rule}
+use Rattle.c_rules.specs.declared.fault.Rule.TheVariants as rules
+use Rattle.c_rules.specs.declared.fault.Refusal.{Refusal}
+use Rattle.c_rules.specs.declared.fault.Refusal.TheVariants as refusals
+use Rattle.c_rules.specs.Answers.{Refuses}
+use Rattle.c_rules.specs.Checked.{AreWhole, IsTyped, Breaks}
+use Rattle.c_rules.specs.Faults.{Says, SaysOf, rule_fault, fault_of}
+use Rattle.c_rules.specs.Visits.{broken_in}
+use Rattle.c_rules.proofs.Walked.SourceWalked.{walk_finds}
+use Rattle.c_rules.specs.Outcome.{Is}
+use Rattle.c_rules.specs.Programs.{frame, function_tree, functions_with, program_tree, static_object}
+use Rattle.c_rules.specs.Units.{TypedFunction, File, typed_unit}
+use Rattle.c_frames.specs.FunctionView.{typed_function_of}
+use Rattle.c_types.specs.View.{static_tree_of, file_of, frame_lists, made_of}
+use Rattle.word_base.specs.Name.{IsName}
+use Rattle.c_syntax.specs.Counts.{IsWithinLimits}
+use Rattle.c_syntax.specs.FunctionNames.{function_names}
+use Rattle.c_tree.specs.WellFormedProgram.{IsProgram}
+use Rattle.c_rules.proofs.Formed.FormedSource.{well_formed_source}
 
 -- what a refusal of a node says of its source
 broken_says : (unit : UnitTree) (rule : Rule) (at : ℕ) → Breaks unit rule at → Says unit (rule_fault rule at)
@@ -104,3 +110,13 @@ all_functions {made = made} frames ended so_far =
 pub fault_says : {A : Type 0} (P : TypeFault → Type 0) → (f : TypeFault) (result : Result A TypeFault) → IsErrAnd result (λ e. e ≡ f) → P f → IfErr result P
 fault_says P f (Ok a) given known = absurd given
 fault_says P f (Err e) given known = subst P (sym given) known
+
+-- where the externals and the functions are lent meanwhile
+pub made_is_formed : (unit : List External) {externals : List External} (file : files.File) {functions : List memory.TypedFunction} (frames : List (Vec VarRef Global)) {contents : Contents}
+    → externals ≡ unit → typed_unit (unit_of externals) ≡ Is (file_of file) → functions ≡ file.functions.items → AreWhole (map typed_function_of functions)
+    → frame_lists frames ≡ map frame (map typed_function_of functions) → contents ≡ record { statics = file.statics; functions = file.functions }
+    → All IsName (function_names (unit_of unit)) → IsWithinLimits (unit_of unit) → IsProgram (made_of frames contents)
+made_is_formed unit file frames same typed lent whole own parts named limits =
+    subst IsProgram (sym (ap (made_of frames) parts ∙ made_is file frames (own ∙ ap (λ fs. map frame (map typed_function_of fs)) lent)))
+    (well_formed_source (unit_of unit) (file_of file) (sym (ap (λ u. typed_unit (unit_of u)) same) ∙ typed)
+    (subst (λ fs. AreWhole (map typed_function_of fs)) lent whole) named limits)

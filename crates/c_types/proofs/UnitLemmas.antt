@@ -1,16 +1,15 @@
 -- Turns of the loops over the parts of a source: types, parameters, items and externals.
-use Rattle.std.proofs.Common.{◌≡◌, ◌≢◌, ℕ, suc, ◌+◌, ◌<◌, ◌≤◌, ◌&&◌, ◌||◌, Bool, true, false, if◌then◌else◌, List, [], ◌∷◌, ◌++◌, map, set, drop, get_or, length, Option, Some, None, is_some, is_none, option_map, true≢false, not, Bor, subst, refl, ap, sym, ◌∙◌, append-nil, arith}
+use Rattle.std.proofs.Common.{◌≡◌, ◌≢◌, ℕ, ◌+◌, ◌<◌, ◌≤◌, ◌&&◌, ◌||◌, Bool, true, false, if◌then◌else◌, List, [], ◌∷◌, ◌++◌, map, set, drop, get_or, length, Option, Some, None, is_some, is_none, option_map, true≢false, not, Bor, subst, refl, ap, sym, ◌∙◌, append-nil}
 use Rattle.std.specs.Str.{bytes_eq}
 use Rattle.std.specs.List.{list_any}
 use Rattle.std.specs.Prelude.{slice_get, slice_set}
 use Rattle.std.proofs.Math.ListN.{drop_of_length-le}
 use Rattle.std.proofs.lemmas.Cmp.{nat_list_eq_equiv}
-use Rattle.std.proofs.lemmas.List.{drop_more, map-append, map-set}
+use Rattle.std.proofs.lemmas.List.{map-append, map-set}
 use Rattle.std.proofs.lemmas.Option.{slice_get-map, slice_get_read}
 use Rattle.indexmap.specs.IndexSet.{insert_key}
 use Rattle.c_tree.specs.declared.program.Base.{Base}
 use Rattle.c_tree.specs.declared.program.ScalarType.{ScalarType}
-use Rattle.c_tree.specs.declared.program.VarRef.TheVariants as refs
 use Rattle.c_tree.specs.declared.program.Initial.{Initial}
 use Rattle.c_syntax.specs.declared.decl.Param.{Param}
 use Rattle.c_syntax.specs.declared.decl.Item.{Item}
@@ -23,45 +22,26 @@ use Rattle.c_syntax.specs.declared.decl.Decl.{Decl}
 use Rattle.c_syntax.specs.SyntaxTree.{ItemTree, FunctionSyntax, ParameterTree}
 use Rattle.c_tree.specs.TypedTree.{Kind, Stmt}
 use Rattle.c_syntax.specs.SyntaxView.{parameter_of, initial_of, item_of, external_of, unit_of}
-use Rattle.c_types.specs.declared.declarations.Declared.{Declared}
-use Rattle.c_types.specs.declared.declarations.Declared.TheVariants as declares
-use Rattle.c_types.specs.declared.fault.Rule.{Rule}
-use Rattle.c_types.specs.declared.fault.Rule.TheVariants.{Redeclared, Mismatch}
-use Rattle.c_types.specs.declared.fault.Refusal.{Refusal}
-use Rattle.c_types.specs.declared.fault.Refusal.TheVariants as refusals
-use Rattle.c_types.specs.declared.meaning.Meaning.{Meaning}
-use Rattle.c_types.specs.declared.meaning.Meaning.TheVariants as meanings
-use Rattle.c_types.specs.declared.meaning.ObjectType.{ObjectType}
+use Rattle.c_rules.specs.declared.meaning.Declared.{Declared}
+use Rattle.c_rules.specs.declared.meaning.Declared.TheVariants as declares
+use Rattle.c_rules.specs.declared.fault.Rule.{Rule}
+use Rattle.c_rules.specs.declared.fault.Rule.TheVariants.{Redeclared, Mismatch}
+use Rattle.c_rules.specs.declared.fault.Refusal.{Refusal}
+use Rattle.c_rules.specs.declared.fault.Refusal.TheVariants as refusals
+use Rattle.c_rules.specs.declared.meaning.Meaning.{Meaning}
+use Rattle.c_rules.specs.declared.meaning.Meaning.TheVariants as meanings
+use Rattle.c_rules.specs.declared.meaning.ObjectType.{ObjectType}
 use Rattle.c_types.specs.declared.units.Static as memory
-use Rattle.c_types.specs.declared.functions.TypedFunction as functions
-use Rattle.c_types.specs.Answers.{Refuses}
-use Rattle.c_types.specs.Outcome.{Outcome, Is, Broken, ◌>>=◌, breaks}
-use Rattle.c_types.specs.Kinds.{same_type}
-use Rattle.c_types.specs.Scopes.{Scope, open_scope, is_in, is_out}
-use Rattle.c_types.specs.Declarations.{with_single}
-use Rattle.c_types.specs.Statements.{LocalTree, Typed, typed_body}
-use Rattle.c_types.specs.Tables.{names_of}
-use Rattle.c_types.specs.View.{static_tree_of, typed_function_of}
-use Rattle.c_types.specs.Units.{File, StaticTree, Starts, starts, agrees, may_declare, with_declared, static_number, is_initialised, is_twice, untyped_rule, item_as, declared_as, same_types, with_parameters, with_list, with_static, set_list, file_item, file_items, external, externals, is_among, bodies_behind, with_function, with_body, parameter_locals}
-
-same_false : (b : Bool) → (b && false) ≡ false
-same_false true = refl
-same_false false = refl
-
--- lists of two lengths aren't the same
-pub unlike_lengths : (a b : List ScalarType) → length a ≢ length b → same_types a b ≡ false
-unlike_lengths [] [] unlike = absurd (unlike refl)
-unlike_lengths [] (y ∷ ys) unlike = refl
-unlike_lengths (x ∷ xs) [] unlike = refl
-unlike_lengths (x ∷ xs) (y ∷ ys) unlike = ap (λ r. same_type x y && r) (unlike_lengths xs ys (λ e. unlike (ap suc e))) ∙ same_false (same_type x y)
-
--- the element of a turn is the first of what is left
-pub first_of : {A : Type 0} (list : List A) (i : ℕ) (x : A) → x ≡ get_or list i x → i < length list → drop i list ≡ x ∷ drop (i + 1) list
-first_of list i x is below = drop_more list i x below ∙ ap (λ e. e ∷ drop (i + 1) list) (sym is)
-
-pub same_turn : (a b : List ScalarType) (i : ℕ) (x y : ScalarType) → x ≡ get_or a i x → i < length a → y ≡ get_or b i y → i < length b → same_types (drop i a) (drop i b) ≡ (same_type x y && same_types (drop (i + 1) a) (drop (i + 1) b))
-same_turn a b i x y x_is x_below y_is y_below =
-    ap (λ l. same_types l (drop i b)) (first_of a i x x_is x_below) ∙ ap (same_types (x ∷ drop (i + 1) a)) (first_of b i y y_is y_below)
+use Rattle.c_frames.specs.declared.functions.TypedFunction as functions
+use Rattle.c_rules.specs.Answers.{Refuses}
+use Rattle.c_rules.specs.Outcome.{Outcome, Is, Broken, ◌>>=◌, breaks}
+use Rattle.c_rules.specs.Scopes.{Scope, open_scope, is_in, is_out}
+use Rattle.c_rules.specs.Statements.{LocalTree, Typed, typed_body}
+use Rattle.c_scopes.specs.Tables.{names_of}
+use Rattle.c_types.specs.View.{static_tree_of}
+use Rattle.c_frames.specs.FunctionView.{typed_function_of}
+use Rattle.c_rules.specs.Units.{File, StaticTree, Starts, starts, agrees, may_declare, with_declared, static_number, is_initialised, is_twice, untyped_rule, item_as, declared_as, with_parameters, with_list, with_static, set_list, file_item, file_items, external, externals, is_among, bodies_behind, with_function, with_body, parameter_locals}
+use Rattle.c_scopes.proofs.FileScopeLemmas.{same_false, first_of}
 
 -- the names of a set with one more name
 module _ (name : Bor (List ℕ)) where
@@ -77,22 +57,6 @@ module _ (name : Bor (List ℕ)) where
 
   pub names_inserted : (keys : List (Bor (List ℕ))) → names_of (insert_key (λ a b. bytes_eq a.now b.now) keys name) ≡ (if is_among name.now (names_of keys) then names_of keys else names_of keys ++ name.now ∷ [])
   names_inserted keys = names_chosen (list_any (λ k. bytes_eq name.now k.now) keys) keys ∙ ap (λ b. if b then names_of keys else names_of keys ++ name.now ∷ []) (among_names keys)
-
--- parameters: one of a turn, and those behind the end of the shorter list
-pub parameter_declared : (s : Scope) (n : ℕ) (list : List Param) (kinds : List ScalarType) (i : ℕ) (p : Param) (kind : ScalarType) → p ≡ get_or list i p → i < length list → kind ≡ get_or kinds i kind → i < length kinds → with_parameters s n (map parameter_of (drop i list)) (drop i kinds) ≡ with_parameters (with_single s p.name (refs.Local n) kind) (n + 1) (map parameter_of (drop (i + 1) list)) (drop (i + 1) kinds)
-parameter_declared s n list kinds i p kind p_is p_below kind_is kind_below =
-    ap (λ l. with_parameters s n (map parameter_of l) (drop i kinds)) (first_of list i p p_is p_below)
-    ∙ ap (λ l. with_parameters s n (map parameter_of (p ∷ drop (i + 1) list)) l) (first_of kinds i kind kind_is kind_below)
-    ∙ ap (λ m. with_parameters (with_single s p.name (refs.Local n) kind) m (map parameter_of (drop (i + 1) list)) (drop (i + 1) kinds)) (omega arith)
-
--- where no type is left, no parameter is declared
-none_left : (s : Scope) (n : ℕ) (ps : List ParameterTree) → with_parameters s n ps [] ≡ s
-none_left s n [] = refl
-none_left s n (p ∷ ps) = refl
-
-pub parameters_ended : (s : Scope) (list : List Param) (kinds : List ScalarType) (i : ℕ) → length kinds ≤ i → with_parameters s i (map parameter_of (drop i list)) (drop i kinds) ≡ s
-parameters_ended s list kinds i past =
-    ap (with_parameters s i (map parameter_of (drop i list))) (drop_of_length-le kinds past) ∙ none_left s i (map parameter_of (drop i list))
 
 -- parameters as objects: one of a turn, and those behind the end of the types
 none_placed : (ps : List ParameterTree) → parameter_locals ps [] ≡ []

@@ -1,28 +1,26 @@
 -- What is wanted of a whole source, from what its parts are tested for.
 use Rattle.std.proofs.Common.{◌≡◌, ◌<◌, ◌⊎◌, inl, inr, ◌++◌, ◌∷◌, [], ℕ, zero, suc, Bool, true, false, List, length, map, get_or, take, drop, ap, ◌∙◌, sym, refl, subst, vec_items, ◌+◌, nat_lt, if◌then◌else◌, Option, Some, None, arith}
-use Rattle.std.specs.Prelude.{slice_get, Vec}
+use Rattle.std.specs.Prelude.{Vec}
 use Rattle.std.specs.Global.{Global}
-use borrow.Author.Tests.{ltb-true}
 use Rattle.std.proofs.lemmas.List.{length-map, map-append, map_more}
 use Rattle.c_tree.specs.declared.program.VarRef.{VarRef}
 use Rattle.c_tree.specs.View.{stmt_of}
-use Rattle.c_types.specs.declared.fault.LimitName.{LimitName}
-use Rattle.c_types.specs.declared.fault.LimitName.TheVariants as limit
-use Rattle.c_types.specs.declared.fault.TypeFault.{TypeFault}
-use Rattle.c_types.specs.declared.fault.TypeFault.TheVariants as faults
-use Rattle.c_types.specs.declared.functions.TypedFunction as memory
+use Rattle.c_rules.specs.declared.fault.LimitName.{LimitName}
+use Rattle.c_rules.specs.declared.fault.LimitName.TheVariants as limit
+use Rattle.c_rules.specs.declared.fault.TypeFault.{TypeFault}
+use Rattle.c_rules.specs.declared.fault.TypeFault.TheVariants as faults
+use Rattle.c_frames.specs.declared.functions.TypedFunction as memory
 use Rattle.c_tree.specs.declared.uses.Use.{Use}
-use Rattle.c_tree.specs.declared.uses.Use.TheVariants as kind
-use Rattle.c_types.specs.Checked.{AreWhole}
-use Rattle.c_types.specs.Faults.{SaysOf}
-use Rattle.c_types.specs.Programs.{frame, has_main, Calling, HasBodies, HasNoCycle}
-use Rattle.c_types.specs.Units.{TypedFunction}
+use Rattle.c_rules.specs.Checked.{AreWhole}
+use Rattle.c_rules.specs.Faults.{SaysOf}
+use Rattle.c_rules.specs.Programs.{frame, has_main, HasNoCycle}
+use Rattle.c_rules.specs.Units.{TypedFunction}
 use Rattle.c_tree.specs.Uses.{statement_uses}
-use Rattle.c_types.specs.View.{typed_function_of, frame_lists}
-use Rattle.c_types.specs.Whole.{uses_of, earlier, first_without, first_among, missing_body, case_counts, all_cases, first_above, passed, IsOver}
-use Rattle.c_types.specs.Chains.{IsRecursion}
-use Rattle.c_types.proofs.CallsLemmas.{list_at}
-use Rattle.c_types.proofs.UnitLemmas.{first_of}
+use Rattle.c_frames.specs.FunctionView.{typed_function_of}
+use Rattle.c_types.specs.View.{frame_lists}
+use Rattle.c_rules.specs.Whole.{uses_of, earlier, first_among, missing_body, case_counts, all_cases, first_above, passed, IsOver}
+use Rattle.c_rules.specs.Chains.{IsRecursion}
+use Rattle.c_scopes.proofs.FileScopeLemmas.{first_of}
 
 -- the uses of each function, by its place
 pub uses_at : (fs : List memory.TypedFunction) (lists : List (Vec Use Global)) (n : ℕ) (f : memory.TypedFunction) (us : Vec Use Global)
@@ -55,12 +53,6 @@ uses_of_trees : (fs : List memory.TypedFunction) {lists : List (List Use)} → l
     → lists ≡ map uses_of (map typed_function_of fs)
 uses_of_trees fs listed = listed ∙ sym (map_trees uses_of fs)
 
--- places of calls
-earlier_none : (a b : Option ℕ) → earlier a b ≡ None → (a ≡ None) × (b ≡ None)
-earlier_none None b none = (refl, none)
-earlier_none (Some a) None none = absurd (cc none)
-earlier_none (Some a) (Some b) none = absurd (cc none)
-
 pub earlier_alone : (a : Option ℕ) → earlier a None ≡ a
 earlier_alone None = refl
 earlier_alone (Some a) = refl
@@ -70,35 +62,6 @@ earlier_grouped None b c = refl
 earlier_grouped (Some a) None c = refl
 earlier_grouped (Some a) (Some b) None = refl
 earlier_grouped (Some a) (Some b) (Some c) = ap Some (omega arith)
-
-no_rest : (b : Bool) (place : ℕ) (o : Option ℕ) → (if b then o else earlier (Some place) o) ≡ None → o ≡ None
-no_rest true place o none = none
-no_rest false place o none = (earlier_none (Some place) o none).1
-
-met : (b : Bool) (f bodies place : ℕ) (o : Option ℕ) → nat_lt f bodies ≡ b → (if b then o else earlier (Some place) o) ≡ None → f < bodies
-met true f bodies place o is none = ltb-true f bodies is
-met false f bodies place o is none = absurd (cc (earlier_none (Some place) o none).0)
-
-call_met : (bodies f at : ℕ) (before behind : List Use) → first_without bodies (before ++ kind.Call f at ∷ behind) ≡ None → f < bodies
-call_met bodies f at [] behind none = met (nat_lt f bodies) f bodies at (first_without bodies behind) refl none
-call_met bodies f at (kind.Call g place ∷ before) behind none =
-    call_met bodies f at before behind (no_rest (nat_lt g bodies) place (first_without bodies (before ++ kind.Call f at ∷ behind)) none)
-call_met bodies f at (kind.Address r ∷ before) behind none = call_met bodies f at before behind none
-call_met bodies f at (kind.Cases n ∷ before) behind none = call_met bodies f at before behind none
-
-all_met : (bodies : ℕ) (lists : List (List Use)) (n f at : ℕ) (before behind : List Use) → first_among bodies lists ≡ None
-    → slice_get lists n ≡ Some (before ++ kind.Call f at ∷ behind) → f < bodies
-all_met bodies [] n f at before behind none there = absurd (cc there)
-all_met bodies (us ∷ rest) zero f at before behind none there =
-    let same : us ≡ before ++ kind.Call f at ∷ behind = cc there
-    in call_met bodies f at before behind (ap (first_without bodies) (sym same) ∙ (earlier_none (first_without bodies us) (first_among bodies rest) none).0)
-all_met bodies (us ∷ rest) (suc n) f at before behind none there =
-    all_met bodies rest n f at before behind (earlier_none (first_without bodies us) (first_among bodies rest) none).1 there
-
--- each function that is called has a body where no call is of one without
-pub bodies_met : (fs : List TypedFunction) → missing_body fs ≡ None → HasBodies fs
-bodies_met _ none _ _ (Calling fs n m f at before behind there called) =
-    all_met (length fs) (map uses_of fs) n m at before behind none (list_at fs n f there ∙ ap Some called)
 
 pub missing_same : (fs : List memory.TypedFunction) (lists : List (Vec Use Global)) → map vec_items lists ≡ map (λ f. statement_uses (stmt_of f.body)) fs
     → first_among (length lists) (map vec_items lists) ≡ missing_body (map typed_function_of fs)

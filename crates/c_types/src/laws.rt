@@ -6,10 +6,10 @@ ghost use Rattle.c_syntax.specs.FunctionNames.{function_names};
 ghost use Rattle.c_syntax.specs.SyntaxTree.{UnitTree};
 ghost use Rattle.c_tree.specs.TypedTree.{ProgramTree};
 ghost use Rattle.c_tree.specs.WellFormedProgram.{IsProgram};
-ghost use Rattle.c_types.specs.Checked.{IsTyped};
-ghost use Rattle.c_types.specs.Faults.{Says};
-ghost use Rattle.c_types.specs.declared.fault.TypeFault.{TypeFault};
-ghost use Rattle.c_types.specs.declared.fault.TypeFault.TheVariants as faults;
+ghost use Rattle.c_rules.specs.Checked.{IsTyped};
+ghost use Rattle.c_rules.specs.Faults.{Says};
+ghost use Rattle.c_rules.specs.declared.fault.TypeFault.{TypeFault};
+ghost use Rattle.c_rules.specs.declared.fault.TypeFault.TheVariants as faults;
 
 /// A source has at most one typed program.
 pub fn one_typed_program()

@@ -10,12 +10,12 @@ use Rattle.c_syntax.specs.Source.{IsSource, NoSource, IsPlace}
 use Rattle.c_parser.specs.declared.fault.ParseFault.{ParseFault}
 use Rattle.c_parser.specs.declared.fault.ParseFault.TheVariants as parse_faults
 use Rattle.c_tree.specs.TypedTree.{ProgramTree}
-use Rattle.c_types.specs.Checked.{IsTyped}
-use Rattle.c_types.specs.Faults as types
-use Rattle.c_types.specs.declared.fault.LimitName.{LimitName}
-use Rattle.c_types.specs.declared.fault.LimitName.TheVariants as limits
-use Rattle.c_types.specs.declared.fault.TypeFault.{TypeFault}
-use Rattle.c_types.specs.declared.fault.TypeFault.TheVariants as type_faults
+use Rattle.c_rules.specs.Checked.{IsTyped}
+use Rattle.c_rules.specs.Faults as types
+use Rattle.c_rules.specs.declared.fault.LimitName.{LimitName}
+use Rattle.c_rules.specs.declared.fault.LimitName.TheVariants as limits
+use Rattle.c_rules.specs.declared.fault.TypeFault.{TypeFault}
+use Rattle.c_rules.specs.declared.fault.TypeFault.TheVariants as type_faults
 use Rattle.cc_driver.specs.Thin.{IsThinProgram}
 use Rattle.cc_driver.specs.declared.fault.SourceFault.{SourceFault}
 use Rattle.cc_driver.specs.declared.fault.SourceFault.TheVariants.{BadByte, OpenComment, BadConstant, LongName, TooManyTokens, Syntax, Types, NotYet}

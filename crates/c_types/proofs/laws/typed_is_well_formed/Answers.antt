@@ -1,4 +1,4 @@
-use Rattle.c_types.proofs.Formed.FormedSource.{well_formed_typed}
+use Rattle.c_rules.proofs.Formed.FormedSource.{well_formed_typed}
 use Rattle.c_types.proofs.laws.typed_is_well_formed.Goals as goal
 
 pub returns : goal.returns

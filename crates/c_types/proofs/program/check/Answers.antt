@@ -1,11 +1,11 @@
 use Rattle.c_syntax.specs.SyntaxView.{unit_of}
 use Rattle.c_tree.specs.ProgramView.{program_of}
 use Rattle.std.proofs.Common.{subst}
-use Rattle.c_types.specs.Answers.{Refuses}
-use Rattle.c_types.specs.Faults.{Says, fault_of}
-use Rattle.c_types.specs.Units.{typed_unit}
+use Rattle.c_rules.specs.Answers.{Refuses}
+use Rattle.c_rules.specs.Faults.{Says, fault_of}
+use Rattle.c_rules.specs.Units.{typed_unit}
 use Rattle.c_types.proofs.ProgramLemmas.{refusal_says, says_source, typed_source, fault_says}
-use Rattle.c_types.proofs.Formed.FormedSource.{made_is_formed}
+use Rattle.c_types.proofs.ProgramLemmas.{made_is_formed}
 use Rattle.c_types.proofs.program.check.Goals as goal
 
 pub program-requires : goal.program-requires

@@ -1,7 +1,7 @@
 use Rattle.std.proofs.Common.{◌+◌, ◌∙◌, ap, sym, drop}
 use Rattle.c_syntax.specs.SyntaxView.{unit_of}
-use Rattle.c_types.specs.Tables.{names_of}
-use Rattle.c_types.specs.Units.{bodies_behind}
+use Rattle.c_scopes.specs.Tables.{names_of}
+use Rattle.c_rules.specs.Units.{bodies_behind}
 use Rattle.c_types.proofs.UnitLemmas.{function_passed, declaration_passed}
 use Rattle.c_types.proofs.units.bodies_of.Goals.{in-Function+in_ok-insert, in_default}
 use Rattle.c_types.proofs.units.bodies_of.Goals as goal

@@ -1,7 +1,7 @@
 use Rattle.std.proofs.Common.{◌≡◌, [], drop}
 use Rattle.c_syntax.specs.SyntaxView.{unit_of}
-use Rattle.c_types.specs.Tables.{names_of}
-use Rattle.c_types.specs.Units.{bodies_behind}
+use Rattle.c_scopes.specs.Tables.{names_of}
+use Rattle.c_rules.specs.Units.{bodies_behind}
 use Rattle.c_types.proofs.units.bodies_of.Given as goal
 
 -- what the names so far and the externals of the rest make together

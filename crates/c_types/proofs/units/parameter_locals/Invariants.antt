@@ -1,7 +1,7 @@
 use Rattle.std.proofs.Common.{◌≡◌, ◌++◌, map, drop}
 use Rattle.c_syntax.specs.SyntaxView.{parameter_of}
-use Rattle.c_types.specs.Units.{parameter_locals}
-use Rattle.c_types.specs.View.{local_tree_of}
+use Rattle.c_rules.specs.Units.{parameter_locals}
+use Rattle.c_rules.specs.LocalView.{local_tree_of}
 use Rattle.c_types.proofs.units.parameter_locals.Given as goal
 
 abbrev pub invariant-loop-n : goal.invariant-loop-n

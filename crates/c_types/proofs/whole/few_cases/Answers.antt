@@ -1,6 +1,6 @@
 use Rattle.std.proofs.Common.{◌∙◌, ap, map, sym, subst, vec_items}
-use Rattle.c_types.specs.declared.fault.LimitName.TheVariants as limit
-use Rattle.c_types.specs.Whole.{IsOver, first_above, case_counts, all_cases}
+use Rattle.c_rules.specs.declared.fault.LimitName.TheVariants as limit
+use Rattle.c_rules.specs.Whole.{IsOver, first_above, case_counts, all_cases}
 use Rattle.c_types.proofs.ProgramLemmas.{fault_says}
 use Rattle.c_types.proofs.WholeLemmas.{cases_further, cases_over}
 use Rattle.c_types.proofs.whole.few_cases.Goals as goal

@@ -1,5 +1,5 @@
 use Rattle.std.proofs.Common.{◌≡◌, map, drop, vec_items}
-use Rattle.c_types.specs.Whole.{first_above, all_cases}
+use Rattle.c_rules.specs.Whole.{first_above, all_cases}
 use Rattle.c_types.proofs.whole.few_cases.Given as goal
 
 abbrev pub invariant-loop-list : goal.invariant-loop-list

@@ -1,5 +1,5 @@
 use Rattle.std.proofs.Common.{◌≡◌, drop}
-use Rattle.c_types.specs.Whole.{first_above, case_counts}
+use Rattle.c_rules.specs.Whole.{first_above, case_counts}
 use Rattle.c_types.proofs.whole.few_cases_in.Given as goal
 
 abbrev pub invariant-loop-found : goal.invariant-loop-found

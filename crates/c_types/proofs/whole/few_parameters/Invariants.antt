@@ -1,7 +1,7 @@
 use Rattle.std.proofs.Common.{◌≡◌, map, drop}
-use Rattle.c_types.specs.declared.fault.LimitName.TheVariants.{Parameters}
-use Rattle.c_types.specs.View.{typed_function_of}
-use Rattle.c_types.specs.Whole.{passed}
+use Rattle.c_rules.specs.declared.fault.LimitName.TheVariants.{Parameters}
+use Rattle.c_frames.specs.FunctionView.{typed_function_of}
+use Rattle.c_rules.specs.Whole.{passed}
 use Rattle.c_types.proofs.whole.few_parameters.Given as goal
 
 abbrev pub invariant-loop-f : goal.invariant-loop-f

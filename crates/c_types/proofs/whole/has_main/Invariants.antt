@@ -1,6 +1,6 @@
 use Rattle.std.proofs.Common.{◌≡◌, map, drop}
-use Rattle.c_types.specs.Programs.{has_main}
-use Rattle.c_types.specs.View.{typed_function_of}
+use Rattle.c_rules.specs.Programs.{has_main}
+use Rattle.c_frames.specs.FunctionView.{typed_function_of}
 use Rattle.c_types.proofs.whole.has_main.Given as goal
 
 abbrev pub invariant-loop-f : goal.invariant-loop-f

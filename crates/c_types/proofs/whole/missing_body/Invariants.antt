@@ -1,5 +1,5 @@
 use Rattle.std.proofs.Common.{◌≡◌, map, drop, length, vec_items}
-use Rattle.c_types.specs.Whole.{earlier, first_among}
+use Rattle.c_rules.specs.Whole.{earlier, first_among}
 use Rattle.c_types.proofs.whole.missing_body.Given as goal
 
 abbrev pub invariant-loop-list : goal.invariant-loop-list

@@ -1,5 +1,5 @@
 use Rattle.std.proofs.Common.{◌≡◌, drop}
-use Rattle.c_types.specs.Whole.{earlier, first_without}
+use Rattle.c_rules.specs.Whole.{earlier, first_without}
 use Rattle.c_types.proofs.whole.missing_call.Given as goal
 
 abbrev pub invariant-loop-found : goal.invariant-loop-found

@@ -1,7 +1,7 @@
 use Rattle.std.proofs.Common.{ℕ, List, ◌<◌, length, map, vec_items, sym, subst, arith}
 use Rattle.std.specs.Prelude.{All}
 use Rattle.std.proofs.lemmas.List.{length-map}
-use Rattle.c_types.proofs.ChainLemmas.{bodies_in, no_cycle_in, chain_there, chain_in}
+use Rattle.c_frames.proofs.ChainLemmas.{bodies_in, no_cycle_in, chain_there, chain_in}
 use Rattle.c_types.proofs.whole.no_recursion.Goals as goal
 
 pub first_round-requires : goal.first_round-requires

@@ -1,5 +1,5 @@
 use Rattle.std.proofs.Common.{◌≡◌, ◌+◌, drop}
-use Rattle.c_types.specs.Frames.{frame_scalars}
+use Rattle.c_rules.specs.Programs.{frame_scalars}
 use Rattle.c_types.proofs.whole.scalars_among.Given as goal
 
 abbrev pub invariant-loop-reference : goal.invariant-loop-reference

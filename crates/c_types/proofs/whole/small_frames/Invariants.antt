@@ -1,7 +1,8 @@
 use Rattle.std.proofs.Common.{◌≡◌, map, take, drop}
-use Rattle.c_types.specs.Programs.{frame}
-use Rattle.c_types.specs.View.{typed_function_of, frame_lists}
-use Rattle.c_types.specs.Whole.{first_above, frame_size}
+use Rattle.c_rules.specs.Programs.{frame}
+use Rattle.c_frames.specs.FunctionView.{typed_function_of}
+use Rattle.c_types.specs.View.{frame_lists}
+use Rattle.c_rules.specs.Whole.{first_above, frame_size}
 use Rattle.c_types.proofs.whole.small_frames.Given as goal
 
 abbrev pub invariant-loop-n : goal.invariant-loop-n

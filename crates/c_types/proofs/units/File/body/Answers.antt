@@ -1,12 +1,13 @@
 use Rattle.std.proofs.Common.{◌≡◌, ◌∙◌, ap, sym, refl, map, reverse}
 use Rattle.c_syntax.specs.SyntaxView.{function_of, parameter_of, declaration_of, body_of}
 use Rattle.c_tree.specs.View.{stmt_of}
-use Rattle.c_types.specs.Scopes.{open_scope}
-use Rattle.c_types.specs.Statements.{typed_body}
-use Rattle.c_types.specs.Tables.{scope_of, tables_of}
-use Rattle.c_types.specs.Units.{with_parameters, parameter_locals}
-use Rattle.c_types.specs.View.{file_of, local_tree_of}
-use Rattle.c_types.proofs.ScopesKept.{closed_again, scope_kept}
+use Rattle.c_rules.specs.Scopes.{open_scope}
+use Rattle.c_rules.specs.Statements.{typed_body}
+use Rattle.c_scopes.specs.Tables.{scope_of, tables_of}
+use Rattle.c_rules.specs.Units.{with_parameters, parameter_locals}
+use Rattle.c_types.specs.View.{file_of}
+use Rattle.c_rules.specs.LocalView.{local_tree_of}
+use Rattle.c_scopes.proofs.ScopesKept.{closed_again, scope_kept}
 use Rattle.c_types.proofs.UnitLemmas.{body_typed, function_pushed}
 use Rattle.c_types.proofs.units.File.body.Goals as goal
 

@@ -1,6 +1,6 @@
 use Rattle.std.proofs.Common.{◌≡◌, map, drop}
 use Rattle.c_syntax.specs.SyntaxView.{item_of}
-use Rattle.c_types.specs.Units.{file_items}
+use Rattle.c_rules.specs.Units.{file_items}
 use Rattle.c_types.specs.View.{file_of}
 use Rattle.c_types.proofs.units.File.items.Given as goal
 

@@ -1,11 +1,12 @@
 use Rattle.std.proofs.Common.{rules, ◌≡◌, ◌∙◌, ◌||◌, not, true, sym}
 use Rattle.std.proofs.lemmas.List.{length-map}
 use Rattle.c_syntax.specs.SyntaxView.{item_of}
-use Rattle.c_types.specs.declared.declarations.Declared.TheVariants as declares
-use Rattle.c_types.specs.Answers.{Refuses}
-use Rattle.c_types.specs.Tables.{scope_of}
-use Rattle.c_types.specs.Units.{item_as, static_list}
-use Rattle.c_types.specs.View.{file_of, starts_of, static_tree_of}
+use Rattle.c_rules.specs.declared.meaning.Declared.TheVariants as declares
+use Rattle.c_rules.specs.Answers.{Refuses}
+use Rattle.c_scopes.specs.Tables.{scope_of}
+use Rattle.c_rules.specs.Units.{item_as, static_list}
+use Rattle.c_types.specs.View.{file_of, static_tree_of}
+use Rattle.c_scopes.specs.InitialiserView.{starts_of}
 use Rattle.c_types.proofs.UnitLemmas.{starts_refused, redeclared_refused, declared_refused, not_allowed, allowed_twice, allowed_once, refused_first}
 use Rattle.c_types.proofs.units.File.object.Goals.{then-not-allowed-via-then-not-allowed, then-not-allowed-via-else-not-allowed+then-is_twice}
 use Rattle.c_types.proofs.units.File.object.Goals as goal

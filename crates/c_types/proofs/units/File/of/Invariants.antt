@@ -1,6 +1,6 @@
 use Rattle.std.proofs.Common.{◌≡◌, drop}
 use Rattle.c_syntax.specs.SyntaxView.{unit_of}
-use Rattle.c_types.specs.Units.{externals, typed_unit}
+use Rattle.c_rules.specs.Units.{externals, typed_unit}
 use Rattle.c_types.specs.View.{file_of}
 use Rattle.c_types.proofs.units.File.of.Given as goal
 

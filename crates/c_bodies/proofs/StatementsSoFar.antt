@@ -1,0 +1,164 @@
+-- Statements in memory, one behind another, and blocks of them.
+use Rattle.std.proofs.Common.{◌≡◌, ℕ, ◌+◌, ◌<◌, ◌≤◌, List, [], ◌∷◌, ◌++◌, map, drop, get_or, length, refl, ap, sym, ◌∙◌, Vec, Global, subst}
+use Rattle.std.specs.Prelude.{Result, IfOk, IfErr}
+use Rattle.std.proofs.Math.ListN.{drop_of_length-le}
+use Rattle.std.proofs.lemmas.List.{drop_more}
+use Rattle.c_syntax.specs.declared.decl.Decl.{Decl}
+use Rattle.c_syntax.specs.declared.stmt.Stmt.{Stmt}
+use Rattle.c_syntax.specs.declared.stmt.StmtKind as kind
+use Rattle.c_tree.specs.declared.typed_statement.TypedStmt as memory
+use Rattle.c_tree.specs.declared.typed_statement.TypedStmt.{TypedStmt}
+use Rattle.c_tree.specs.Eval.{kind_of}
+use Rattle.c_syntax.specs.SyntaxTree as tree
+use Rattle.c_syntax.specs.SyntaxTree.{DeclarationTree, Expression, Statement, Statements}
+use Rattle.c_syntax.specs.SyntaxView.{statement_of, body_of, declaration_of}
+use Rattle.c_tree.specs.TypedTree as typed
+use Rattle.c_tree.specs.TypedTree.{Expr, Stmts, Block, Do_while, If, both, done}
+use Rattle.c_tree.specs.declared.program.VarRef.{VarRef}
+use Rattle.c_tree.specs.View.{stmt_of, statement_list}
+use Rattle.c_tree.proofs.Views.{block_of_list}
+use Rattle.c_bodies.specs.declared.blocks.Body.{Body}
+use Rattle.c_bodies.specs.declared.blocks.Opening.{Opening}
+use Rattle.c_rules.specs.declared.fault.Refusal.{Refusal}
+use Rattle.c_rules.specs.declared.fault.Refusal.TheVariants as refusals
+use Rattle.c_rules.specs.declared.fault.Rule.{Rule}
+use Rattle.c_rules.specs.declared.fault.Rule.TheVariants.{Mismatch}
+use Rattle.c_tree.specs.declared.enclosing.Enclosing.{Enclosing}
+use Rattle.c_tree.specs.declared.enclosing.Enclosing.TheVariants as around
+use Rattle.c_rules.specs.Answers.{Refuses}
+use Rattle.c_bodies.specs.Bodies.{behind, block_in, statement_in, statements_in}
+use Rattle.c_rules.specs.Kinds.{is_void}
+use Rattle.c_rules.specs.Outcome.{Outcome, Is, Broken, ◌>>=◌, breaks}
+use Rattle.c_rules.specs.Statements.{LocalTree, Opened, Typed, just, before, declarations, typed_statement, typed_statements}
+use Rattle.c_scopes.specs.Tables.{scope_of, tables_of}
+use Rattle.c_rules.specs.Typing.{typing}
+use Rattle.c_bodies.specs.BodyView.{locals_of, opened_of}
+use Rattle.c_scopes.proofs.KeptScopes.{scope_kept}
+use Rattle.c_bodies.proofs.SyntaxRows.{block_of}
+
+-- what was typed of a list, what is left of it, and what stays as it was
+pub record StatementsSoFar (first now : Body) (c : Enclosing) (all rest : List Stmt) (there so_far : List TypedStmt) : Type 0 where
+  pub typed : behind there (statements_in first c (body_of all)) ≡ behind so_far (statements_in now c (body_of rest))
+  pub tables : tables_of now.scopes ≡ tables_of first.scopes
+  pub bodies : now.scopes.bodies ≡ first.scopes.bodies
+  pub returned : now.result ≡ first.result
+
+before_more : (there : List TypedStmt) (t : TypedStmt) (rest : Stmts) → before (map stmt_of there) (both (stmt_of t) rest) ≡ before (map stmt_of (there ++ t ∷ [])) rest
+before_more [] t rest = refl
+before_more (x ∷ xs) t rest = ap (both (stmt_of x)) (before_more xs t rest)
+
+before_done : (there : List TypedStmt) → before (map stmt_of there) done ≡ statement_list there
+before_done [] = refl
+before_done (x ∷ xs) = ap (both (stmt_of x)) (before_done xs)
+
+one_more : (there : List TypedStmt) (t : TypedStmt) (o : Outcome (Typed Stmts)) → behind there (o >>= λ r. just (both (stmt_of t) r.tree) r.locals) ≡ behind (there ++ t ∷ []) o
+one_more there t (Is r) = ap (λ b. just b r.locals) (before_more there t r.tree)
+one_more there t (Broken rule at) = refl
+
+unbroken : (there : List TypedStmt) (o : Outcome (Typed Stmts)) (rule : Rule) (at : ℕ) → behind there o ≡ Broken rule at → o ≡ Broken rule at
+unbroken there (Is r) rule at h = cc
+unbroken there (Broken other place) rule at h = h
+
+-- a list from an element on
+from_here : (list : List Stmt) (i : ℕ) (s : Stmt) → s ≡ get_or list i s → i < length list → drop i list ≡ s ∷ drop (i + 1) list
+from_here list i s is within = drop_more list i s within ∙ ap (λ x. x ∷ drop (i + 1) list) (sym is)
+
+module _ (b n : Body) (tables : tables_of n.scopes ≡ tables_of b.scopes) (bodies : n.scopes.bodies ≡ b.scopes.bodies) where
+  -- the test of a do behind its body
+  pub do_rest : (c : Enclosing) (s : Statement) (e : Expression) (at : ℕ) (p : typed.Stmt) → statement_in b around.Loop s ≡ just p (locals_of n)
+      → (typing (scope_of n.scopes) e >>= λ x. breaks (is_void (kind_of x)) Mismatch at (just (Do_while p x) (locals_of n))) ≡ statement_in b c (tree.DoWhile s e at)
+  do_rest c s e at p h = sym
+      (ap (λ o. o >>= λ q. typing (scope_of b.scopes) e >>= λ x. breaks (is_void (kind_of x)) Mismatch at (just (Do_while q.tree x) q.locals)) h
+      ∙ (λ i. typing (sym (scope_kept n.scopes b.scopes tables bodies) i) e >>= λ x. breaks (is_void (kind_of x)) Mismatch at (just (Do_while p x) (locals_of n))))
+
+  module _ (returned : n.result ≡ b.result) where
+    statements_kept : (c : Enclosing) (ls : List LocalTree) (ss : Statements) → typed_statements n.result (scope_of n.scopes) c ls ss ≡ typed_statements b.result (scope_of b.scopes) c ls ss
+    statements_kept c ls ss = λ i. typed_statements (returned i) (scope_kept n.scopes b.scopes tables bodies i) c ls ss
+
+    statement_kept : (c : Enclosing) (ls : List LocalTree) (s : Statement) → typed_statement n.result (scope_of n.scopes) c ls s ≡ typed_statement b.result (scope_of b.scopes) c ls s
+    statement_kept c ls s = λ i. typed_statement (returned i) (scope_kept n.scopes b.scopes tables bodies i) c ls s
+
+    -- the else of an if behind its first arm
+    pub else_rest : (c : Enclosing) (e : Expression) (one other : Statement) (at : ℕ) (x : Expr) (p : typed.Stmt) → typing (scope_of b.scopes) e ≡ Is x → statement_in b c one ≡ just p (locals_of n)
+        → (statement_in n c other >>= λ q. breaks (is_void (kind_of x)) Mismatch at (just (If x p q.tree) q.locals)) ≡ statement_in b c (tree.IfElse e one other at)
+    else_rest c e one other at x p test h = sym
+        (ap (λ o. o >>= λ x. statement_in b c one >>= λ p. typed_statement b.result (scope_of b.scopes) c p.locals other >>= λ q. breaks (is_void (kind_of x)) Mismatch at (just (If x p.tree q.tree) q.locals)) test
+        ∙ ap (λ o. o >>= λ p. typed_statement b.result (scope_of b.scopes) c p.locals other >>= λ q. breaks (is_void (kind_of x)) Mismatch at (just (If x p.tree q.tree) q.locals)) h
+        ∙ ap (λ o. o >>= λ q. breaks (is_void (kind_of x)) Mismatch at (just (If x p q.tree) q.locals)) (sym (statement_kept c (locals_of n) other)))
+
+    -- one statement of a list
+    pub turn : (c : Enclosing) (list : List Stmt) (i : ℕ) (s : Stmt) (there : List TypedStmt) (t : TypedStmt) → s ≡ get_or list i s → i < length list
+        → statement_in b c (statement_of s.kind s.at) ≡ just (stmt_of t) (locals_of n)
+        → behind there (statements_in b c (body_of (drop i list))) ≡ behind (there ++ t ∷ []) (statements_in n c (body_of (drop (i + 1) list)))
+    turn c list i s there t is within h =
+        ap (λ l. behind there (statements_in b c (body_of l))) (from_here list i s is within)
+        ∙ ap (λ o. behind there (o >>= λ p. typed_statements b.result (scope_of b.scopes) c p.locals (body_of (drop (i + 1) list)) >>= λ r. just (both p.tree r.tree) r.locals)) h
+        ∙ one_more there t (typed_statements b.result (scope_of b.scopes) c (locals_of n) (body_of (drop (i + 1) list)))
+        ∙ ap (behind (there ++ t ∷ [])) (sym (statements_kept c (locals_of n) (body_of (drop (i + 1) list))))
+
+-- the end of a list
+pub ended : (n : Body) (c : Enclosing) (list : List Stmt) (i : ℕ) (so_far : List TypedStmt) → length list ≤ i
+    → behind so_far (statements_in n c (body_of (drop i list))) ≡ just (statement_list so_far) (locals_of n)
+ended n c list i so_far above =
+    ap (λ l. behind so_far (statements_in n c (body_of l))) (drop_of_length-le list above)
+    ∙ ap (λ b. just b (locals_of n)) (before_done so_far)
+
+-- a statement that is refused
+pub refused_here : (o : Outcome (Typed Stmts)) (n : Body) (c : Enclosing) (list : List Stmt) (i : ℕ) (s : Stmt) (there so_far : List TypedStmt) (f : Refusal) → s ≡ get_or list i s → i < length list
+    → behind there o ≡ behind so_far (statements_in n c (body_of (drop i list))) → Refuses (statement_in n c (statement_of s.kind s.at)) f → Refuses o f
+refused_here o n c list i s there so_far refusals.NoMemory is within before h = tt {0}
+refused_here o n c list i s there so_far (refusals.Broken rule at) is within before h = unbroken there o rule at
+    (before
+    ∙ ap (λ l. behind so_far (statements_in n c (body_of l))) (from_here list i s is within)
+    ∙ ap (λ o. behind so_far (o >>= λ p. typed_statements n.result (scope_of n.scopes) c p.locals (body_of (drop (i + 1) list)) >>= λ r. just (both p.tree r.tree) r.locals)) h)
+
+-- statements that are put into a block
+abbrev in_block : List VarRef → Outcome (Typed Stmts) → Outcome (Typed typed.Stmt)
+in_block names o = o >>= λ r. just (Block names r.tree) r.locals
+
+in_block_behind : (names : List VarRef) (there : List TypedStmt) (o : Outcome (Typed Stmts)) → (o >>= λ r. just (Block names (before (map stmt_of there) r.tree)) r.locals) ≡ in_block names (behind there o)
+in_block_behind names there (Is r) = refl
+in_block_behind names there (Broken rule at) = refl
+
+-- a block of declarations and statements
+pub block_typed : (b n m : Body) (start o : Opening) (l : Vec TypedStmt Global) (c : Enclosing) (ds : List DeclarationTree) (ss : Statements)
+    → start.declared.items ≡ [] → start.statements.items ≡ [] → n.result ≡ b.result
+    → declarations (opened_of b start) ds ≡ Is (opened_of n o)
+    → behind o.statements.items (statements_in n c ss) ≡ just (statement_list l.items) (locals_of m)
+    → block_in b c ds ss ≡ just (stmt_of (memory.Block o.declared l)) (locals_of m)
+block_typed b n m start o l c ds ss no_name no_statement returned opened listed =
+    let rest = λ (x : Opened). typed_statements b.result x.scope c x.locals ss >>= λ r. just (Block x.declared (before x.statements r.tree)) r.locals in
+    (λ i. declarations (record { scope = scope_of b.scopes; locals = locals_of b; declared = sym no_name i; statements = map stmt_of (sym no_statement i) }) ds >>= rest)
+    ∙ ap (λ x. x >>= rest) opened
+    ∙ (λ i. typed_statements (sym returned i) (scope_of n.scopes) c (locals_of n) ss >>= λ r. just (Block o.declared.items (before (map stmt_of o.statements.items) r.tree)) r.locals)
+    ∙ in_block_behind o.declared.items o.statements.items (statements_in n c ss)
+    ∙ ap (in_block o.declared.items) listed
+    ∙ ap (λ t. just t (locals_of m)) (sym (block_of_list o.declared l))
+
+-- what is known of a block of lists is known of the statement
+same_block : (s : Stmt) (ds : Vec Decl Global) (l : Vec Stmt Global) (dl : List Decl) (sl : List Stmt) → s.kind ≡ kind.Block ds l → dl ≡ ds.items → sl ≡ l.items
+    → tree.Block (map declaration_of dl) (body_of sl) s.at ≡ statement_of s.kind s.at
+same_block s ds l dl sl k p q = (λ i. tree.Block (map declaration_of (p i)) (body_of (q i)) s.at) ∙ sym (block_of ds l s.at) ∙ ap (λ x. statement_of x s.at) (sym k)
+
+pub block_is_typed : (b n : Body) (c : Enclosing) (r : Result TypedStmt Refusal) (s : Stmt) (ds : Vec Decl Global) (l : Vec Stmt Global) (dl : List Decl) (sl : List Stmt) → s.kind ≡ kind.Block ds l → dl ≡ ds.items → sl ≡ l.items
+    → IfOk r (λ t. statement_in b c (tree.Block (map declaration_of dl) (body_of sl) s.at) ≡ just (stmt_of t) (locals_of n)) → IfOk r (λ t. statement_in b c (statement_of s.kind s.at) ≡ just (stmt_of t) (locals_of n))
+block_is_typed b n c r s ds l dl sl k p q h =
+    let P : Statement → Type 0 = λ f. IfOk r (λ t. statement_in b c f ≡ just (stmt_of t) (locals_of n)) in
+    subst P (same_block s ds l dl sl k p q) h
+
+pub block_is_refused : (b : Body) (c : Enclosing) (r : Result TypedStmt Refusal) (s : Stmt) (ds : Vec Decl Global) (l : Vec Stmt Global) (dl : List Decl) (sl : List Stmt) → s.kind ≡ kind.Block ds l → dl ≡ ds.items → sl ≡ l.items
+    → IfErr r (Refuses (statement_in b c (tree.Block (map declaration_of dl) (body_of sl) s.at))) → IfErr r (Refuses (statement_in b c (statement_of s.kind s.at)))
+block_is_refused b c r s ds l dl sl k p q h =
+    let P : Statement → Type 0 = λ f. IfErr r (Refuses (statement_in b c f)) in
+    subst P (same_block s ds l dl sl k p q) h
+
+-- what is known of one outcome is known of the same
+pub same_typed : (o p : Outcome (Typed typed.Stmt)) (n : Body) (r : Result TypedStmt Refusal) → o ≡ p → IfOk r (λ t. o ≡ just (stmt_of t) (locals_of n)) → IfOk r (λ t. p ≡ just (stmt_of t) (locals_of n))
+same_typed o p n r e h =
+    let P : Outcome (Typed typed.Stmt) → Type 0 = λ x. IfOk r (λ t. x ≡ just (stmt_of t) (locals_of n)) in
+    subst P e h
+
+pub same_refused : (o p : Outcome (Typed typed.Stmt)) (r : Result TypedStmt Refusal) → o ≡ p → IfErr r (Refuses o) → IfErr r (Refuses p)
+same_refused o p r e h =
+    let P : Outcome (Typed typed.Stmt) → Type 0 = λ x. IfErr r (Refuses x) in
+    subst P e h

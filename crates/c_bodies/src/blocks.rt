@@ -1,0 +1,143 @@
+//! The declarations of blocks: ISO 9899:1990 6.5.4 and 6.6.2. The objects of a function are numbered in order of declaration.
+ghost use Rattle.std.specs.Prelude.{◌≡◌, IfOk, IfErr, OnOk, map, is_some};
+ghost use Rattle.c_syntax.specs.SyntaxView.{item_of, declaration_of};
+ghost use Rattle.c_rules.specs.declared.fault.Rule.TheVariants as rule;
+ghost use Rattle.c_rules.specs.Answers.{Refuses};
+ghost use Rattle.c_rules.specs.Outcome.{Is, Broken, breaks};
+ghost use Rattle.c_rules.specs.Statements as rules;
+ghost use Rattle.c_scopes.specs.Tables.{scope_of, around_of};
+ghost use Rattle.c_scopes.specs.InitialiserView.{initialiser_of};
+ghost use Rattle.c_bodies.specs.BodyView.{opened_of};
+
+use c_rules::{Declared, Local, ObjectType, Refusal, Rule, mismatch};
+use c_scopes::{Initialiser, Scopes, plain, redeclared, started};
+use c_syntax::{Decl, Item};
+use c_tree::{Base, ScalarType, TypedStmt, VarRef};
+use word_base::Text;
+
+/// The body of a function, as far as it is typed.
+#[derive(Drop)]
+pub struct Body<'a> {
+    pub scopes: Scopes<'a>,
+    pub locals: Vec<Local>,
+    /// The type of the function's value, or `None` where it is void.
+    pub result: Option<ScalarType>,
+}
+
+/// The beginning of a block: what it declares, and the statements that give first values.
+#[derive(Drop)]
+pub(crate) struct Opening {
+    pub(crate) declared: Vec<VarRef>,
+    pub(crate) statements: Vec<TypedStmt>,
+}
+
+// A function can't be declared in a block, and has no initialiser anywhere.
+fn function_in_block(item: &Item) -> Refusal
+    ensures { Refuses {A = rules.Opened} (breaks (is_some item.now.init) rule.Mismatch item.now.at (Broken rule.Misplaced item.now.at)) result }
+{
+    if item.init.is_some() {
+        return mismatch(item.at);
+    }
+    Refusal::Broken {
+        rule: Rule::Misplaced,
+        at: item.at,
+    }
+}
+
+impl<'a> Body<'a> {
+    /// An item of a block.
+    pub fn item(&mut self, opening: Opening, base: Base, item: &'a Item) -> Result<Opening, Refusal>
+        ensures typed { IfOk result (λ o. rules.block_item (opened_of self.old opening) base (item_of item.now) ≡ Is (opened_of self.new o)) }
+        ensures refused { IfErr result (Refuses (rules.block_item (opened_of self.old opening) base (item_of item.now))) }
+        ensures around { OnOk result (around_of self.new.scopes ≡ around_of self.old.scopes) }
+        ensures bodies { self.new.scopes.bodies ≡ self.old.scopes.bodies }
+        ensures returned { self.new.result ≡ self.old.result }
+    {
+        // No source that the parser gives has more objects than can be counted.
+        let Ok(number) = u32::try_from(self.locals.len()) else {
+            return Err(Refusal::NoMemory);
+        };
+        let reference = VarRef::Local(number);
+        let name = item.name.as_str();
+        let declared = self.scopes.declarator(base, item)?;
+        let is_taken = self.scopes.is_taken(name);
+        self.scopes.declare_object(name, reference, &declared)?;
+        let initialiser = self.scopes.initialiser(&item.kind, &item.init)?;
+        if is_taken {
+            return Err(redeclared(item.at));
+        }
+        match declared {
+            Declared::Untyped => Err(mismatch(item.at)),
+            Declared::Function(_) => Err(function_in_block(item)),
+            Declared::Object(object_type) => {
+                self.object(opening, item, reference, object_type, initialiser)
+            }
+        }
+    }
+
+    // An object that is declared, with its start.
+    fn object(
+        &mut self,
+        mut opening: Opening,
+        item: &Item,
+        reference: VarRef,
+        object_type: ObjectType,
+        initialiser: Initialiser,
+    ) -> Result<Opening, Refusal>
+        ensures typed { IfOk result (λ o. rules.declared_as (opened_of self.old opening) (scope_of self.old.scopes) reference (Declared.Object object_type) (item_of item.now) (initialiser_of initialiser) ≡ Is (opened_of self.new o)) }
+        ensures refused { IfErr result (Refuses (rules.declared_as (opened_of self.old opening) (scope_of self.old.scopes) reference (Declared.Object object_type) (item_of item.now) (initialiser_of initialiser))) }
+        ensures scopes { self.new.scopes ≡ self.old.scopes }
+        ensures returned { self.new.result ≡ self.old.result }
+    {
+        let alloc = self.scopes.alloc;
+        let start = started(alloc, reference, object_type, item.at, initialiser)?;
+        self.locals.push(Local {
+            name: Text::copy_of(alloc, item.name.as_str())?,
+            object_type,
+            values: start.values,
+        })?;
+        opening.declared.push(reference)?;
+        if let Some(statement) = start.statement {
+            opening.statements.push(statement)?;
+        }
+        Ok(opening)
+    }
+
+    /// The items of a declaration of this base, in order.
+    pub fn items(
+        &mut self,
+        mut opening: Opening,
+        base: Base,
+        list: &'a [Item],
+    ) -> Result<Opening, Refusal>
+        ensures typed { IfOk result (λ o. rules.block_items (opened_of self.old opening) base (map item_of list.now) ≡ Is (opened_of self.new o)) }
+        ensures refused { IfErr result (Refuses (rules.block_items (opened_of self.old opening) base (map item_of list.now))) }
+        ensures around { OnOk result (around_of self.new.scopes ≡ around_of self.old.scopes) }
+        ensures bodies { self.new.scopes.bodies ≡ self.old.scopes.bodies }
+        ensures returned { self.new.result ≡ self.old.result }
+    {
+        for item in list {
+            opening = self.item(opening, base, item)?;
+        }
+        Ok(opening)
+    }
+
+    /// The declarations of a block, in order.
+    pub(crate) fn declarations(
+        &mut self,
+        mut opening: Opening,
+        list: &'a [Decl],
+    ) -> Result<Opening, Refusal>
+        ensures typed { IfOk result (λ o. rules.declarations (opened_of self.old opening) (map declaration_of list.now) ≡ Is (opened_of self.new o)) }
+        ensures refused { IfErr result (Refuses (rules.declarations (opened_of self.old opening) (map declaration_of list.now))) }
+        ensures around { OnOk result (around_of self.new.scopes ≡ around_of self.old.scopes) }
+        ensures bodies { self.new.scopes.bodies ≡ self.old.scopes.bodies }
+        ensures returned { self.new.result ≡ self.old.result }
+    {
+        for declaration in list {
+            let base = plain(&declaration.specs)?;
+            opening = self.items(opening, base, declaration.items.as_slice())?;
+        }
+        Ok(opening)
+    }
+}

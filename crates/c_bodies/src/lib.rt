@@ -1,0 +1,10 @@
+//! The bodies of functions: blocks, labels and statements, as typed trees.
+//!
+//! `Body` is a body as far as it is typed: its scopes, and the objects of its function so far.
+#![tactic(auto)]
+
+mod blocks;
+mod labels;
+mod statements;
+
+pub use blocks::Body;

@@ -1,0 +1,481 @@
+//! The typed trees of statements: ISO 9899:1990 6.6.
+ghost use Rattle.std.specs.Prelude.{◌≡◌, ◌∷◌, true, false, IfOk, IfErr, OnOk, OnErr, map, Some, None, []};
+ghost use Rattle.c_tree.specs.Eval.{kind_of};
+ghost use Rattle.c_syntax.specs.SyntaxTree as tree;
+ghost use Rattle.c_syntax.specs.SyntaxView.{body_of, declaration_of, expression_of, optional_of, part_before, statement_of};
+ghost use Rattle.c_tree.specs.TypedTree.{Block, done};
+ghost use Rattle.c_tree.specs.View.{expr_of, option_expr_of, statement_list, stmt_of};
+ghost use Rattle.c_rules.specs.declared.fault.Refusal.TheVariants as refusals;
+ghost use Rattle.c_rules.specs.declared.fault.Rule.TheVariants as rule;
+ghost use Rattle.c_tree.specs.declared.enclosing.Enclosing.TheVariants as enclosings;
+ghost use Rattle.c_rules.specs.Answers.{Refuses};
+ghost use Rattle.c_bodies.specs.Bodies.{behind, behind_choices, block_in, choices_in, else_in, labelled_of, parts_of, statement_in, statements_in, test_in};
+ghost use Rattle.c_rules.specs.Kinds.{is_void};
+ghost use Rattle.c_rules.specs.Outcome.{Is};
+ghost use Rattle.c_rules.specs.Statements as rules;
+ghost use Rattle.c_rules.specs.Statements.{just};
+ghost use Rattle.c_scopes.specs.Tables.{around_of, scope_of, tables_of};
+ghost use Rattle.c_operands.specs.OperandView.{operand_of};
+ghost use Rattle.c_bodies.specs.BodyView.{locals_of};
+
+use crate::blocks::{Body, Opening};
+use crate::labels::{Labelled, switched};
+use c_operands::{Operand, given};
+use c_rules::{Refusal, Rule, mismatch};
+use c_scopes::word_at;
+use c_syntax::{Decl, Expr, Stmt, StmtKind, SwitchPart};
+use c_tree::{Choice, Enclosing, ScalarType, TypedExpr, TypedStmt, points};
+use std::alloc::Global;
+
+/// What stands once between the braces of a switch.
+#[derive(Drop)]
+struct LabelOrBody {
+    choice: Choice,
+    /// Whether it's a label that is a pointer.
+    pointer: bool,
+}
+
+impl<'a> Body<'a> {
+    /// The typed tree of a statement.
+    #[cycle(statements)]
+    pub fn statement(&mut self, s: &'a Stmt, enclosing: Enclosing) -> Result<TypedStmt, Refusal>
+        ensures typed { IfOk result (λ t. statement_in self.old enclosing (statement_of s.now.kind s.now.at) ≡ just (stmt_of t) (locals_of self.new)) }
+        ensures refused { IfErr result (Refuses (statement_in self.old enclosing (statement_of s.now.kind s.now.at))) }
+        ensures tables { OnOk result (tables_of self.new.scopes ≡ tables_of self.old.scopes) }
+        ensures bodies { self.new.scopes.bodies ≡ self.old.scopes.bodies }
+        ensures returned { self.new.result ≡ self.old.result }
+    {
+        let at = s.at;
+        match &s.kind {
+            StmtKind::Empty => Ok(empty(self.scopes.alloc)),
+            StmtKind::Evaluate(e) => Ok(TypedStmt::Expr(self.scopes.expression(e)?)),
+            StmtKind::Block {
+                declarations,
+                statements,
+            } => self.block(declarations, statements, enclosing, at),
+            StmtKind::Break => left(enclosing.may_break(), TypedStmt::Break, at),
+            StmtKind::Continue => left(enclosing.may_continue(), TypedStmt::Continue, at),
+            StmtKind::Return(None) => self.empty_return(at),
+            StmtKind::Return(Some(value)) => self.value_return(value, at),
+            StmtKind::If { test, yes } => self.choice(test, yes, enclosing, at),
+            StmtKind::IfElse { test, yes, no } => self.either(test, yes, no, enclosing, at),
+            StmtKind::While { test, body } => self.while_loop(test, body, at),
+            StmtKind::Do { body, test } => self.do_loop(body, test, at),
+            StmtKind::For {
+                first,
+                test,
+                third,
+                body,
+            } => self.for_loop(first, test, third, body, at),
+            StmtKind::Switch {
+                value,
+                parts,
+                parts_at,
+            } => self.switch(parts, value, *parts_at, enclosing, at),
+        }
+    }
+
+    // A block, in a scope of its own: 6.6.2.
+    #[cycle(statements)]
+    fn block(
+        &mut self,
+        declarations: &'a [Decl],
+        statements: &'a [Stmt],
+        enclosing: Enclosing,
+        at: u32,
+    ) -> Result<TypedStmt, Refusal>
+        ensures typed { IfOk result (λ t. statement_in self.old enclosing (tree.Block (map declaration_of declarations.now) (body_of statements.now) at) ≡ just (stmt_of t) (locals_of self.new)) }
+        ensures refused { IfErr result (Refuses (statement_in self.old enclosing (tree.Block (map declaration_of declarations.now) (body_of statements.now) at))) }
+        ensures tables { OnOk result (tables_of self.new.scopes ≡ tables_of self.old.scopes) }
+        ensures bodies { self.new.scopes.bodies ≡ self.old.scopes.bodies }
+        ensures returned { self.new.result ≡ self.old.result }
+    {
+        self.scopes.open()?;
+        let block = self.block_here(declarations, statements, enclosing)?;
+        self.scopes.close();
+        Ok(block)
+    }
+
+    /// The body of a function, in the scope of its parameters.
+    pub fn body(
+        &mut self,
+        declarations: &'a [Decl],
+        statements: &'a [Stmt],
+    ) -> Result<TypedStmt, Refusal>
+        ensures typed { IfOk result (λ t. rules.typed_body self.old.result (scope_of self.old.scopes) (locals_of self.old) (map declaration_of declarations.now) (body_of statements.now) ≡ just (stmt_of t) (locals_of self.new)) }
+        ensures refused { IfErr result (Refuses (rules.typed_body self.old.result (scope_of self.old.scopes) (locals_of self.old) (map declaration_of declarations.now) (body_of statements.now))) }
+        ensures around { OnOk result (around_of self.new.scopes ≡ around_of self.old.scopes) }
+        ensures bodies { self.new.scopes.bodies ≡ self.old.scopes.bodies }
+    {
+        self.block_here(declarations, statements, Enclosing::Body)
+    }
+
+    // A block in the scope that is open.
+    #[cycle(statements)]
+    fn block_here(
+        &mut self,
+        declarations: &'a [Decl],
+        statements: &'a [Stmt],
+        enclosing: Enclosing,
+    ) -> Result<TypedStmt, Refusal>
+        ensures typed { IfOk result (λ t. block_in self.old enclosing (map declaration_of declarations.now) (body_of statements.now) ≡ just (stmt_of t) (locals_of self.new)) }
+        ensures refused { IfErr result (Refuses (block_in self.old enclosing (map declaration_of declarations.now) (body_of statements.now))) }
+        ensures around { OnOk result (around_of self.new.scopes ≡ around_of self.old.scopes) }
+        ensures bodies { self.new.scopes.bodies ≡ self.old.scopes.bodies }
+        ensures returned { self.new.result ≡ self.old.result }
+    {
+        let alloc = self.scopes.alloc;
+        let opening = Opening {
+            declared: Vec::new(alloc),
+            statements: Vec::new(alloc),
+        };
+        let opening = self.declarations(opening, declarations)?;
+        let body = self.statements(statements, enclosing, opening.statements)?;
+        Ok(TypedStmt::Block {
+            declared: opening.declared,
+            body,
+        })
+    }
+
+    // Statements, which are put behind those that are there.
+    #[cycle(statements)]
+    fn statements(
+        &mut self,
+        list: &'a [Stmt],
+        enclosing: Enclosing,
+        mut into: Vec<TypedStmt>,
+    ) -> Result<Vec<TypedStmt>, Refusal>
+        ensures typed { IfOk result (λ all. behind into.items (statements_in self.old enclosing (body_of list.now)) ≡ just (statement_list all.items) (locals_of self.new)) }
+        ensures refused { IfErr result (Refuses (statements_in self.old enclosing (body_of list.now))) }
+        ensures tables { OnOk result (tables_of self.new.scopes ≡ tables_of self.old.scopes) }
+        ensures bodies { self.new.scopes.bodies ≡ self.old.scopes.bodies }
+        ensures returned { self.new.result ≡ self.old.result }
+    {
+        for s in list {
+            into.push(self.statement(s, enclosing)?)?;
+        }
+        Ok(into)
+    }
+
+    // A return without a value: 6.6.6.4.
+    fn empty_return(&self, at: u32) -> Result<TypedStmt, Refusal>
+        ensures typed { IfOk result (λ t. statement_in self.now enclosings.Body (tree.Return None at) ≡ just (stmt_of t) (locals_of self.now)) }
+        ensures refused { IfErr result (Refuses (statement_in self.now enclosings.Body (tree.Return None at))) }
+    {
+        match self.result {
+            None => Ok(TypedStmt::Return(None)),
+            Some(_) => Err(mismatch(at)),
+        }
+    }
+
+    // A return with a value.
+    fn value_return(&self, value: &Expr, at: u32) -> Result<TypedStmt, Refusal>
+        ensures typed { IfOk result (λ t. statement_in self.now enclosings.Body (tree.Return (Some (expression_of value.now)) at) ≡ just (stmt_of t) (locals_of self.now)) }
+        ensures refused { IfErr result (Refuses (statement_in self.now enclosings.Body (tree.Return (Some (expression_of value.now)) at))) }
+    {
+        let value = self.scopes.operand(value)?;
+        let value = returned(self.scopes.alloc, self.result, at, value)?;
+        Ok(TypedStmt::Return(Some(value)))
+    }
+
+    // An if without an else: 6.6.4.1.
+    #[cycle(statements)]
+    fn choice(
+        &mut self,
+        test: &Expr,
+        yes: &'a Stmt,
+        enclosing: Enclosing,
+        at: u32,
+    ) -> Result<TypedStmt, Refusal>
+        ensures typed { IfOk result (λ t. statement_in self.old enclosing (tree.If (expression_of test.now) (statement_of yes.now.kind yes.now.at) at) ≡ just (stmt_of t) (locals_of self.new)) }
+        ensures refused { IfErr result (Refuses (statement_in self.old enclosing (tree.If (expression_of test.now) (statement_of yes.now.kind yes.now.at) at))) }
+        ensures tables { OnOk result (tables_of self.new.scopes ≡ tables_of self.old.scopes) }
+        ensures bodies { self.new.scopes.bodies ≡ self.old.scopes.bodies }
+        ensures returned { self.new.result ≡ self.old.result }
+    {
+        let test = self.scopes.expression(test)?;
+        let yes = self.statement(yes, enclosing)?;
+        not_void(&test, at)?;
+        Ok(TypedStmt::If {
+            test,
+            yes: Box::new(self.scopes.alloc, yes)?,
+            no: None,
+        })
+    }
+
+    // An if with an else.
+    #[cycle(statements)]
+    fn either(
+        &mut self,
+        test: &Expr,
+        yes: &'a Stmt,
+        no: &'a Stmt,
+        enclosing: Enclosing,
+        at: u32,
+    ) -> Result<TypedStmt, Refusal>
+        ensures typed { IfOk result (λ t. statement_in self.old enclosing (tree.IfElse (expression_of test.now) (statement_of yes.now.kind yes.now.at) (statement_of no.now.kind no.now.at) at) ≡ just (stmt_of t) (locals_of self.new)) }
+        ensures refused { IfErr result (Refuses (statement_in self.old enclosing (tree.IfElse (expression_of test.now) (statement_of yes.now.kind yes.now.at) (statement_of no.now.kind no.now.at) at))) }
+        ensures tables { OnOk result (tables_of self.new.scopes ≡ tables_of self.old.scopes) }
+        ensures bodies { self.new.scopes.bodies ≡ self.old.scopes.bodies }
+        ensures returned { self.new.result ≡ self.old.result }
+    {
+        let test = self.scopes.expression(test)?;
+        let yes = self.statement(yes, enclosing)?;
+        self.otherwise(test, yes, no, enclosing, at)
+    }
+
+    // The else behind the first arm of an if.
+    #[cycle(statements)]
+    fn otherwise(
+        &mut self,
+        test: TypedExpr,
+        yes: TypedStmt,
+        no: &'a Stmt,
+        enclosing: Enclosing,
+        at: u32,
+    ) -> Result<TypedStmt, Refusal>
+        ensures typed { IfOk result (λ t. else_in self.old enclosing at (expr_of test) (stmt_of yes) (statement_of no.now.kind no.now.at) ≡ just (stmt_of t) (locals_of self.new)) }
+        ensures refused { IfErr result (Refuses (else_in self.old enclosing at (expr_of test) (stmt_of yes) (statement_of no.now.kind no.now.at))) }
+        ensures tables { OnOk result (tables_of self.new.scopes ≡ tables_of self.old.scopes) }
+        ensures bodies { self.new.scopes.bodies ≡ self.old.scopes.bodies }
+        ensures returned { self.new.result ≡ self.old.result }
+    {
+        let alloc = self.scopes.alloc;
+        let no = self.statement(no, enclosing)?;
+        not_void(&test, at)?;
+        Ok(TypedStmt::If {
+            test,
+            yes: Box::new(alloc, yes)?,
+            no: Some(Box::new(alloc, no)?),
+        })
+    }
+
+    // 6.6.4.2.
+    #[cycle(statements)]
+    fn switch(
+        &mut self,
+        parts: &'a [SwitchPart],
+        value: &Expr,
+        place: u32,
+        enclosing: Enclosing,
+        at: u32,
+    ) -> Result<TypedStmt, Refusal>
+        ensures typed { IfOk result (λ t. statement_in self.old enclosing (tree.Switch (expression_of value.now) (parts_of parts.now) place at) ≡ just (stmt_of t) (locals_of self.new)) }
+        ensures refused { IfErr result (Refuses (statement_in self.old enclosing (tree.Switch (expression_of value.now) (parts_of parts.now) place at))) }
+        ensures tables { OnOk result (tables_of self.new.scopes ≡ tables_of self.old.scopes) }
+        ensures bodies { self.new.scopes.bodies ≡ self.old.scopes.bodies }
+        ensures returned { self.new.result ≡ self.old.result }
+    {
+        let value = self.scopes.expression(value)?;
+        let labelled = self.choices(parts, enclosing.in_switch())?;
+        switched(self.scopes.alloc, place, at, value, labelled)
+    }
+
+    // Labels and statements of a switch.
+    #[cycle(statements)]
+    fn choices(
+        &mut self,
+        parts: &'a [SwitchPart],
+        enclosing: Enclosing,
+    ) -> Result<Labelled, Refusal>
+        ensures typed { IfOk result (λ l. choices_in self.old enclosing (parts_of parts.now) ≡ just (labelled_of l) (locals_of self.new)) }
+        ensures refused { IfErr result (Refuses (choices_in self.old enclosing (parts_of parts.now))) }
+        ensures tables { OnOk result (tables_of self.new.scopes ≡ tables_of self.old.scopes) }
+        ensures bodies { self.new.scopes.bodies ≡ self.old.scopes.bodies }
+        ensures returned { self.new.result ≡ self.old.result }
+    {
+        let mut labelled = Labelled {
+            choices: Vec::new(self.scopes.alloc),
+            pointer: false,
+        };
+        for part in parts {
+            let found = self.label_or_body(part, enclosing)?;
+            labelled.choices.push(found.choice)?;
+            labelled.pointer |= found.pointer;
+        }
+        Ok(labelled)
+    }
+
+    // A label or a statement of a switch.
+    #[cycle(statements)]
+    fn label_or_body(
+        &mut self,
+        part: &'a SwitchPart,
+        enclosing: Enclosing,
+    ) -> Result<LabelOrBody, Refusal>
+        ensures typed { IfOk result (λ f. (rest : tree.Choices) → choices_in self.old enclosing (part_before part.now rest) ≡ behind_choices (f.choice ∷ []) f.pointer (choices_in self.new enclosing rest)) }
+        ensures refused { IfErr result (λ f. (rest : tree.Choices) → Refuses (choices_in self.old enclosing (part_before part.now rest)) f) }
+        ensures tables { OnOk result (tables_of self.new.scopes ≡ tables_of self.old.scopes) }
+        ensures bodies { self.new.scopes.bodies ≡ self.old.scopes.bodies }
+        ensures returned { self.new.result ≡ self.old.result }
+    {
+        match part {
+            SwitchPart::Case(label) => {
+                let value = self.scopes.constant_tree(label)?;
+                let word = word_at(label, &value)?;
+                Ok(LabelOrBody {
+                    choice: Choice::Case(word),
+                    pointer: points(value.kind),
+                })
+            }
+            SwitchPart::Default => Ok(LabelOrBody {
+                choice: Choice::Default,
+                pointer: false,
+            }),
+            SwitchPart::Body(s) => Ok(LabelOrBody {
+                choice: Choice::Body(self.statement(s, enclosing)?),
+                pointer: false,
+            }),
+        }
+    }
+
+    // 6.6.5.1.
+    #[cycle(statements)]
+    fn while_loop(&mut self, test: &Expr, body: &'a Stmt, at: u32) -> Result<TypedStmt, Refusal>
+        ensures typed { IfOk result (λ t. statement_in self.old enclosings.Loop (tree.While (expression_of test.now) (statement_of body.now.kind body.now.at) at) ≡ just (stmt_of t) (locals_of self.new)) }
+        ensures refused { IfErr result (Refuses (statement_in self.old enclosings.Loop (tree.While (expression_of test.now) (statement_of body.now.kind body.now.at) at))) }
+        ensures tables { OnOk result (tables_of self.new.scopes ≡ tables_of self.old.scopes) }
+        ensures bodies { self.new.scopes.bodies ≡ self.old.scopes.bodies }
+        ensures returned { self.new.result ≡ self.old.result }
+    {
+        let test = self.scopes.expression(test)?;
+        let body = self.statement(body, Enclosing::Loop)?;
+        not_void(&test, at)?;
+        Ok(TypedStmt::While {
+            test,
+            body: Box::new(self.scopes.alloc, body)?,
+        })
+    }
+
+    // 6.6.5.2.
+    #[cycle(statements)]
+    fn do_loop(&mut self, body: &'a Stmt, test: &Expr, at: u32) -> Result<TypedStmt, Refusal>
+        ensures typed { IfOk result (λ t. statement_in self.old enclosings.Loop (tree.DoWhile (statement_of body.now.kind body.now.at) (expression_of test.now) at) ≡ just (stmt_of t) (locals_of self.new)) }
+        ensures refused { IfErr result (Refuses (statement_in self.old enclosings.Loop (tree.DoWhile (statement_of body.now.kind body.now.at) (expression_of test.now) at))) }
+        ensures tables { OnOk result (tables_of self.new.scopes ≡ tables_of self.old.scopes) }
+        ensures bodies { self.new.scopes.bodies ≡ self.old.scopes.bodies }
+        ensures returned { self.new.result ≡ self.old.result }
+    {
+        let body = self.statement(body, Enclosing::Loop)?;
+        self.do_test(body, test, at)
+    }
+
+    // The test behind the body of a do.
+    fn do_test(&self, body: TypedStmt, test: &Expr, at: u32) -> Result<TypedStmt, Refusal>
+        ensures typed { IfOk result (λ t. test_in self.now at (stmt_of body) (expression_of test.now) ≡ just (stmt_of t) (locals_of self.now)) }
+        ensures refused { IfErr result (Refuses (test_in self.now at (stmt_of body) (expression_of test.now))) }
+    {
+        let test = self.scopes.expression(test)?;
+        not_void(&test, at)?;
+        Ok(TypedStmt::Do {
+            body: Box::new(self.scopes.alloc, body)?,
+            test,
+        })
+    }
+
+    // 6.6.5.3.
+    #[cycle(statements)]
+    fn for_loop(
+        &mut self,
+        first: &Option<Expr>,
+        test: &Option<Expr>,
+        third: &Option<Expr>,
+        body: &'a Stmt,
+        at: u32,
+    ) -> Result<TypedStmt, Refusal>
+        ensures typed { IfOk result (λ t. statement_in self.old enclosings.Loop (tree.For (optional_of first.now) (optional_of test.now) (optional_of third.now) (statement_of body.now.kind body.now.at) at) ≡ just (stmt_of t) (locals_of self.new)) }
+        ensures refused { IfErr result (Refuses (statement_in self.old enclosings.Loop (tree.For (optional_of first.now) (optional_of test.now) (optional_of third.now) (statement_of body.now.kind body.now.at) at))) }
+        ensures tables { OnOk result (tables_of self.new.scopes ≡ tables_of self.old.scopes) }
+        ensures bodies { self.new.scopes.bodies ≡ self.old.scopes.bodies }
+        ensures returned { self.new.result ≡ self.old.result }
+    {
+        let first = self.optional(first)?;
+        let test = self.optional(test)?;
+        let third = self.optional(third)?;
+        let body = self.statement(body, Enclosing::Loop)?;
+        test_not_void(&test, at)?;
+        Ok(TypedStmt::For {
+            first,
+            test,
+            third,
+            body: Box::new(self.scopes.alloc, body)?,
+        })
+    }
+
+    // An expression that may be absent.
+    fn optional(&self, e: &Option<Expr>) -> Result<Option<TypedExpr>, Refusal>
+        ensures typed { IfOk result (λ x. rules.optional (scope_of self.now.scopes) (optional_of e.now) ≡ Is (option_expr_of x)) }
+        ensures refused { IfErr result (Refuses (rules.optional (scope_of self.now.scopes) (optional_of e.now))) }
+    {
+        match e {
+            None => Ok(None),
+            Some(e) => Ok(Some(self.scopes.expression(e)?)),
+        }
+    }
+}
+
+// A block without names and without a body.
+fn empty(alloc: Global) -> TypedStmt
+    ensures { stmt_of result ≡ Block [] done }
+{
+    TypedStmt::Block {
+        declared: Vec::new(alloc),
+        body: Vec::new(alloc),
+    }
+}
+
+// A break or continue, where there is something to leave.
+fn left(may_leave: bool, jump: TypedStmt, at: u32) -> Result<TypedStmt, Refusal>
+    ensures left { IfOk result (λ t. t ≡ jump) }
+    ensures may { OnOk result (may_leave ≡ true) }
+    ensures refused { IfErr result (λ f. f ≡ refusals.Broken rule.Misplaced at) }
+    ensures may_not { OnErr result (may_leave ≡ false) }
+{
+    if may_leave {
+        return Ok(jump);
+    }
+    Err(Refusal::Broken {
+        rule: Rule::Misplaced,
+        at,
+    })
+}
+
+// The value of a return from a function of this type.
+fn returned(
+    alloc: Global,
+    kind: Option<ScalarType>,
+    at: u32,
+    value: Operand,
+) -> Result<TypedExpr, Refusal>
+    ensures typed { IfOk result (λ v. rules.returned kind at (operand_of value) ≡ Is (expr_of v)) }
+    ensures refused { IfErr result (Refuses (rules.returned kind at (operand_of value))) }
+{
+    let Some(kind) = kind else {
+        return Err(mismatch(at));
+    };
+    given(alloc, kind, at, value)
+}
+
+// A test has a value.
+fn not_void(test: &TypedExpr, at: u32) -> Result<(), Refusal>
+    ensures value { OnOk result (is_void (kind_of (expr_of test.now)) ≡ false) }
+    ensures refused { IfErr result (λ f. f ≡ refusals.Broken rule.Mismatch at) }
+    ensures void { OnErr result (is_void (kind_of (expr_of test.now)) ≡ true) }
+{
+    if test.kind.is_none() {
+        return Err(mismatch(at));
+    }
+    Ok(())
+}
+
+// The test of a for has a value, where it is there.
+fn test_not_void(test: &Option<TypedExpr>, at: u32) -> Result<(), Refusal>
+    ensures value { OnOk result (rules.is_void_test (option_expr_of test.now) ≡ false) }
+    ensures refused { IfErr result (λ f. f ≡ refusals.Broken rule.Mismatch at) }
+    ensures void { OnErr result (rules.is_void_test (option_expr_of test.now) ≡ true) }
+{
+    match test {
+        Some(test) => not_void(test, at),
+        None => Ok(()),
+    }
+}

@@ -1,0 +1,13 @@
+pub mod UsesLemmas
+pub mod RenumberLemmas
+pub mod TemporariesLemmas
+pub mod FramesLemmas
+pub mod StorageLemmas
+pub mod CallsLemmas
+pub mod WayLemmas
+pub mod TrailLemmas
+pub mod LinkLemmas
+pub mod FollowLemmas
+pub mod SearchLemmas
+pub mod CalleeLemmas
+pub mod ChainLemmas

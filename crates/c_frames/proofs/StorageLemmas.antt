@@ -1,0 +1,34 @@
+-- Objects of a function once none is left.
+use Rattle.std.proofs.Common.{◌≡◌, ◌++◌, ◌∷◌, [], List, map, ap, ◌∙◌, sym, refl, append-nil}
+use Rattle.c_tree.specs.declared.program.VarRef.{VarRef}
+use Rattle.c_tree.specs.declared.program.VarRef.TheVariants as refs
+use Rattle.c_tree.specs.View.{object_of}
+use Rattle.c_frames.specs.declared.functions.Storage.{Storage}
+use Rattle.c_rules.specs.declared.local.Local.{Local}
+use Rattle.c_rules.specs.Programs.{scalars_in, objects_in}
+use Rattle.c_frames.specs.Storage.{with_scalars, with_objects}
+use Rattle.c_rules.specs.LocalView.{local_tree_of}
+
+no_scalars : (rs : List VarRef) → [] ≡ scalars_in rs []
+no_scalars [] = refl
+no_scalars (refs.Scalar n ∷ rs) = refl
+no_scalars (refs.Local n ∷ rs) = refl
+no_scalars (refs.Static n ∷ rs) = refl
+
+no_objects : (rs : List VarRef) → [] ≡ objects_in rs []
+no_objects [] = refl
+no_objects (refs.Scalar n ∷ rs) = refl
+no_objects (refs.Local n ∷ rs) = refl
+no_objects (refs.Static n ∷ rs) = refl
+
+pub all_scalars : (storage : Storage) (rs : List VarRef) {left : List Local} {whole : _} → left ≡ []
+    → with_scalars storage rs (map local_tree_of left) ≡ whole → storage.scalars.items ≡ whole
+all_scalars storage rs ended known =
+    sym (append-nil storage.scalars.items) ∙ ap (λ l. storage.scalars.items ++ l) (no_scalars rs)
+    ∙ ap (λ ls. with_scalars storage rs (map local_tree_of ls)) (sym ended) ∙ known
+
+pub all_objects : (storage : Storage) (rs : List VarRef) {left : List Local} {whole : _} → left ≡ []
+    → with_objects storage rs (map local_tree_of left) ≡ whole → map object_of storage.objects.items ≡ whole
+all_objects storage rs ended known =
+    sym (append-nil (map object_of storage.objects.items)) ∙ ap (λ l. map object_of storage.objects.items ++ l) (no_objects rs)
+    ∙ ap (λ ls. with_objects storage rs (map local_tree_of ls)) (sym ended) ∙ known

@@ -1,0 +1,28 @@
+use Rattle.std.proofs.Common.{◌∙◌, ap, map, arith}
+use Rattle.c_tree.specs.View.{expr_of, statement_list, choice_list}
+use Rattle.c_rules.specs.Renumbering as by
+use Rattle.c_frames.proofs.RenumberLemmas.{statements_done, choices_done, block_renumbered, switch_renumbered}
+use Rattle.c_frames.proofs.renumber.+statements.Goals as goal
+
+pub statements-returns : goal.statements-returns
+statements-returns t c =
+    statements_done c.args.frame.now c.args.list.now.len c.loop-s.s-index c.loop-s.s-items c.args.list.now.items c.deref_mut-s-items.result.now c.deref_mut-s-items.ensures.value
+    c.loop-s.invariant.long (omega (arith, c.args.list.now.ok)) (omega (arith, c.loop-s-test.false, c.loop-s.invariant.long)) c.loop-s.invariant.done
+
+pub choices-returns : goal.choices-returns
+choices-returns t c =
+    choices_done c.args.frame.now c.args.list.now.len c.loop-part.part-index c.loop-part.part-items c.args.list.now.items c.deref_mut-part-items.result.now
+    c.deref_mut-part-items.ensures.value c.loop-part.invariant.long (omega (arith, c.args.list.now.ok)) (omega (arith, c.loop-part-test.false, c.loop-part.invariant.long))
+    c.loop-part.invariant.done
+
+pub statement-returns-in-Block : goal.statement-returns-in-Block
+statement-returns-in-Block t c =
+    block_renumbered c.args.frame.now c.args.s.now c.in-Block.declared c.references.new.list c.in-Block.body c.statements.new.list c.in-Block.is
+    (c.references.ensures ∙ ap (λ l. map (by.renumbered c.args.frame.now) l.items) c.in-Block.declared-is)
+    (c.statements.ensures ∙ ap (λ l. by.statements c.args.frame.now (statement_list l.items)) c.in-Block.body-is)
+
+pub statement-returns-in-Switch : goal.statement-returns-in-Switch
+statement-returns-in-Switch t c =
+    switch_renumbered c.args.frame.now c.args.s.now c.in-Switch.value c.expression-in-Switch.new.e c.in-Switch.all c.choices.new.list c.in-Switch.is
+    (c.expression-in-Switch.ensures ∙ ap (λ e. by.expression c.args.frame.now (expr_of e)) c.in-Switch.value-is)
+    (c.choices.ensures ∙ ap (λ l. by.choices c.args.frame.now (choice_list l.items)) c.in-Switch.all-is)

@@ -1,0 +1,16 @@
+-- The pure functions that typed ones stand for.
+use Rattle.std.specs.Prelude.{map}
+use Rattle.c_tree.specs.View.{stmt_of}
+use Rattle.c_frames.specs.declared.functions.TypedFunction as functions
+use Rattle.c_rules.specs.declared.local.Local as locals
+use Rattle.c_rules.specs.Units.{TypedFunction}
+use Rattle.c_rules.specs.LocalView.{local_tree_of}
+
+abbrev pub typed_function_of : functions.TypedFunction → TypedFunction
+typed_function_of f = record {
+  name = f.name;
+  result = f.result;
+  parameters = f.parameters;
+  locals = map local_tree_of f.locals.items;
+  body = stmt_of f.body;
+}

@@ -1,0 +1,6 @@
+pub mod OperandForms
+pub mod Frames
+pub mod Storage
+pub mod Calls
+pub mod Trails
+pub mod FunctionView

@@ -1,0 +1,171 @@
+//! The arguments of calls and of ports: ISO 9899:1990 6.3.2.2.
+ghost use Rattle.std.specs.Prelude.{◌≡◌, Some, true, false, nat_lt, IfOk, IfErr, map, []};
+ghost use Rattle.std.specs.Vec.Iter.{into_iter_items};
+ghost use Rattle.c_tree.specs.View.{expr_of, argument_list};
+ghost use Rattle.std.specs.List.{list_any};
+ghost use Rattle.c_tree.specs.TypedTree.{Node, In};
+ghost use Rattle.c_rules.specs.Kinds.{is_void, int};
+ghost use Rattle.c_rules.specs.Outcome.{Is};
+ghost use Rattle.c_rules.specs.Answers.{Refuses};
+ghost use Rattle.c_rules.specs.Operands as rules;
+ghost use Rattle.c_operands.specs.OperandView.{operand_of};
+ghost use Rattle.c_rules.specs.declared.fault.Refusal.TheVariants as refusals;
+ghost use Rattle.c_rules.specs.declared.fault.Rule.TheVariants as rule;
+
+use crate::conversions::given;
+use crate::kinds::{INT, class_of};
+use crate::operands::Operand;
+use c_rules::{Class, Refusal, Rule, mismatch};
+use c_tree::{ExprForm, ScalarType, TypedExpr};
+use std::alloc::Global;
+use std::vec::IntoIter;
+
+/// Another number of arguments than a call takes.
+pub fn wrong_count(at: u32) -> Refusal
+    ensures { result ≡ refusals.Broken rule.ArgCount at }
+{
+    Refusal::Broken {
+        rule: Rule::ArgCount,
+        at,
+    }
+}
+
+fn any_void(xs: &[Operand]) -> bool
+    ensures { result ≡ list_any (λ x. is_void x.value.kind) xs.now }
+{
+    xs.iter().any(|x| x.value.kind.is_none())
+}
+
+/// `__in` of a port, with the operands behind the port.
+#[tactic(auto, using(crate::proofs::OperandLists::any_void_of))]
+pub fn input(at: u32, class: Class, port: u16, xs: &[Operand]) -> Result<TypedExpr, Refusal>
+    ensures typed { IfOk result (λ e. rules.input at class port (map operand_of xs.now) ≡ Is (expr_of e)) }
+    ensures refused { IfErr result (Refuses (rules.input at class port (map operand_of xs.now))) }
+{
+    if class != Class::Integer || any_void(xs) {
+        return Err(mismatch(at));
+    }
+    let port = port_number(at, port)?;
+    received(at, port, xs)
+}
+
+// The word of a port, with nothing behind the port.
+fn received(at: u32, port: u8, xs: &[Operand]) -> Result<TypedExpr, Refusal>
+    ensures typed { IfOk result (λ e. rules.no_more at (map operand_of xs.now) (Is (Node (In port) (Some int) at)) ≡ Is (expr_of e)) }
+    ensures refused { IfErr result (Refuses (rules.no_more at (map operand_of xs.now) (Is (Node (In port) (Some int) at)))) }
+{
+    if !xs.is_empty() {
+        return Err(wrong_count(at));
+    }
+    Ok(TypedExpr {
+        form: ExprForm::In { port },
+        kind: Some(INT),
+        at,
+    })
+}
+
+/// `__out` of a port and of a word, with the operands behind the port.
+#[tactic(auto, using(crate::proofs::OperandLists::any_void_of))]
+pub fn output(
+    alloc: Global,
+    at: u32,
+    class: Class,
+    port: u16,
+    xs: Vec<Operand>,
+) -> Result<TypedExpr, Refusal>
+    ensures typed { IfOk result (λ e. rules.output at class port (map operand_of xs.items) ≡ Is (expr_of e)) }
+    ensures refused { IfErr result (Refuses (rules.output at class port (map operand_of xs.items))) }
+{
+    if class != Class::Integer || !is_word_first(&xs) || any_void(&xs) {
+        return Err(mismatch(at));
+    }
+    let port = port_number(at, port)?;
+    sent(alloc, at, port, xs)
+}
+
+fn is_word_first(xs: &[Operand]) -> bool
+    ensures { result ≡ rules.is_word_first (map operand_of xs.now) }
+{
+    match xs {
+        [first, ..] => class_of(first.value.kind) == Class::Integer,
+        [] => true,
+    }
+}
+
+// The number of a port, of which there are 16.
+fn port_number(at: u32, port: u16) -> Result<u8, Refusal>
+    ensures number { IfOk result (λ p. p ≡ port) }
+    ensures low { IfOk result (λ _. nat_lt 15 port ≡ false) }
+    ensures high { IfErr result (λ _. nat_lt 15 port ≡ true) }
+    ensures refused { IfErr result (λ f. f ≡ refusals.Broken rule.BadPort at) }
+{
+    if port > 15 {
+        return Err(Refusal::Broken {
+            rule: Rule::BadPort,
+            at,
+        });
+    }
+    Ok(port as u8)
+}
+
+// The one word that goes to a port.
+fn sent(alloc: Global, at: u32, port: u8, xs: Vec<Operand>) -> Result<TypedExpr, Refusal>
+    ensures typed { IfOk result (λ e. rules.sent at port (map operand_of xs.items) ≡ Is (expr_of e)) }
+    ensures refused { IfErr result (Refuses (rules.sent at port (map operand_of xs.items))) }
+{
+    let mut words = xs.into_iter();
+    match (words.next(), words.next()) {
+        (Some(word), None) => Ok(TypedExpr {
+            form: ExprForm::Out {
+                port,
+                value: Box::new(alloc, word.value)?,
+            },
+            kind: None,
+            at,
+        }),
+        _ => Err(wrong_count(at)),
+    }
+}
+
+/// What a call passes: each operand as one of the type of its parameter.
+pub fn passed(
+    alloc: Global,
+    kinds: &[ScalarType],
+    at: u32,
+    xs: Vec<Operand>,
+) -> Result<Vec<TypedExpr>, Refusal>
+    ensures typed { IfOk result (λ values. rules.passed kinds.now at (map operand_of xs.items) ≡ Is (argument_list values.items)) }
+    ensures refused { IfErr result (Refuses (rules.passed kinds.now at (map operand_of xs.items))) }
+{
+    let mut values = Vec::with_capacity(alloc, kinds.len())?;
+    let mut operands = xs.into_iter();
+    for kind in kinds {
+        let Some(x) = operands.next() else {
+            return Err(wrong_count(at));
+        };
+        values.push(given(alloc, *kind, at, x)?)?;
+    }
+    none_left(at, operands)?;
+    Ok(values)
+}
+
+// No operand is left over.
+#[tactic(auto, using(crate::proofs::OperandLists::any_void_of))]
+fn none_left(at: u32, rest: IntoIter<Operand, Global>) -> Result<(), Refusal>
+    ensures none { IfOk result (λ _. into_iter_items rest ≡ []) }
+    ensures refused { IfErr result (Refuses (rules.passed [] at (map operand_of (into_iter_items rest)))) }
+{
+    if rest.len() == 0 {
+        return Ok(());
+    }
+    if any_void_left(rest) {
+        return Err(mismatch(at));
+    }
+    Err(wrong_count(at))
+}
+
+fn any_void_left(mut rest: IntoIter<Operand, Global>) -> bool
+    ensures { result ≡ list_any (λ x. is_void x.value.kind) (into_iter_items rest) }
+{
+    rest.any(|x| x.value.kind.is_none())
+}

@@ -1,0 +1,22 @@
+//! What operators, conversions, assignments and calls make of typed operands: ISO 9899:1990 6.2 to 6.4.
+//!
+//! No scope is known here: each function takes typed trees and gives one, or the rule that they break.
+#![tactic(auto)]
+
+mod arguments;
+mod constants;
+mod conversions;
+mod kinds;
+mod operands;
+mod writes;
+
+pub use arguments::{input, output, passed, wrong_count};
+pub use constants::constant;
+pub use conversions::{cast, given};
+pub use kinds::{INT, UNSIGNED, class_of, pointer_to, same_kind, same_type, starred};
+pub use operands::{
+    Operand, behind, binary, both_true, either_true, negated, number, picked, sized, unary,
+};
+pub use writes::{
+    address, assigned, assigned_by, indexed, loaded, not_lvalue, stepped_after, stepped_before,
+};

@@ -1,0 +1,199 @@
+//! Lvalues, and what is read and written through them: ISO 9899:1990 6.3.2.1, 6.3.2.4, 6.3.3.1, 6.3.3.2 and 6.3.16.
+ghost use Rattle.std.specs.Prelude.{◌≡◌, Some, None, IfOk, IfErr};
+ghost use Rattle.c_tree.specs.View.{expr_of, lvalue_of};
+ghost use Rattle.c_tree.specs.WellFormed as well_formed;
+ghost use Rattle.c_rules.specs.Outcome.{Is};
+ghost use Rattle.c_rules.specs.Answers.{Refuses};
+ghost use Rattle.c_rules.specs.Operands as rules;
+ghost use Rattle.c_operands.specs.OperandView.{operand_of};
+ghost use Rattle.c_rules.specs.declared.fault.Refusal.TheVariants as refusals;
+ghost use Rattle.c_rules.specs.declared.fault.Rule.TheVariants as rule;
+
+use crate::conversions::given;
+use crate::kinds::{class_of, pointed, pointer_to};
+use crate::operands::{Operand, sum};
+use c_rules::{Class, Refusal, Rule, mismatch};
+use c_syntax::BinaryOp;
+use c_tree::{ExprForm, Target, TargetForm, TypedExpr};
+use std::alloc::Global;
+
+/// No object stands where one is written, at the node that writes.
+pub fn not_lvalue(at: u32) -> Refusal
+    ensures { result ≡ refusals.Broken rule.NotLvalue at }
+{
+    Refusal::Broken {
+        rule: Rule::NotLvalue,
+        at,
+    }
+}
+
+// What may be written: the object of a name, or what a pointer points to. `at` is the place of the node that writes.
+fn target_of(at: u32, e: TypedExpr) -> Result<Target, Refusal>
+    ensures target { IfOk result (λ t. rules.lvalue_of (expr_of e) ≡ Some (lvalue_of t.form t.at)) }
+    ensures none { IfErr result (λ _. rules.lvalue_of (expr_of e) ≡ None) }
+    ensures refused { IfErr result (λ f. f ≡ refusals.Broken rule.NotLvalue at) }
+{
+    let place = e.at;
+    match e.form {
+        ExprForm::Read(reference) => Ok(Target {
+            form: TargetForm::Named(reference),
+            at: place,
+        }),
+        ExprForm::Load(pointer) => Ok(Target {
+            form: TargetForm::At(pointer),
+            at: place,
+        }),
+        _ => Err(not_lvalue(at)),
+    }
+}
+
+/// `=`: 6.3.16.1.
+pub fn assigned(alloc: Global, at: u32, to: TypedExpr, value: Operand) -> Result<TypedExpr, Refusal>
+    ensures typed { IfOk result (λ e. rules.assigned at (expr_of to) (operand_of value) ≡ Is (expr_of e)) }
+    ensures refused { IfErr result (Refuses (rules.assigned at (expr_of to) (operand_of value))) }
+{
+    let Some(kind) = to.kind else {
+        return Err(mismatch(at));
+    };
+    let value = given(alloc, kind, at, value)?;
+    let form = ExprForm::Assign {
+        to: target_of(at, to)?,
+        value: Box::new(alloc, value)?,
+    };
+    Ok(TypedExpr {
+        form,
+        kind: Some(kind),
+        at,
+    })
+}
+
+fn is_comparison(op: BinaryOp) -> bool
+    ensures { result ≡ well_formed.is_comparison op }
+{
+    matches!(
+        op,
+        BinaryOp::Eq | BinaryOp::Ne | BinaryOp::Lt | BinaryOp::Gt | BinaryOp::Le | BinaryOp::Ge
+    )
+}
+
+// Whether `op=` takes operands of these classes: 6.3.16.2. No comparison has this form.
+fn takes(op: BinaryOp, to: Class, value: Class) -> bool
+    ensures { result ≡ rules.takes op to value }
+{
+    match (to, value) {
+        (Class::Integer, Class::Integer) => !is_comparison(op),
+        (Class::Pointer, Class::Integer) => matches!(op, BinaryOp::Add | BinaryOp::Sub),
+        _ => false,
+    }
+}
+
+/// `op=`: 6.3.16.2. The value keeps its own type.
+pub fn assigned_by(
+    alloc: Global,
+    op: BinaryOp,
+    at: u32,
+    to: TypedExpr,
+    value: TypedExpr,
+) -> Result<TypedExpr, Refusal>
+    ensures typed { IfOk result (λ e. rules.assigned_by op at (expr_of to) (expr_of value) ≡ Is (expr_of e)) }
+    ensures refused { IfErr result (Refuses (rules.assigned_by op at (expr_of to) (expr_of value))) }
+{
+    let kind = to.kind;
+    if !takes(op, class_of(kind), class_of(value.kind)) {
+        return Err(mismatch(at));
+    }
+    let kept = Box::new(alloc, value)?;
+    let form = ExprForm::AssignOp {
+        op,
+        to: target_of(at, to)?,
+        value: kept,
+    };
+    Ok(TypedExpr { form, kind, at })
+}
+
+/// `++` or `--` before its operand: 6.3.3.1.
+pub fn stepped_before(up: bool, at: u32, value: TypedExpr) -> Result<TypedExpr, Refusal>
+    ensures typed { IfOk result (λ e. rules.stepped_before up at (expr_of value) ≡ Is (expr_of e)) }
+    ensures refused { IfErr result (Refuses (rules.stepped_before up at (expr_of value))) }
+{
+    let kind = value.kind;
+    if kind.is_none() {
+        return Err(mismatch(at));
+    }
+    let to = target_of(at, value)?;
+    Ok(TypedExpr {
+        form: ExprForm::StepBefore { up, to },
+        kind,
+        at,
+    })
+}
+
+/// `++` or `--` behind its operand: 6.3.2.4.
+pub fn stepped_after(up: bool, at: u32, value: TypedExpr) -> Result<TypedExpr, Refusal>
+    ensures typed { IfOk result (λ e. rules.stepped_after up at (expr_of value) ≡ Is (expr_of e)) }
+    ensures refused { IfErr result (Refuses (rules.stepped_after up at (expr_of value))) }
+{
+    let kind = value.kind;
+    if kind.is_none() {
+        return Err(mismatch(at));
+    }
+    let to = target_of(at, value)?;
+    Ok(TypedExpr {
+        form: ExprForm::StepAfter { up, to },
+        kind,
+        at,
+    })
+}
+
+/// `&`: 6.3.3.2. That of what a pointer points to is the pointer itself.
+pub fn address(is_array: bool, at: u32, value: TypedExpr) -> Result<TypedExpr, Refusal>
+    ensures typed { IfOk result (λ e. rules.address is_array at (expr_of value) ≡ Is (expr_of e)) }
+    ensures refused { IfErr result (Refuses (rules.address is_array at (expr_of value))) }
+{
+    let kind = match value.kind {
+        Some(kind) if !is_array => kind,
+        _ => return Err(mismatch(at)),
+    };
+    match value.form {
+        ExprForm::Read(reference) => Ok(TypedExpr {
+            form: ExprForm::AddressOf(reference),
+            kind: Some(pointer_to(kind).ok_or(Refusal::NoMemory)?),
+            at,
+        }),
+        ExprForm::Load(pointer) => Ok(Box::into_inner(pointer)),
+        _ => Err(not_lvalue(at)),
+    }
+}
+
+/// `*`: 6.3.3.2.
+pub fn loaded(alloc: Global, at: u32, value: TypedExpr) -> Result<TypedExpr, Refusal>
+    ensures typed { IfOk result (λ e. rules.loaded at (expr_of value) ≡ Is (expr_of e)) }
+    ensures refused { IfErr result (Refuses (rules.loaded at (expr_of value))) }
+{
+    let kind = match value.kind {
+        Some(pointer) if pointer.stars > 0 => pointed(pointer),
+        _ => None,
+    };
+    if kind.is_none() {
+        return Err(mismatch(at));
+    }
+    Ok(TypedExpr {
+        form: ExprForm::Load(Box::new(alloc, value)?),
+        kind,
+        at,
+    })
+}
+
+/// `e[i]`: 6.3.2.1.
+pub fn indexed(
+    alloc: Global,
+    at: u32,
+    left: TypedExpr,
+    right: TypedExpr,
+) -> Result<TypedExpr, Refusal>
+    ensures typed { IfOk result (λ e. rules.indexed at (expr_of left) (expr_of right) ≡ Is (expr_of e)) }
+    ensures refused { IfErr result (Refuses (rules.indexed at (expr_of left) (expr_of right))) }
+{
+    let cell = sum(alloc, at, left, right)?;
+    loaded(alloc, at, cell)
+}

@@ -1,0 +1,12 @@
+pub mod FrameNumbers
+pub mod OrderLemmas
+pub mod PlaceLemmas
+pub mod RoundLemmas
+pub mod MissingBodies
+pub mod FaultLaws
+pub mod ChainLaws
+pub mod LawLemmas
+pub mod Formed
+pub mod Walked
+pub mod Examples
+pub mod FrameExamples

@@ -1,0 +1,10 @@
+pub mod ScopeLemmas
+pub mod BodyLemmas
+pub mod OperandsSoFar
+pub mod CallForms
+pub mod TypeWords
+pub mod SoFar
+pub mod ScopesKept
+pub mod KeptScopes
+pub mod ParameterLemmas
+pub mod FileScopeLemmas

@@ -1,0 +1,8 @@
+use Rattle.std.proofs.Common.{rules}
+use Rattle.c_scopes.proofs.CallForms.{call_typed}
+use Rattle.c_scopes.proofs.names.call_of.Goals as goal
+
+pub returns-clause-typed : goal.returns-clause-typed
+returns-clause-typed c =
+    let passed = rw c.as_slice.ensures at c.in_ok-args.ensures.typed in
+    call_typed _ c.args.number c.in-Ok.function_number c.in_ok-args.args _ c.args.at (search rules) passed

@@ -1,0 +1,20 @@
+//! The names of a C source and what is typed by them: expressions, declarators and initialisers.
+//!
+//! `Scopes` holds the names that are declared at a place. An expression is typed by them, and each declaration adds to them.
+#![tactic(auto)]
+
+mod call_arguments;
+mod declarations;
+mod expressions;
+mod file_scope;
+mod initialisers;
+mod names;
+mod scopes;
+mod type_words;
+
+pub use call_arguments::word_at;
+pub use declarations::redeclared;
+pub use file_scope::{Starts, static_list};
+pub use initialisers::{Entry, Initialiser, Start, cell, listed, started};
+pub use scopes::{Scopes, is_in, is_out};
+pub use type_words::{plain, spelled};

@@ -1,6 +1,0 @@
-use Rattle.std.proofs.Common.{◌≡◌, ◌++◌, drop}
-use Rattle.c_types.specs.Calls.{called}
-use Rattle.c_types.proofs.recursion.called.Given as goal
-
-abbrev pub invariant-loop-found : goal.invariant-loop-found
-invariant-loop-found l = l.callees.items ++ called (drop l.found-index l.uses) ≡ called l.uses

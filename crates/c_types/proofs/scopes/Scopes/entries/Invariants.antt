@@ -1,7 +1,0 @@
-use Rattle.std.proofs.Common.{drop}
-use Rattle.c_types.specs.Tables.{scope_of}
-use Rattle.c_types.proofs.SoFar.{EntriesSoFar}
-use Rattle.c_types.proofs.scopes.Scopes.entries.Given as goal
-
-abbrev pub invariant-loop-e : goal.invariant-loop-e
-invariant-loop-e l = EntriesSoFar (scope_of l.self) l.list (drop l.e-index l.list) l.entries.items
