@@ -1,6 +1,6 @@
 -- Statements in memory, one behind another, and blocks of them.
 use Rattle.std.proofs.Common.{◌≡◌, ℕ, ◌+◌, ◌<◌, ◌≤◌, List, [], ◌∷◌, ◌++◌, map, drop, get_or, length, refl, ap, sym, ◌∙◌, Vec, Global, subst}
-use Rattle.std.specs.Prelude.{Result, IfOk, IfErr}
+use Rattle.std.specs.Prelude.{Result, IfOk, IfErr, Option}
 use Rattle.std.proofs.Math.ListN.{drop_of_length-le}
 use Rattle.std.proofs.lemmas.List.{drop_more}
 use Rattle.c_syntax.specs.declared.decl.Decl.{Decl}
@@ -13,9 +13,9 @@ use Rattle.c_syntax.specs.SyntaxTree as tree
 use Rattle.c_syntax.specs.SyntaxTree.{DeclarationTree, Expression, Statement, Statements}
 use Rattle.c_syntax.specs.SyntaxView.{statement_of, body_of, declaration_of}
 use Rattle.c_tree.specs.TypedTree as typed
-use Rattle.c_tree.specs.TypedTree.{Expr, Stmts, Block, Do_while, If, both, done}
+use Rattle.c_tree.specs.TypedTree.{Expr, Stmts, Block, Do_while, For, If, While, both, done}
 use Rattle.c_tree.specs.declared.program.VarRef.{VarRef}
-use Rattle.c_tree.specs.View.{stmt_of, statement_list}
+use Rattle.c_tree.specs.View.{option_expr_of, stmt_of, statement_list}
 use Rattle.c_tree.proofs.Views.{block_of_list}
 use Rattle.c_bodies.specs.declared.blocks.Body.{Body}
 use Rattle.c_bodies.specs.declared.blocks.Opening.{Opening}
@@ -26,10 +26,11 @@ use Rattle.c_rules.specs.declared.fault.Rule.TheVariants.{Mismatch}
 use Rattle.c_tree.specs.declared.enclosing.Enclosing.{Enclosing}
 use Rattle.c_tree.specs.declared.enclosing.Enclosing.TheVariants as around
 use Rattle.c_rules.specs.Answers.{Refuses}
-use Rattle.c_bodies.specs.Bodies.{behind, block_in, statement_in, statements_in}
+use Rattle.c_bodies.specs.Bodies.{behind, block_in, else_in, for_in, statement_in, statements_in, tested_in}
+use Rattle.c_bodies.specs.declared.statements.ForHead.{ForHead}
 use Rattle.c_rules.specs.Kinds.{is_void}
 use Rattle.c_rules.specs.Outcome.{Outcome, Is, Broken, ◌>>=◌, breaks}
-use Rattle.c_rules.specs.Statements.{LocalTree, Opened, Typed, just, before, declarations, typed_statement, typed_statements}
+use Rattle.c_rules.specs.Statements.{LocalTree, Opened, Typed, just, before, declarations, typed_statement, typed_statements, is_void_test, optional}
 use Rattle.c_scopes.specs.Tables.{scope_of, tables_of}
 use Rattle.c_rules.specs.Typing.{typing}
 use Rattle.c_bodies.specs.BodyView.{locals_of, opened_of}
@@ -62,6 +63,36 @@ unbroken there (Broken other place) rule at h = h
 -- a list from an element on
 from_here : (list : List Stmt) (i : ℕ) (s : Stmt) → s ≡ get_or list i s → i < length list → drop i list ≡ s ∷ drop (i + 1) list
 from_here list i s is within = drop_more list i s within ∙ ap (λ x. x ∷ drop (i + 1) list) (sym is)
+
+-- an if, a while and a for behind their parts
+pub if_rest : (b n : Body) (c : Enclosing) (e : Expression) (s : Statement) (at : ℕ) (x : Expr) (p : typed.Stmt) → typing (scope_of b.scopes) e ≡ Is x → statement_in b c s ≡ just p (locals_of n)
+    → tested_in n at x (If x p (Block [] done)) ≡ statement_in b c (tree.If e s at)
+if_rest b n c e s at x p test h = sym
+    (ap (λ o. o >>= λ x. statement_in b c s >>= λ p. breaks (is_void (kind_of x)) Mismatch at (just (If x p.tree (Block [] done)) p.locals)) test
+    ∙ ap (λ o. o >>= λ p. breaks (is_void (kind_of x)) Mismatch at (just (If x p.tree (Block [] done)) p.locals)) h)
+
+pub while_rest : (b n : Body) (c : Enclosing) (e : Expression) (s : Statement) (at : ℕ) (x : Expr) (p : typed.Stmt) → typing (scope_of b.scopes) e ≡ Is x → statement_in b around.Loop s ≡ just p (locals_of n)
+    → tested_in n at x (While x p) ≡ statement_in b c (tree.While e s at)
+while_rest b n c e s at x p test h = sym
+    (ap (λ o. o >>= λ x. statement_in b around.Loop s >>= λ p. breaks (is_void (kind_of x)) Mismatch at (just (While x p.tree) p.locals)) test
+    ∙ ap (λ o. o >>= λ p. breaks (is_void (kind_of x)) Mismatch at (just (While x p.tree) p.locals)) h)
+
+pub for_rest : (b n : Body) (c : Enclosing) (first test third : Option Expression) (s : Statement) (at : ℕ) (head : ForHead) (p : typed.Stmt)
+    → optional (scope_of b.scopes) first ≡ Is (option_expr_of head.first) → optional (scope_of b.scopes) test ≡ Is (option_expr_of head.test)
+    → optional (scope_of b.scopes) third ≡ Is (option_expr_of head.third) → statement_in b around.Loop s ≡ just p (locals_of n)
+    → for_in n at head p ≡ statement_in b c (tree.For first test third s at)
+for_rest b n c first test third s at head p begins tests steps h =
+    let over = λ (x y z : Option Expr). statement_in b around.Loop s >>= λ p. breaks (is_void_test y) Mismatch at (just (For x y z p.tree) p.locals)
+    in sym
+    (ap (λ o. o >>= λ x. optional (scope_of b.scopes) test >>= λ y. optional (scope_of b.scopes) third >>= λ z. over x y z) begins
+    ∙ ap (λ o. o >>= λ y. optional (scope_of b.scopes) third >>= λ z. over (option_expr_of head.first) y z) tests
+    ∙ ap (λ o. o >>= λ z. over (option_expr_of head.first) (option_expr_of head.test) z) steps
+    ∙ ap (λ o. o >>= λ p. breaks (is_void_test (option_expr_of head.test)) Mismatch at (just (For (option_expr_of head.first) (option_expr_of head.test) (option_expr_of head.third) p.tree) p.locals)) h)
+
+-- the second arm of an if
+pub arms_rest : (n m : Body) (c : Enclosing) (s : Statement) (at : ℕ) (x : Expr) (p q : typed.Stmt) → statement_in n c s ≡ just q (locals_of m)
+    → tested_in m at x (If x p q) ≡ else_in n c at x p s
+arms_rest n m c s at x p q h = sym (ap (λ o. o >>= λ q. breaks (is_void (kind_of x)) Mismatch at (just (If x p q.tree) q.locals)) h)
 
 module _ (b n : Body) (tables : tables_of n.scopes ≡ tables_of b.scopes) (bodies : n.scopes.bodies ≡ b.scopes.bodies) where
   -- the test of a do behind its body

@@ -2,21 +2,22 @@
 use Rattle.std.specs.Prelude.{ℕ, Bool, ◌||◌, not, List, [], ◌∷◌, map}
 use Rattle.c_syntax.specs.SyntaxTree.{DeclarationTree, Expression, Statement, Statements}
 use Rattle.c_syntax.specs.SyntaxTree as tree
-use Rattle.c_tree.specs.TypedTree.{Expr, Stmt, Stmts, Block, Choices, Do_while, If, Switch}
+use Rattle.c_tree.specs.TypedTree.{Expr, Stmt, Stmts, Block, Choices, Do_while, For, If, Switch}
 use Rattle.c_tree.specs.Eval.{kind_of}
-use Rattle.c_tree.specs.View.{choice_before, choice_list, stmt_of}
+use Rattle.c_tree.specs.View.{choice_before, choice_list, option_expr_of, stmt_of}
 use Rattle.c_syntax.specs.SyntaxView.{part_before}
 use Rattle.c_syntax.specs.declared.stmt.SwitchPart.{SwitchPart}
 use Rattle.c_tree.specs.declared.typed_statement.Choice.{Choice}
 use Rattle.c_tree.specs.declared.typed_statement.TypedStmt.{TypedStmt}
 use Rattle.c_bodies.specs.declared.labels.Labelled as memory
 use Rattle.c_bodies.specs.declared.blocks.Body.{Body}
+use Rattle.c_bodies.specs.declared.statements.ForHead.{ForHead}
 use Rattle.c_tree.specs.declared.enclosing.Enclosing.{Enclosing}
 use Rattle.c_rules.specs.declared.fault.Rule.TheVariants.{Mismatch, Redeclared}
 use Rattle.c_rules.specs.Kinds.{class_of, is_void}
 use Rattle.c_rules.specs.Operands.{is_integer}
 use Rattle.c_rules.specs.Outcome.{Outcome, Is, ◌>>=◌, breaks}
-use Rattle.c_rules.specs.Statements.{Typed, Labelled, just, before, opened_in, declarations, repeats_label, typed_statement, typed_statements, typed_choices}
+use Rattle.c_rules.specs.Statements.{Typed, Labelled, just, before, opened_in, declarations, repeats_label, typed_statement, typed_statements, typed_choices, is_void_test}
 use Rattle.c_scopes.specs.Tables.{scope_of}
 use Rattle.c_rules.specs.Typing.{typing}
 use Rattle.c_bodies.specs.BodyView.{locals_of}
@@ -65,6 +66,15 @@ else_in b c at x arm s = statement_in b c s >>= λ q. breaks (is_void (kind_of x
 -- the test of a do with this body
 abbrev pub test_in : Body → ℕ → Stmt → Expression → Outcome (Typed Stmt)
 test_in b at s e = typing (scope_of b.scopes) e >>= λ x. breaks (is_void (kind_of x)) Mismatch at (just (Do_while s x) (locals_of b))
+
+-- a statement over a test that is typed, which has to have a value
+abbrev pub tested_in : Body → ℕ → Expr → Stmt → Outcome (Typed Stmt)
+tested_in b at x s = breaks (is_void (kind_of x)) Mismatch at (just s (locals_of b))
+
+-- a for over what is typed of it
+abbrev pub for_in : Body → ℕ → ForHead → Stmt → Outcome (Typed Stmt)
+for_in b at head s = breaks (is_void_test (option_expr_of head.test)) Mismatch at
+    (just (For (option_expr_of head.first) (option_expr_of head.test) (option_expr_of head.third) s) (locals_of b))
 
 -- choices behind those that are there, of which a label may be a pointer
 abbrev pub behind_choices : List Choice → Bool → Outcome (Typed Labelled) → Outcome (Typed Labelled)

@@ -3,13 +3,14 @@ ghost use Rattle.std.specs.Prelude.{◌≡◌, ◌∷◌, true, false, IfOk, IfE
 ghost use Rattle.c_tree.specs.Eval.{kind_of};
 ghost use Rattle.c_syntax.specs.SyntaxTree as tree;
 ghost use Rattle.c_syntax.specs.SyntaxView.{body_of, declaration_of, expression_of, optional_of, part_before, statement_of};
-ghost use Rattle.c_tree.specs.TypedTree.{Block, done};
+ghost use Rattle.c_tree.specs.Labels.{may_break, may_continue};
+ghost use Rattle.c_tree.specs.TypedTree.{Block, Break, Continue, If, While, done};
 ghost use Rattle.c_tree.specs.View.{expr_of, option_expr_of, statement_list, stmt_of};
 ghost use Rattle.c_rules.specs.declared.fault.Refusal.TheVariants as refusals;
 ghost use Rattle.c_rules.specs.declared.fault.Rule.TheVariants as rule;
 ghost use Rattle.c_tree.specs.declared.enclosing.Enclosing.TheVariants as enclosings;
 ghost use Rattle.c_rules.specs.Answers.{Refuses};
-ghost use Rattle.c_bodies.specs.Bodies.{behind, behind_choices, block_in, choices_in, else_in, labelled_of, parts_of, statement_in, statements_in, test_in};
+ghost use Rattle.c_bodies.specs.Bodies.{behind, behind_choices, block_in, choices_in, else_in, for_in, labelled_of, parts_of, statement_in, statements_in, test_in, tested_in};
 ghost use Rattle.c_rules.specs.Kinds.{is_void};
 ghost use Rattle.c_rules.specs.Outcome.{Is};
 ghost use Rattle.c_rules.specs.Statements as rules;
@@ -35,6 +36,14 @@ struct LabelOrBody {
     pointer: bool,
 }
 
+/// What stands between the parentheses of a `for`.
+#[derive(Drop)]
+struct ForHead {
+    first: Option<TypedExpr>,
+    test: Option<TypedExpr>,
+    third: Option<TypedExpr>,
+}
+
 impl<'a> Body<'a> {
     /// The typed tree of a statement.
     #[cycle(statements)]
@@ -53,8 +62,8 @@ impl<'a> Body<'a> {
                 declarations,
                 statements,
             } => self.block(declarations, statements, enclosing, at),
-            StmtKind::Break => left(enclosing.may_break(), TypedStmt::Break, at),
-            StmtKind::Continue => left(enclosing.may_continue(), TypedStmt::Continue, at),
+            StmtKind::Break => break_from(enclosing, at),
+            StmtKind::Continue => continue_from(enclosing, at),
             StmtKind::Return(None) => self.empty_return(at),
             StmtKind::Return(Some(value)) => self.value_return(value, at),
             StmtKind::If { test, yes } => self.choice(test, yes, enclosing, at),
@@ -195,6 +204,14 @@ impl<'a> Body<'a> {
     {
         let test = self.scopes.expression(test)?;
         let yes = self.statement(yes, enclosing)?;
+        self.one_armed(test, yes, at)
+    }
+
+    // An if over its test and its only arm.
+    fn one_armed(&self, test: TypedExpr, yes: TypedStmt, at: u32) -> Result<TypedStmt, Refusal>
+        ensures typed { IfOk result (λ t. tested_in self.now at (expr_of test) (If (expr_of test) (stmt_of yes) (Block [] done)) ≡ just (stmt_of t) (locals_of self.now)) }
+        ensures refused { IfErr result (Refuses (tested_in self.now at (expr_of test) (If (expr_of test) (stmt_of yes) (Block [] done)))) }
+    {
         not_void(&test, at)?;
         Ok(TypedStmt::If {
             test,
@@ -240,8 +257,22 @@ impl<'a> Body<'a> {
         ensures bodies { self.new.scopes.bodies ≡ self.old.scopes.bodies }
         ensures returned { self.new.result ≡ self.old.result }
     {
-        let alloc = self.scopes.alloc;
         let no = self.statement(no, enclosing)?;
+        self.two_armed(test, yes, no, at)
+    }
+
+    // An if over its test and both arms.
+    fn two_armed(
+        &self,
+        test: TypedExpr,
+        yes: TypedStmt,
+        no: TypedStmt,
+        at: u32,
+    ) -> Result<TypedStmt, Refusal>
+        ensures typed { IfOk result (λ t. tested_in self.now at (expr_of test) (If (expr_of test) (stmt_of yes) (stmt_of no)) ≡ just (stmt_of t) (locals_of self.now)) }
+        ensures refused { IfErr result (Refuses (tested_in self.now at (expr_of test) (If (expr_of test) (stmt_of yes) (stmt_of no)))) }
+    {
+        let alloc = self.scopes.alloc;
         not_void(&test, at)?;
         Ok(TypedStmt::If {
             test,
@@ -340,6 +371,14 @@ impl<'a> Body<'a> {
     {
         let test = self.scopes.expression(test)?;
         let body = self.statement(body, Enclosing::Loop)?;
+        self.while_over(test, body, at)
+    }
+
+    // A while over its test and its body.
+    fn while_over(&self, test: TypedExpr, body: TypedStmt, at: u32) -> Result<TypedStmt, Refusal>
+        ensures typed { IfOk result (λ t. tested_in self.now at (expr_of test) (While (expr_of test) (stmt_of body)) ≡ just (stmt_of t) (locals_of self.now)) }
+        ensures refused { IfErr result (Refuses (tested_in self.now at (expr_of test) (While (expr_of test) (stmt_of body)))) }
+    {
         not_void(&test, at)?;
         Ok(TypedStmt::While {
             test,
@@ -392,12 +431,21 @@ impl<'a> Body<'a> {
         let first = self.optional(first)?;
         let test = self.optional(test)?;
         let third = self.optional(third)?;
+        let head = ForHead { first, test, third };
         let body = self.statement(body, Enclosing::Loop)?;
-        test_not_void(&test, at)?;
+        self.for_over(head, body, at)
+    }
+
+    // A for over what stands between its parentheses and its body.
+    fn for_over(&self, head: ForHead, body: TypedStmt, at: u32) -> Result<TypedStmt, Refusal>
+        ensures typed { IfOk result (λ t. for_in self.now at head (stmt_of body) ≡ just (stmt_of t) (locals_of self.now)) }
+        ensures refused { IfErr result (Refuses (for_in self.now at head (stmt_of body))) }
+    {
+        test_not_void(&head.test, at)?;
         Ok(TypedStmt::For {
-            first,
-            test,
-            third,
+            first: head.first,
+            test: head.test,
+            third: head.third,
             body: Box::new(self.scopes.alloc, body)?,
         })
     }
@@ -424,20 +472,40 @@ fn empty(alloc: Global) -> TypedStmt
     }
 }
 
-// A break or continue, where there is something to leave.
-fn left(may_leave: bool, jump: TypedStmt, at: u32) -> Result<TypedStmt, Refusal>
-    ensures left { IfOk result (λ t. t ≡ jump) }
-    ensures may { OnOk result (may_leave ≡ true) }
+// A break, where there is something to leave: 6.6.6.3.
+fn break_from(enclosing: Enclosing, at: u32) -> Result<TypedStmt, Refusal>
+    ensures typed { IfOk result (λ t. stmt_of t ≡ Break) }
+    ensures may { OnOk result (may_break enclosing ≡ true) }
     ensures refused { IfErr result (λ f. f ≡ refusals.Broken rule.Misplaced at) }
-    ensures may_not { OnErr result (may_leave ≡ false) }
+    ensures may_not { OnErr result (may_break enclosing ≡ false) }
 {
-    if may_leave {
-        return Ok(jump);
+    if enclosing.may_break() {
+        return Ok(TypedStmt::Break);
     }
-    Err(Refusal::Broken {
+    Err(misplaced(at))
+}
+
+// A continue, where there is a loop to go on with: 6.6.6.2.
+fn continue_from(enclosing: Enclosing, at: u32) -> Result<TypedStmt, Refusal>
+    ensures typed { IfOk result (λ t. stmt_of t ≡ Continue) }
+    ensures may { OnOk result (may_continue enclosing ≡ true) }
+    ensures refused { IfErr result (λ f. f ≡ refusals.Broken rule.Misplaced at) }
+    ensures may_not { OnErr result (may_continue enclosing ≡ false) }
+{
+    if enclosing.may_continue() {
+        return Ok(TypedStmt::Continue);
+    }
+    Err(misplaced(at))
+}
+
+// What is refused where nothing can be left.
+fn misplaced(at: u32) -> Refusal
+    ensures { result ≡ refusals.Broken rule.Misplaced at }
+{
+    Refusal::Broken {
         rule: Rule::Misplaced,
         at,
-    })
+    }
 }
 
 // The value of a return from a function of this type.

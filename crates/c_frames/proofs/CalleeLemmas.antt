@@ -6,7 +6,9 @@ use Rattle.std.proofs.lemmas.List.{map_push, take_more}
 use Rattle.std.proofs.lemmas.List.Elements.{AllZip-push}
 use Rattle.std.proofs.lemmas.Option.{slice_get_within}
 use Rattle.c_tree.specs.declared.uses.Use.{Use}
-use Rattle.c_frames.specs.Calls.{called, CallsAmong, IsOrdered, AreOrdered}
+use Rattle.c_tree.specs.Uses.{called}
+use Rattle.c_tree.specs.Rounds.{CallsAmong}
+use Rattle.c_frames.specs.Calls.{IsOrdered, AreOrdered}
 
 pub lists_further : (uses : List (Vec Use Global)) (i : ℕ) (item : Vec Use Global) (lists new : List (Vec ℕ Global)) (made : Vec ℕ Global) → i < length uses → item ≡ get_or uses i item
     → AllZip IsOrdered (map vec_items lists) (map called (map vec_items (take i uses))) → new ≡ lists ++ made ∷ [] → IsOrdered made.items (called item.items)

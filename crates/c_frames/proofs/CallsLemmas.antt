@@ -7,7 +7,8 @@ use Rattle.std.proofs.lemmas.Bool.{cases_lt}
 use Rattle.std.proofs.lemmas.List.{get_or_default, length-map}
 use Rattle.std.proofs.lemmas.Option.{slice_get_read, slice_get-map}
 use Rattle.std.specs.List.{Contains}
-use Rattle.c_frames.specs.Calls.{CallsAmong, AreOrdered, NeverRise, FallBefore}
+use Rattle.c_tree.specs.Rounds.{CallsAmong}
+use Rattle.c_frames.specs.Calls.{AreOrdered, NeverRise, FallBefore}
 use Rattle.c_rules.specs.Rounds.{IsWay, NoneBelow}
 
 -- what holds of the calls of the functions before one, and of its own

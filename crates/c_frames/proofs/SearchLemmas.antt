@@ -7,7 +7,8 @@ use Rattle.std.specs.List.{Contains}
 use Rattle.std.proofs.lemmas.List.{get_or_default, length-set, length-append, length-map}
 use Rattle.c_frames.specs.declared.recursion.Search.{Search}
 use Rattle.c_frames.specs.declared.recursion.Step.{Step}
-use Rattle.c_frames.specs.Calls.{CallsAmong, AreOrdered}
+use Rattle.c_tree.specs.Rounds.{CallsAmong}
+use Rattle.c_frames.specs.Calls.{AreOrdered}
 use Rattle.c_rules.specs.Rounds.{IsWay, IsRound, IsFirstRound, IsFirstChain, NoneBelow}
 use Rattle.c_frames.specs.Trails.{Reached, IsLinked, HasSearched, way_at, reached_by, trail_of}
 use Rattle.c_frames.proofs.FollowLemmas.{before_place, follow_none, followed}

@@ -2,19 +2,7 @@
 use Rattle.std.specs.Prelude.{◌≡◌, ◌<◌, ◌≤◌, ◌↔◌, ℕ, List, [], ◌∷◌, length, slice_get, slice_index, Some}
 use Rattle.std.specs.List.{Contains}
 use Rattle.std.specs.List.Sorted.{IsNonDecreasing}
-use Rattle.c_tree.specs.declared.uses.Use.{Use}
-use Rattle.c_tree.specs.declared.uses.Use.TheVariants.{Address, Call, Cases}
-
--- the functions that are called
-abbrev pub called : List Use → List ℕ
-called [] = []
-called (Address r ∷ us) = called us
-called (Cases n ∷ us) = called us
-called (Call m at ∷ us) = m ∷ called us
-
--- a function calls another, by the list of those that each calls
-abbrev pub CallsAmong : List (List ℕ) → ℕ → ℕ → Type 0
-CallsAmong lists n m = (list : List ℕ) × (slice_get lists n ≡ Some list) × Contains list m
+use Rattle.c_tree.specs.Rounds.{CallsAmong}
 
 -- a list in rising order has the elements of another
 pub record IsOrdered (list original : List ℕ) : Type 0 where

@@ -2,7 +2,7 @@
 use Rattle.std.specs.Prelude.{◌≡◌, ◌<◌, ◌≤◌, ◌≢◌, ℕ, Bool, true, List, [], ◌∷◌, ◌++◌, zero, suc, length, slice_get, Option, Some, None}
 use Rattle.c_frames.specs.declared.recursion.Search.{Search}
 use Rattle.c_frames.specs.declared.recursion.Step.{Step}
-use Rattle.c_frames.specs.Calls.{CallsAmong}
+use Rattle.c_tree.specs.Rounds.{CallsAmong}
 use Rattle.c_rules.specs.Rounds.{IsWay, IsBefore, IsNotAfter}
 
 -- a function that is reached, and those on the way to it, with itself as the last

@@ -1,7 +1,8 @@
 //! Functions that don't reach themselves, seen by levels that never rise along calls.
 ghost use Rattle.std.specs.Prelude.{◌≡◌, ◌<◌, ◌≤◌, ℕ, length, map, vec_items, true, IfOk, slice_index};
 ghost use Rattle.std.specs.List.{Contains};
-ghost use Rattle.c_frames.specs.Calls.{CallsAmong, AreOrdered, NeverRise, FallBefore};
+ghost use Rattle.c_tree.specs.Rounds.{CallsAmong};
+ghost use Rattle.c_frames.specs.Calls.{AreOrdered, NeverRise, FallBefore};
 ghost use Rattle.c_rules.specs.Rounds.{NoneBelow};
 
 use crate::components::levels_of;

@@ -1,7 +1,9 @@
 //! The first function that reaches itself by calls, and the first of its ways round.
 ghost use Rattle.std.specs.Prelude.{◌≡◌, ◌<◌, ◌+◌, ◌∷◌, [], ℕ, map, length, replicate, false, ◌≢◌, slice_get, vec_items, IfOk, MatchOption};
 ghost use Rattle.std.specs.List.{All, AllZip};
-ghost use Rattle.c_frames.specs.Calls.{called, CallsAmong, IsOrdered, AreOrdered};
+ghost use Rattle.c_tree.specs.Uses.{called};
+ghost use Rattle.c_tree.specs.Rounds.{CallsAmong};
+ghost use Rattle.c_frames.specs.Calls.{IsOrdered, AreOrdered};
 ghost use Rattle.c_rules.specs.Chains.{name_of};
 ghost use Rattle.c_rules.specs.Rounds.{IsFirstChain, HasNoRound, NoneBelow};
 ghost use Rattle.c_frames.specs.Trails.{Reached, IsLinked, HasSearched, trail_of, way_at};

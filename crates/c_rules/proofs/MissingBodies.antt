@@ -1,22 +1,23 @@
 -- Where no call is of a function without a body, each function that is called has one.
-use Rattle.std.proofs.Common.{◌≡◌, ◌<◌, ◌∙◌, Bool, true, false, nat_lt, ℕ, zero, suc, List, [], ◌∷◌, length, map, ap, sym, refl, Some, ◌++◌, if◌then◌else◌, Option, None}
-use Rattle.std.specs.Prelude.{slice_get}
+use Rattle.std.proofs.Common.{◌≡◌, ◌<◌, Bool, true, false, nat_lt, ℕ, zero, suc, List, [], ◌∷◌, length, map, get_or, ap, sym, subst, refl, arith, Some, if◌then◌else◌, Option, None}
+use Rattle.std.specs.List.{Contains}
 use borrow.Author.Tests.{ltb-true}
 use Rattle.c_tree.specs.declared.uses.Use.{Use}
-use Rattle.c_tree.specs.Uses.{statement_uses}
+use Rattle.c_tree.specs.Rounds.{CallsAmong}
+use Rattle.c_tree.specs.Uses.{called, statement_uses}
 use Rattle.c_rules.specs.Units.{TypedFunction}
 use Rattle.c_tree.specs.declared.uses.Use.TheVariants as kind
-use Rattle.c_rules.specs.Programs.{Calling, HasBodies}
+use Rattle.c_rules.specs.Programs.{calls_of, HasBodies}
 use Rattle.c_rules.specs.Whole.{uses_of, earlier, first_without, first_among, missing_body}
 
 -- the uses of each function
 abbrev pub uses_in : TypedFunction → List Use
 uses_in f = statement_uses f.body
 
-pub list_at : (fs : List TypedFunction) (n : ℕ) (f : TypedFunction) → slice_get fs n ≡ Some f → slice_get (map uses_in fs) n ≡ Some (uses_in f)
-list_at [] n f there = absurd (cc there)
-list_at (g ∷ fs) zero f there = let same : g ≡ f = cc there in ap (λ h. Some (uses_in h)) same
-list_at (g ∷ fs) (suc n) f there = list_at fs n f there
+-- the functions that each calls, by its uses
+pub calls_listed : (fs : List TypedFunction) → map called (map uses_in fs) ≡ calls_of fs
+calls_listed [] = refl
+calls_listed (f ∷ fs) = ap (λ ls. called (uses_in f) ∷ ls) (calls_listed fs)
 
 -- places of calls
 pub earlier_none : (a b : Option ℕ) → earlier a b ≡ None → (a ≡ None) × (b ≡ None)
@@ -32,23 +33,24 @@ met : (b : Bool) (f bodies place : ℕ) (o : Option ℕ) → nat_lt f bodies ≡
 met true f bodies place o is none = ltb-true f bodies is
 met false f bodies place o is none = absurd (cc (earlier_none (Some place) o none).0)
 
-call_met : (bodies f at : ℕ) (before behind : List Use) → first_without bodies (before ++ kind.Call f at ∷ behind) ≡ None → f < bodies
-call_met bodies f at [] behind none = met (nat_lt f bodies) f bodies at (first_without bodies behind) refl none
-call_met bodies f at (kind.Call g place ∷ before) behind none =
-    call_met bodies f at before behind (no_rest (nat_lt g bodies) place (first_without bodies (before ++ kind.Call f at ∷ behind)) none)
-call_met bodies f at (kind.Address r ∷ before) behind none = call_met bodies f at before behind none
-call_met bodies f at (kind.Cases n ∷ before) behind none = call_met bodies f at before behind none
+call_met : (bodies : ℕ) (us : List Use) (i m : ℕ) → first_without bodies us ≡ None → i < length (called us) → get_or (called us) i m ≡ m → m < bodies
+call_met bodies [] i m none within is = absurd (omega (arith, within))
+call_met bodies (kind.Address r ∷ us) i m none within is = call_met bodies us i m none within is
+call_met bodies (kind.Cases n ∷ us) i m none within is = call_met bodies us i m none within is
+call_met bodies (kind.Call g place ∷ us) zero m none within is =
+    subst (λ k. k < bodies) is (met (nat_lt g bodies) g bodies place (first_without bodies us) refl none)
+call_met bodies (kind.Call g place ∷ us) (suc i) m none within is =
+    call_met bodies us i m (no_rest (nat_lt g bodies) place (first_without bodies us) none) (omega (arith, within)) is
 
-all_met : (bodies : ℕ) (lists : List (List Use)) (n f at : ℕ) (before behind : List Use) → first_among bodies lists ≡ None
-    → slice_get lists n ≡ Some (before ++ kind.Call f at ∷ behind) → f < bodies
-all_met bodies [] n f at before behind none there = absurd (cc there)
-all_met bodies (us ∷ rest) zero f at before behind none there =
-    let same : us ≡ before ++ kind.Call f at ∷ behind = cc there
-    in call_met bodies f at before behind (ap (first_without bodies) (sym same) ∙ (earlier_none (first_without bodies us) (first_among bodies rest) none).0)
-all_met bodies (us ∷ rest) (suc n) f at before behind none there =
-    all_met bodies rest n f at before behind (earlier_none (first_without bodies us) (first_among bodies rest) none).1 there
+all_met : (bodies : ℕ) (lists : List (List Use)) (n m : ℕ) → first_among bodies lists ≡ None → CallsAmong (map called lists) n m → m < bodies
+all_met bodies [] n m none call = absurd (cc call.1)
+all_met bodies (us ∷ rest) zero m none call =
+    let same : called us ≡ call.0 = cc call.1 in
+    let found : Contains (called us) m = subst (λ list. Contains list m) (sym same) call.2
+    in call_met bodies us found.0 m (earlier_none (first_without bodies us) (first_among bodies rest) none).0 found.1 found.2
+all_met bodies (us ∷ rest) (suc n) m none call = all_met bodies rest n m (earlier_none (first_without bodies us) (first_among bodies rest) none).1 call
 
 -- each function that is called has a body where no call is of one without
 pub bodies_met : (fs : List TypedFunction) → missing_body fs ≡ None → HasBodies fs
-bodies_met _ none _ _ (Calling fs n m f at before behind there called) =
-    all_met (length fs) (map uses_of fs) n m at before behind none (list_at fs n f there ∙ ap Some called)
+bodies_met fs none n m call =
+    all_met (length fs) (map uses_of fs) n m none (subst (λ lists. CallsAmong lists n m) (sym (calls_listed fs)) call)

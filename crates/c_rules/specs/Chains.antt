@@ -2,7 +2,8 @@
 use Rattle.std.specs.Prelude.{◌≡◌, ⊤, ℕ, List, ◌∷◌, map, slice_get, option_map, Option, Some}
 use Rattle.c_rules.specs.declared.fault.TypeFault.{TypeFault}
 use Rattle.c_rules.specs.declared.fault.TypeFault.TheVariants.{Recursion, NoMemory}
-use Rattle.c_rules.specs.Programs.{Calls}
+use Rattle.c_tree.specs.Rounds.{CallsAmong}
+use Rattle.c_rules.specs.Programs.{calls_of}
 use Rattle.c_rules.specs.Rounds.{IsFirstRound}
 use Rattle.c_rules.specs.Units.{TypedFunction}
 
@@ -14,7 +15,7 @@ name_of fs n = option_map (λ f. f.name) (slice_get fs n)
 pub record IsChain (fs : List TypedFunction) (chain : List (List ℕ)) : Type 0 where
   pub number : ℕ
   pub over : List ℕ
-  pub is_first : IsFirstRound (Calls fs) number over
+  pub is_first : IsFirstRound (CallsAmong (calls_of fs)) number over
   pub names : map Some chain ≡ map (name_of fs) (number ∷ over)
 
 -- a function reaches itself, or memory is wanting

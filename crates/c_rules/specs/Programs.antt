@@ -1,5 +1,5 @@
 -- The typed program of a source (docs/LANGUAGE.md, "Types").
-use Rattle.std.specs.Prelude.{◌≡◌, ◌<◌, ℕ, zero, suc, ◌==◌, ◌&&◌, ◌||◌, not, Bool, true, false, if◌then◌else◌, List, [], ◌∷◌, ◌++◌, map, take, length, codes, slice_get, unwrap_or, Option, Some, None}
+use Rattle.std.specs.Prelude.{◌<◌, ℕ, zero, suc, ◌==◌, ◌&&◌, ◌||◌, not, Bool, true, false, if◌then◌else◌, List, [], ◌∷◌, map, take, length, codes, slice_get, unwrap_or, Option, Some, None}
 use Rattle.std.specs.List.{range_with_len}
 use Rattle.std.specs.Str.{bytes_eq}
 use Rattle.c_tree.specs.declared.program.ScalarType.{ScalarType}
@@ -11,9 +11,9 @@ use Rattle.c_tree.specs.declared.uses.Use.TheVariants.{Address, Call, Cases}
 use Rattle.c_rules.specs.declared.meaning.ObjectType.{ObjectType}
 use Rattle.c_rules.specs.declared.meaning.ObjectType.TheVariants.{Single, Array}
 use Rattle.c_rules.specs.Kinds.{int, same_kind}
-use Rattle.c_rules.specs.Rounds.{HasNoRound}
+use Rattle.c_tree.specs.Rounds.{CallsAmong, HasNoRound}
 use Rattle.c_rules.specs.Statements.{LocalTree}
-use Rattle.c_tree.specs.Uses.{statement_uses}
+use Rattle.c_tree.specs.Uses.{called, statement_uses}
 use Rattle.c_rules.specs.Renumbering as renumbering
 use Rattle.c_rules.specs.Units.{StaticTree, TypedFunction, File}
 
@@ -127,15 +127,14 @@ abbrev pub has_main : List TypedFunction → Bool
 has_main [] = false
 has_main (f ∷ fs) = is_main f || has_main fs
 
--- a function calls another
-pub data Calls : List TypedFunction → ℕ → ℕ → Type 0 where
-  Calling : (fs : List TypedFunction) (n m : ℕ) (f : TypedFunction) (at : ℕ) (before behind : List Use) → slice_get fs n ≡ Some f
-      → statement_uses f.body ≡ before ++ Call m at ∷ behind → Calls fs n m
+-- the functions that each calls
+abbrev pub calls_of : List TypedFunction → List (List ℕ)
+calls_of fs = map (λ f. called (statement_uses f.body)) fs
 
 -- each function that is called has a body
 abbrev pub HasBodies : List TypedFunction → Type 0
-HasBodies fs = (n m : ℕ) → Calls fs n m → m < length fs
+HasBodies fs = (n m : ℕ) → CallsAmong (calls_of fs) n m → m < length fs
 
 -- no function reaches itself by calls
 abbrev pub HasNoCycle : List TypedFunction → Type 0
-HasNoCycle fs = HasNoRound (Calls fs)
+HasNoCycle fs = HasNoRound (CallsAmong (calls_of fs))

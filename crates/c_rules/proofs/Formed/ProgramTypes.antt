@@ -1,5 +1,5 @@
 -- The typed program of a file of which no node breaks a rule, and which is whole, is well-formed.
-use Rattle.std.proofs.Common.{◌≡◌, ◌≤◌, ◌∷◌, [], ◌++◌, ◌+◌, ℕ, suc, zero, Bool, true, false, ◌||◌, ◌&&◌, if◌then◌else◌, nat_lt, List, map, take, length, slice_get, get_or, Option, Some, None, ap, ◌∙◌, sym, refl, subst, true≢false, arith}
+use Rattle.std.proofs.Common.{◌≡◌, ◌≤◌, ◌∷◌, [], ◌++◌, ◌+◌, ℕ, suc, Bool, true, false, ◌||◌, ◌&&◌, if◌then◌else◌, nat_lt, List, map, take, length, slice_get, get_or, Option, Some, None, ap, ◌∙◌, sym, refl, subst, true≢false, arith}
 use Rattle.std.specs.Prelude.{All, AllPairs, ◌≢◌, ◌==◌, codes}
 use Rattle.std.specs.List.{Any}
 use Rattle.std.specs.Str.{bytes_eq}
@@ -18,13 +18,13 @@ use Rattle.c_tree.specs.Temporaries.{statement_temporaries}
 use Rattle.c_tree.specs.TypedTree.{Kind, FunctionTree}
 use Rattle.c_rules.specs.declared.fault.LimitName.TheVariants as limit
 use Rattle.c_tree.specs.declared.enclosing.Enclosing.TheVariants as around
-use Rattle.c_tree.specs.declared.uses.Use.TheVariants.{Call}
 use Rattle.c_rules.specs.Checked.{AreWhole}
 use Rattle.c_rules.specs.Kinds.{int, same_base, same_kind}
-use Rattle.c_rules.specs.Programs.{frame, function_tree, program_tree, cell_kind, local_object, static_object, is_main, has_main, Calls, Calling}
+use Rattle.c_rules.specs.Programs.{frame, function_tree, program_tree, cell_kind, local_object, static_object, is_main, has_main, calls_of}
 use Rattle.c_rules.specs.Statements.{LocalTree}
 use Rattle.c_rules.specs.Units.{StaticTree, TypedFunction, File}
-use Rattle.c_tree.specs.Uses.{statement_uses}
+use Rattle.c_tree.specs.Rounds.{CallsAmong, HasNoRound}
+use Rattle.c_tree.specs.Uses.{called, statement_uses}
 use Rattle.c_tree.specs.Kinds.{IsType}
 use Rattle.c_tree.specs.WellFormed.{Shape, IsInitial, StartsAt, opened}
 use Rattle.c_tree.specs.WellFormedProgram as whole
@@ -35,9 +35,8 @@ use Rattle.c_rules.proofs.Formed.FileContext.{names_in, object_in, static_shape,
 use Rattle.c_rules.proofs.Formed.FrameTypes.{references_length, references_differ, scalar_count, all_scalars, all_objects}
 use Rattle.c_rules.proofs.Formed.FunctionTypes.{static_kept, renumbers, body_carried, all_parameters, all_addresses}
 use Rattle.c_rules.proofs.Formed.RenumberedTypes.{kept_statement}
-use Rattle.c_rules.proofs.Formed.RenumberedUses.{statement_kept, counts_kept, call_kept, IsCall}
+use Rattle.c_rules.proofs.Formed.RenumberedUses.{statement_kept, counts_kept, same_calls}
 use Rattle.c_rules.proofs.Formed.RenumberedTemporaries.{statement_needs}
-use Rattle.c_rules.proofs.RoundLemmas.{round_along}
 use Rattle.c_rules.proofs.MissingBodies.{bodies_met}
 
 -- objects start with the same where the statics are the same
@@ -132,25 +131,11 @@ main_among [] has = absurd (true≢false (sym has))
 main_among (f ∷ fs) has = main_here f fs (is_main f) refl has (main_among fs)
 
 -- calls stay
-record IsMade (fs : List TypedFunction) (n : ℕ) (g : FunctionTree) : Type 0 where
-  own : TypedFunction
-  there : slice_get fs n ≡ Some own
-  is : g ≡ function_tree own
-
-made_at : (fs : List TypedFunction) (n : ℕ) (g : FunctionTree) → slice_get (map function_tree fs) n ≡ Some g → IsMade fs n g
-made_at [] n g there = absurd (cc there)
-made_at (f ∷ fs) zero g there = let same : function_tree f ≡ g = cc there in record { own = f; there = refl; is = sym same }
-made_at (f ∷ fs) (suc n) g there = let rest = made_at fs n g there in record { own = rest.own; there = rest.there; is = rest.is }
-
-called_by : (fs : List TypedFunction) (n m at : ℕ) (f : TypedFunction) → slice_get fs n ≡ Some f → IsCall (frame f) (statement_uses f.body) m at → Calls fs n m
-called_by fs n m at f there call = Calling fs n m f at call.before call.behind there call.is
-
-calls_kept : (fs : List TypedFunction) (n m : ℕ) → whole.Calls (map function_tree fs) n m → Calls fs n m
-calls_kept fs n m (whole.Calling _ _ _ g at before behind there called) =
-    let made = made_at fs n g there
-    in let same : statement_uses (function_tree made.own).body ≡ before ++ Call m at ∷ behind = ap (λ h. statement_uses h.body) (sym made.is) ∙ called
-    in called_by fs n m at made.own made.there
-    (call_kept (frame made.own) (statement_uses made.own.body) before behind m at (sym (statement_kept (frame made.own) made.own.body) ∙ same))
+calls_kept : (fs : List TypedFunction) → whole.calls_of (map function_tree fs) ≡ calls_of fs
+calls_kept [] = refl
+calls_kept (f ∷ fs) =
+    ap (λ ls. called (statement_uses (function_tree f).body) ∷ ls) (calls_kept fs)
+    ∙ ap (λ l. l ∷ calls_of fs) (ap called (statement_kept (frame f) f.body) ∙ same_calls (frame f) (statement_uses f.body))
 
 -- limits
 not_above : (limit n : ℕ) (b : Bool) (o : Option ℕ) → nat_lt limit n ≡ b → (if b then Some n else o) ≡ None → (n ≤ limit) × (o ≡ None)
@@ -224,9 +209,9 @@ well_formed_program file typed is names few = record {
   differ = subst (AllPairs (λ a b. a ≢ b)) (sym (same_names file.functions)) typed.names_differ;
   main = main_among file.functions is.main;
   bodies = λ n m calls.
-      let below = bodies_met file.functions is.bodies n m (calls_kept file.functions n m calls)
+      let below = bodies_met file.functions is.bodies n m (subst (λ lists. CallsAmong lists n m) (calls_kept file.functions) calls)
       in omega (arith, below, length-map file.functions function_tree);
-  no_cycle = λ n ms round. is.no_cycle n ms (round_along (whole.Calls (map function_tree file.functions)) (Calls file.functions) (calls_kept file.functions) n ms round);
+  no_cycle = subst (λ lists. HasNoRound (CallsAmong lists)) (sym (calls_kept file.functions)) is.no_cycle;
   limits = limits_hold file.functions is;
   objects = few;
 }

@@ -7,7 +7,7 @@ use Rattle.c_tree.specs.TypedTree.{Kind, Expr, Node, Lvalue, Named, At, Form, Ex
 use Rattle.c_tree.specs.declared.uses.Use.{Use}
 use Rattle.c_tree.specs.declared.uses.Use.TheVariants.{Address, Call, Cases}
 use Rattle.c_rules.specs.Renumbering as by
-use Rattle.c_tree.specs.Uses.{uses, form_uses, target_uses, list_uses, optional_uses, statement_uses, statements_uses, choices_uses, case_count}
+use Rattle.c_tree.specs.Uses.{called, uses, form_uses, target_uses, list_uses, optional_uses, statement_uses, statements_uses, choices_uses, case_count}
 use Rattle.c_rules.specs.Whole.{case_counts}
 
 -- an address is that of the object by its new number
@@ -101,20 +101,9 @@ module _ (frame : List VarRef) where
   pub counts_kept : (s : Stmt) → case_counts (statement_uses (by.statement frame s)) ≡ case_counts (statement_uses s)
   counts_kept s = ap case_counts (statement_kept s) ∙ same_counts (statement_uses s)
 
-  -- a call stands where it stood
-  pub record IsCall (us : List Use) (m at : ℕ) : Type 0 where
-    pub before : List Use
-    pub behind : List Use
-    pub is : us ≡ before ++ Call m at ∷ behind
-
-  call_later : {u : Use} {us : List Use} {m at : ℕ} → IsCall us m at → IsCall (u ∷ us) m at
-  call_later {u = u} call = record { before = u ∷ call.before; behind = call.behind; is = ap (λ l. u ∷ l) call.is }
-
-  pub call_kept : (us before behind : List Use) (m at : ℕ) → uses_by us ≡ before ++ Call m at ∷ behind → IsCall us m at
-  call_kept [] [] behind m at same = absurd (cc same)
-  call_kept [] (b ∷ before) behind m at same = absurd (cc same)
-  call_kept (Address r ∷ us) [] behind m at same = absurd (cc same)
-  call_kept (Cases n ∷ us) [] behind m at same = absurd (cc same)
-  call_kept (Call f place ∷ us) [] behind m at same =
-      let one : Call f place ≡ Call m at = cc same in record { before = []; behind = us; is = ap (λ u. u ∷ us) one }
-  call_kept (u ∷ us) (b ∷ before) behind m at same = let rest : uses_by us ≡ before ++ Call m at ∷ behind = cc same in call_later (call_kept us before behind m at rest)
+  -- what is called stays
+  pub same_calls : (us : List Use) → called (uses_by us) ≡ called us
+  same_calls [] = refl
+  same_calls (Address r ∷ us) = same_calls us
+  same_calls (Cases n ∷ us) = same_calls us
+  same_calls (Call f at ∷ us) = ap (λ ms. f ∷ ms) (same_calls us)

@@ -1,5 +1,5 @@
 use Rattle.std.proofs.Common.{◌<◌, ◌≤◌, ℕ, map, vec_items, slice_index}
-use Rattle.c_frames.specs.Calls.{CallsAmong}
+use Rattle.c_tree.specs.Rounds.{CallsAmong}
 use Rattle.c_frames.proofs.calls.never_rise.Given as goal
 
 abbrev pub invariant-loop-n : goal.invariant-loop-n

@@ -1,5 +1,6 @@
 use Rattle.std.proofs.Common.{subst}
-use Rattle.c_frames.specs.Calls.{called, IsOrdered}
+use Rattle.c_tree.specs.Uses.{called}
+use Rattle.c_frames.specs.Calls.{IsOrdered}
 use Rattle.c_frames.proofs.CalleeLemmas.{lists_further}
 use Rattle.c_frames.proofs.recursion.all_callees.Goals as goal
 

@@ -1,6 +1,7 @@
 use Rattle.std.proofs.Common.{map, take, vec_items}
 use Rattle.std.specs.List.{AllZip}
-use Rattle.c_frames.specs.Calls.{called, IsOrdered}
+use Rattle.c_tree.specs.Uses.{called}
+use Rattle.c_frames.specs.Calls.{IsOrdered}
 use Rattle.c_frames.proofs.recursion.all_callees.Given as goal
 
 abbrev pub invariant-loop-list : goal.invariant-loop-list

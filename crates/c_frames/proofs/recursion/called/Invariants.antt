@@ -1,5 +1,5 @@
 use Rattle.std.proofs.Common.{◌≡◌, ◌++◌, drop}
-use Rattle.c_frames.specs.Calls.{called}
+use Rattle.c_tree.specs.Uses.{called}
 use Rattle.c_frames.proofs.recursion.called.Given as goal
 
 abbrev pub invariant-loop-found : goal.invariant-loop-found

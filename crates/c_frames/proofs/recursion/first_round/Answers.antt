@@ -1,6 +1,8 @@
 use Rattle.std.proofs.Common.{ℕ, ◌+◌, ◌∙◌, List, Vec, Global, map, vec_items, arith, sym, subst}
 use Rattle.std.proofs.lemmas.List.{length-map}
-use Rattle.c_frames.specs.Calls.{called, CallsAmong, AreOrdered}
+use Rattle.c_tree.specs.Uses.{called}
+use Rattle.c_tree.specs.Rounds.{CallsAmong}
+use Rattle.c_frames.specs.Calls.{AreOrdered}
 use Rattle.c_rules.specs.Rounds.{HasNoRound, NoneBelow}
 use Rattle.c_frames.proofs.CalleeLemmas.{ordered_by, same_length, calls_from, calls_to, no_calls_past}
 use Rattle.c_rules.proofs.RoundLemmas.{round_along, first_chain_along, no_rounds}

@@ -1,5 +1,5 @@
 use Rattle.std.proofs.Common.{◌≡◌, length, map, vec_items}
-use Rattle.c_frames.specs.Calls.{CallsAmong}
+use Rattle.c_tree.specs.Rounds.{CallsAmong}
 use Rattle.c_rules.specs.Rounds.{NoneBelow}
 use Rattle.c_frames.proofs.recursion.first_round.Given as goal
 
