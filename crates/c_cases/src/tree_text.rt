@@ -1,12 +1,13 @@
-//! The tree of a source as one line, for tests: each node in parentheses, its form first and then its parts.
+//! The tree of a source as one line: each node in parentheses, its form first and then its parts.
 //!
 //! Nodes are written from a list of those that are yet to be written, so that no tree is too high for it.
+use crate::operators::{assignment_text, binary_text};
 use c_syntax::{
-    BinaryOp, Brackets, Decl, Expr, ExprKind, External, FunctionDef, Init, Item, ItemKind, Param,
-    Params, PrefixOp, SpecWord, Specs, Stmt, StmtKind, SwitchPart,
+    Brackets, Decl, Expr, ExprKind, External, FunctionDef, Init, Item, ItemKind, Param, Params,
+    PrefixOp, SpecWord, Specs, Stmt, StmtKind, SwitchPart,
 };
 use std::alloc::Global;
-use std::test::Fail;
+use word_base::NoMemory;
 
 // What is yet to be written.
 #[derive(Clone, Copy, Drop)]
@@ -49,7 +50,7 @@ pub(crate) fn tree_text(
     alloc: Global,
     externals: &[External],
     base: Option<u32>,
-) -> Result<String, Fail> {
+) -> Result<String, NoMemory> {
     let mut writer = Writer {
         line: String::from_str(alloc, "(unit")?,
         todo: Vec::new(alloc),
@@ -70,7 +71,7 @@ pub(crate) fn tree_text(
 }
 
 impl<'a> Writer<'a> {
-    fn write(&mut self, piece: Piece<'a>) -> Result<(), Fail> {
+    fn write(&mut self, piece: Piece<'a>) -> Result<(), NoMemory> {
         match piece {
             Piece::Close => self.line.push_str(")")?,
             Piece::CloseBracket => self.line.push_str("]")?,
@@ -102,7 +103,7 @@ impl<'a> Writer<'a> {
         Ok(())
     }
 
-    fn place(&mut self, at: u32) -> Result<(), Fail> {
+    fn place(&mut self, at: u32) -> Result<(), NoMemory> {
         if let Some(base) = self.base {
             write!(self.line, "@{}", at.saturating_sub(base))?;
         }
@@ -110,33 +111,33 @@ impl<'a> Writer<'a> {
     }
 
     // Opens a node.
-    fn open(&mut self, form: &str, at: u32) -> Result<(), Fail> {
+    fn open(&mut self, form: &str, at: u32) -> Result<(), NoMemory> {
         write!(self.line, " ({form}")?;
         self.place(at)
     }
 
     // A node without parts.
-    fn leaf(&mut self, form: &str, at: u32) -> Result<(), Fail> {
+    fn leaf(&mut self, form: &str, at: u32) -> Result<(), NoMemory> {
         write!(self.line, " {form}")?;
         self.place(at)
     }
 
     // Opens the node of an expression, which a blank or a bracket stands before.
-    fn form(&mut self, form: &str, at: u32) -> Result<(), Fail> {
+    fn form(&mut self, form: &str, at: u32) -> Result<(), NoMemory> {
         write!(self.line, "({form}")?;
         self.place(at)?;
         self.todo.push(Piece::Close)?;
         Ok(())
     }
 
-    fn stars(&mut self, stars: u32) -> Result<(), Fail> {
+    fn stars(&mut self, stars: u32) -> Result<(), NoMemory> {
         for _ in 0..stars {
             self.line.push_str("*")?;
         }
         Ok(())
     }
 
-    fn named(&mut self, stars: u32, name: &str) -> Result<(), Fail> {
+    fn named(&mut self, stars: u32, name: &str) -> Result<(), NoMemory> {
         self.line.push_str(" ")?;
         self.stars(stars)?;
         self.line.push_str(name)?;
@@ -144,7 +145,7 @@ impl<'a> Writer<'a> {
     }
 
     // A type, or words of a type without stars.
-    fn specs(&mut self, specs: &Specs, stars: u32) -> Result<(), Fail> {
+    fn specs(&mut self, specs: &Specs, stars: u32) -> Result<(), NoMemory> {
         self.line.push_str(" <")?;
         let mut is_first = true;
         for word in specs.words.as_slice() {
@@ -166,20 +167,20 @@ impl<'a> Writer<'a> {
         at: u32,
         left: &'a Expr,
         right: &'a Expr,
-    ) -> Result<(), Fail> {
+    ) -> Result<(), NoMemory> {
         self.form(form, at)?;
         self.todo.push(Piece::Expr(right))?;
         self.todo.push(Piece::Expr(left))?;
         Ok(())
     }
 
-    fn operand(&mut self, form: &str, at: u32, operand: &'a Expr) -> Result<(), Fail> {
+    fn operand(&mut self, form: &str, at: u32, operand: &'a Expr) -> Result<(), NoMemory> {
         self.form(form, at)?;
         self.todo.push(Piece::Expr(operand))?;
         Ok(())
     }
 
-    fn expr(&mut self, expr: &'a Expr) -> Result<(), Fail> {
+    fn expr(&mut self, expr: &'a Expr) -> Result<(), NoMemory> {
         let at = expr.at;
         match &expr.kind {
             ExprKind::Name(name) => {
@@ -248,7 +249,7 @@ impl<'a> Writer<'a> {
         }
     }
 
-    fn stmt(&mut self, stmt: &'a Stmt) -> Result<(), Fail> {
+    fn stmt(&mut self, stmt: &'a Stmt) -> Result<(), NoMemory> {
         let at = stmt.at;
         match &stmt.kind {
             StmtKind::Empty => return self.leaf(";", at),
@@ -325,7 +326,7 @@ impl<'a> Writer<'a> {
         Ok(())
     }
 
-    fn body(&mut self, declarations: &'a [Decl], statements: &'a [Stmt]) -> Result<(), Fail> {
+    fn body(&mut self, declarations: &'a [Decl], statements: &'a [Stmt]) -> Result<(), NoMemory> {
         for stmt in statements.iter().rev() {
             self.todo.push(Piece::Stmt(stmt))?;
         }
@@ -335,7 +336,7 @@ impl<'a> Writer<'a> {
         Ok(())
     }
 
-    fn choice(&mut self, choice: &'a SwitchPart) -> Result<(), Fail> {
+    fn choice(&mut self, choice: &'a SwitchPart) -> Result<(), NoMemory> {
         match choice {
             SwitchPart::Case(value) => {
                 self.line.push_str(" (case")?;
@@ -348,7 +349,7 @@ impl<'a> Writer<'a> {
         Ok(())
     }
 
-    fn brackets(&mut self, brackets: &'a Brackets) -> Result<(), Fail> {
+    fn brackets(&mut self, brackets: &'a Brackets) -> Result<(), NoMemory> {
         self.line.push_str(" [")?;
         self.todo.push(Piece::CloseBracket)?;
         if let Brackets::Sized(length) = brackets {
@@ -357,7 +358,7 @@ impl<'a> Writer<'a> {
         Ok(())
     }
 
-    fn params(&mut self, params: &'a Params) -> Result<(), Fail> {
+    fn params(&mut self, params: &'a Params) -> Result<(), NoMemory> {
         self.open("params", params.at)?;
         self.todo.push(Piece::Close)?;
         for param in params.list.as_slice().iter().rev() {
@@ -366,7 +367,7 @@ impl<'a> Writer<'a> {
         Ok(())
     }
 
-    fn param(&mut self, param: &'a Param) -> Result<(), Fail> {
+    fn param(&mut self, param: &'a Param) -> Result<(), NoMemory> {
         self.open("param", param.at)?;
         self.specs(&param.specs, 0)?;
         match &param.name {
@@ -381,7 +382,7 @@ impl<'a> Writer<'a> {
         Ok(())
     }
 
-    fn item(&mut self, item: &'a Item) -> Result<(), Fail> {
+    fn item(&mut self, item: &'a Item) -> Result<(), NoMemory> {
         self.open("item", item.at)?;
         self.named(item.stars, item.name.as_str())?;
         self.todo.push(Piece::Close)?;
@@ -396,7 +397,7 @@ impl<'a> Writer<'a> {
         Ok(())
     }
 
-    fn init(&mut self, init: &'a Init) -> Result<(), Fail> {
+    fn init(&mut self, init: &'a Init) -> Result<(), NoMemory> {
         self.line.push_str(" =")?;
         match init {
             Init::One(value) => self.todo.push(Piece::Expr(value))?,
@@ -411,7 +412,7 @@ impl<'a> Writer<'a> {
         Ok(())
     }
 
-    fn decl(&mut self, decl: &'a Decl) -> Result<(), Fail> {
+    fn decl(&mut self, decl: &'a Decl) -> Result<(), NoMemory> {
         self.open("decl", decl.at)?;
         self.specs(&decl.specs, 0)?;
         self.todo.push(Piece::Close)?;
@@ -421,7 +422,7 @@ impl<'a> Writer<'a> {
         Ok(())
     }
 
-    fn function(&mut self, function: &'a FunctionDef) -> Result<(), Fail> {
+    fn function(&mut self, function: &'a FunctionDef) -> Result<(), NoMemory> {
         self.open("function", function.at)?;
         self.todo.push(Piece::Close)?;
         self.todo.push(Piece::Close)?;
@@ -458,42 +459,5 @@ fn prefix_text(op: PrefixOp) -> &'static str {
         PrefixOp::Minus => "-_",
         PrefixOp::Complement => "~_",
         PrefixOp::Not => "!_",
-    }
-}
-
-pub(crate) fn binary_text(op: BinaryOp) -> &'static str {
-    match op {
-        BinaryOp::Add => "+",
-        BinaryOp::Sub => "-",
-        BinaryOp::Mul => "*",
-        BinaryOp::Div => "/",
-        BinaryOp::Rem => "%",
-        BinaryOp::And => "&",
-        BinaryOp::Or => "|",
-        BinaryOp::Xor => "^",
-        BinaryOp::Shl => "<<",
-        BinaryOp::Shr => ">>",
-        BinaryOp::Eq => "==",
-        BinaryOp::Ne => "!=",
-        BinaryOp::Lt => "<",
-        BinaryOp::Gt => ">",
-        BinaryOp::Le => "<=",
-        BinaryOp::Ge => ">=",
-    }
-}
-
-pub(crate) fn assignment_text(op: BinaryOp) -> &'static str {
-    match op {
-        BinaryOp::Add => "+=",
-        BinaryOp::Sub => "-=",
-        BinaryOp::Mul => "*=",
-        BinaryOp::Div => "/=",
-        BinaryOp::Rem => "%=",
-        BinaryOp::And => "&=",
-        BinaryOp::Or => "|=",
-        BinaryOp::Xor => "^=",
-        BinaryOp::Shl => "<<=",
-        BinaryOp::Shr => ">>=",
-        _ => "no assignment",
     }
 }
