@@ -2,9 +2,9 @@
 ghost use Rattle.std.specs.Prelude.{◌<◌, ◌^◌, length};
 
 use crate::refusal::Refusal;
-use crate::token_text::tokens_text;
-use crate::tree_text::tree_text;
-use crate::typed_text::program_text;
+use crate::token_text::push_tokens;
+use crate::tree_text::push_tree;
+use crate::typed_text::push_program;
 use c_lexer::lex;
 use c_parser::parse;
 use c_syntax::Unit;
@@ -53,42 +53,84 @@ impl Kind {
     }
 }
 
-/// The answer to a question, with places from `base` on.
-pub(crate) fn answer(
+/// Puts the answer to a question behind, with places from `base` on.
+pub(crate) fn push_answer(
     alloc: Global,
+    out: &mut String,
     kind: Kind,
     source: &[u8],
     base: usize,
-) -> Result<String, NoMemory> {
-    let Ok(base) = u32::try_from(base) else {
-        return Ok(String::from_str(alloc, "!length")?);
-    };
-    if u32::try_from(source.len()).is_err() {
-        return Ok(String::from_str(alloc, "!length")?);
+) -> Result<(), NoMemory> {
+    if source.len() >= 4_294_967_296 || base >= 4_294_967_296 {
+        out.push_str("!length")?;
+        return Ok(());
     }
-    match shown(alloc, kind, source, base) {
-        Ok(text) => Ok(text),
-        Err(refusal) => refusal.text(alloc, base),
+    let base = base as u32;
+    match push_shown(alloc, out, kind, source, base) {
+        Ok(()) => Ok(()),
+        Err(refusal) => refusal.push_to(out, base),
     }
 }
 
-fn shown(alloc: Global, kind: Kind, source: &[u8], base: u32) -> Result<String, Refusal>
+fn push_shown(
+    alloc: Global,
+    out: &mut String,
+    kind: Kind,
+    source: &[u8],
+    base: u32,
+) -> Result<(), Refusal>
     requires short { length source.now < 2 ^ 32 }
 {
     match kind {
-        Kind::Tokens => Ok(tokens_text(alloc, &lex(alloc, source)?)?),
-        Kind::Count => {
-            let tokens = lex(alloc, source)?;
-            Ok(format!(in alloc; "{} tokens", tokens.len())?)
-        }
-        Kind::Reads => {
-            tree(alloc, source)?;
-            Ok(String::from_str(alloc, "a tree")?)
-        }
-        Kind::Tree => Ok(tree_text(alloc, tree(alloc, source)?.externals(), None)?),
-        Kind::Places => Ok(tree_text(alloc, tree(alloc, source)?.externals(), Some(base))?),
-        Kind::Program => Ok(program_text(alloc, &program(alloc, source)?, base)?),
+        Kind::Tokens => push_tokens_of(alloc, out, source),
+        Kind::Count => push_count(alloc, out, source),
+        Kind::Reads => push_whether_read(alloc, out, source),
+        Kind::Tree => push_tree_of(alloc, out, source, None),
+        Kind::Places => push_tree_of(alloc, out, source, Some(base)),
+        Kind::Program => push_program_of(alloc, out, source, base),
     }
+}
+
+fn push_tokens_of(alloc: Global, out: &mut String, source: &[u8]) -> Result<(), Refusal>
+    requires short { length source.now < 2 ^ 32 }
+{
+    let tokens = lex(alloc, source)?;
+    Ok(push_tokens(out, &tokens)?)
+}
+
+fn push_count(alloc: Global, out: &mut String, source: &[u8]) -> Result<(), Refusal>
+    requires short { length source.now < 2 ^ 32 }
+{
+    let count = lex(alloc, source)?.len();
+    write!(out, "{count} tokens")?;
+    Ok(())
+}
+
+fn push_whether_read(alloc: Global, out: &mut String, source: &[u8]) -> Result<(), Refusal>
+    requires short { length source.now < 2 ^ 32 }
+{
+    tree(alloc, source)?;
+    out.push_str("a tree")?;
+    Ok(())
+}
+
+fn push_tree_of(
+    alloc: Global,
+    out: &mut String,
+    source: &[u8],
+    base: Option<u32>,
+) -> Result<(), Refusal>
+    requires short { length source.now < 2 ^ 32 }
+{
+    let unit = tree(alloc, source)?;
+    Ok(push_tree(alloc, out, unit.externals(), base)?)
+}
+
+fn push_program_of(alloc: Global, out: &mut String, source: &[u8], base: u32) -> Result<(), Refusal>
+    requires short { length source.now < 2 ^ 32 }
+{
+    let program = program(alloc, source)?;
+    Ok(push_program(alloc, out, &program, base)?)
 }
 
 fn tree(alloc: Global, source: &[u8]) -> Result<Unit, Refusal>

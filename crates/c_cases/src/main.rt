@@ -57,18 +57,14 @@ mod token_text;
 mod tree_text;
 mod typed_text;
 
-use crate::case::Frame;
+use crate::case::answers;
 use std::io;
 use word_base::NoMemory;
 
 fn main(rt: HostRuntime) -> io::Result<()> {
-    let mut frame = Frame::none(rt.alloc());
-    for line in rt.lines(rt.alloc()) {
-        let line = line?;
-        match frame.lines_for(rt.alloc(), line.as_str()) {
-            Ok(text) => print!(rt; "{text}")?,
-            Err(NoMemory) => return Err(io::Error::from(io::ErrorKind::OutOfMemory)),
-        }
+    let cases = io::read_to_string(rt.alloc(), rt.reader())?;
+    match answers(rt.alloc(), cases.as_str()) {
+        Ok(lines) => print!(rt; "{lines}"),
+        Err(NoMemory) => Err(io::Error::from(io::ErrorKind::OutOfMemory)),
     }
-    Ok(())
 }

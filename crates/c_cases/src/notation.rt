@@ -1,20 +1,18 @@
 //! The notation of sources: bytes that don't stand in a line, and pieces that are repeated.
-use std::alloc::Global;
 use word_base::NoMemory;
 
-/// The bytes that a text writes, or none where what stands between two backticks is in no form.
-pub(crate) fn bytes_of(alloc: Global, text: &str) -> Result<Option<Vec<u8>>, NoMemory> {
-    let mut bytes = Vec::new(alloc);
+/// Puts the bytes that a text writes behind. It says whether what stands between two backticks is in its form.
+pub(crate) fn push_bytes(bytes: &mut Vec<u8>, text: &str) -> Result<bool, NoMemory> {
     let mut is_plain = true;
     for part in text.split('`') {
         if is_plain {
             bytes.extend_from_slice(part.as_bytes())?;
-        } else if !push_marked(&mut bytes, part)? {
-            return Ok(None);
+        } else if !push_marked(bytes, part)? {
+            return Ok(false);
         }
         is_plain = !is_plain;
     }
-    Ok(Some(bytes))
+    Ok(true)
 }
 
 // Puts the bytes behind that stand for what is between two backticks. It says whether that is in its form.

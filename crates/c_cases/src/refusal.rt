@@ -2,7 +2,7 @@
 use c_lexer::LexFault;
 use c_parser::ParseFault;
 use c_types::TypeFault;
-use std::alloc::{AllocError, Global};
+use std::alloc::AllocError;
 use word_base::NoMemory;
 
 /// Why a source has no answer but a refusal.
@@ -45,33 +45,36 @@ impl From<AllocError> for Refusal {
 }
 
 impl Refusal {
-    /// The refusal as an answer, with places from `base` on.
-    pub(crate) fn text(&self, alloc: Global, base: u32) -> Result<String, NoMemory> {
+    /// Puts the refusal behind, with places from `base` on.
+    pub(crate) fn push_to(&self, out: &mut String, base: u32) -> Result<(), NoMemory> {
         match self {
-            Refusal::Tokens(fault) => fault_of_tokens(alloc, *fault, base),
-            Refusal::Syntax(ParseFault::Syntax { at }) => placed(alloc, "syntax", *at, base),
-            Refusal::Types(fault) => Ok(format!(in alloc; "!{fault:?}")?),
-            Refusal::Syntax(ParseFault::NoMemory) | Refusal::NoMemory => memory(alloc),
+            Refusal::Tokens(fault) => push_fault_of_tokens(out, *fault, base),
+            Refusal::Syntax(ParseFault::Syntax { at }) => push_placed(out, "syntax", *at, base),
+            Refusal::Types(fault) => Ok(write!(out, "!{fault:?}")?),
+            Refusal::Syntax(ParseFault::NoMemory) | Refusal::NoMemory => push_memory(out),
         }
     }
 }
 
-fn fault_of_tokens(alloc: Global, fault: LexFault, base: u32) -> Result<String, NoMemory> {
+fn push_fault_of_tokens(out: &mut String, fault: LexFault, base: u32) -> Result<(), NoMemory> {
     match fault {
-        LexFault::BadByte { at } => placed(alloc, "bad byte", at, base),
-        LexFault::OpenComment { at } => placed(alloc, "open comment", at, base),
-        LexFault::BadConstant { at } => placed(alloc, "bad constant", at, base),
-        LexFault::LongName { at } => placed(alloc, "long name", at, base),
-        LexFault::TooManyTokens { count } => Ok(format!(in alloc; "!too many tokens {count}")?),
-        LexFault::NoMemory => memory(alloc),
+        LexFault::BadByte { at } => push_placed(out, "bad byte", at, base),
+        LexFault::OpenComment { at } => push_placed(out, "open comment", at, base),
+        LexFault::BadConstant { at } => push_placed(out, "bad constant", at, base),
+        LexFault::LongName { at } => push_placed(out, "long name", at, base),
+        LexFault::TooManyTokens { count } => Ok(write!(out, "!too many tokens {count}")?),
+        LexFault::NoMemory => push_memory(out),
     }
 }
 
-// What is wrong, and where.
-fn placed(alloc: Global, what: &str, at: u32, base: u32) -> Result<String, NoMemory> {
-    Ok(format!(in alloc; "!{what}@{}", at.saturating_sub(base))?)
+// Puts what is wrong behind, and where.
+fn push_placed(out: &mut String, what: &str, at: u32, base: u32) -> Result<(), NoMemory> {
+    let place = at.saturating_sub(base);
+    write!(out, "!{what}@{place}")?;
+    Ok(())
 }
 
-fn memory(alloc: Global) -> Result<String, NoMemory> {
-    Ok(String::from_str(alloc, "!memory")?)
+fn push_memory(out: &mut String) -> Result<(), NoMemory> {
+    out.push_str("!memory")?;
+    Ok(())
 }

@@ -1,21 +1,19 @@
 //! Tokens as one line.
 use c_syntax::{Token, TokenKind};
-use std::alloc::Global;
 use word_base::NoMemory;
 
-/// The tokens of a source, or `none` where there is none.
-pub(crate) fn tokens_text(alloc: Global, tokens: &[Token]) -> Result<String, NoMemory> {
-    let mut line = String::new(alloc);
+/// Puts the tokens of a source behind, or `none` where there is none.
+pub(crate) fn push_tokens(line: &mut String, tokens: &[Token]) -> Result<(), NoMemory> {
+    if tokens.is_empty() {
+        line.push_str("none")?;
+    }
     let mut between = "";
     for token in tokens {
         line.push_str(between)?;
-        push_token(&mut line, token)?;
+        push_token(line, token)?;
         between = ", ";
     }
-    if line.is_empty() {
-        line.push_str("none")?;
-    }
-    Ok(line)
+    Ok(())
 }
 
 // Puts a token behind: its kind and value, its place and its length.

@@ -9,6 +9,8 @@ use c_syntax::{
 use std::alloc::Global;
 use word_base::NoMemory;
 
+const MOST_PIECES: u32 = 10_000_000;
+
 // What is yet to be written.
 #[derive(Clone, Copy, Drop)]
 enum Piece<'a> {
@@ -37,40 +39,47 @@ enum Piece<'a> {
 
 // A writer of trees.
 #[derive(Drop)]
-struct Writer<'a> {
-    line: String,
+struct Writer<'a, 'b> {
+    line: &'b mut String,
     // The last of these is written next.
     todo: Vec<Piece<'a>>,
     // The place from which places are counted, where they are written.
     base: Option<u32>,
 }
 
-/// The line of a source's tree, with places from `base` on where that is given.
-pub(crate) fn tree_text(
+/// Puts a source's tree behind, with places from `base` on where that is given.
+pub(crate) fn push_tree(
     alloc: Global,
+    line: &mut String,
     externals: &[External],
     base: Option<u32>,
-) -> Result<String, NoMemory> {
+) -> Result<(), NoMemory> {
     let mut writer = Writer {
-        line: String::from_str(alloc, "(unit")?,
+        line,
         todo: Vec::new(alloc),
         base,
     };
-    writer.todo.push(Piece::Close)?;
-    for external in externals.iter().rev() {
-        writer.todo.push(Piece::External(external))?;
-    }
-    // There are fewer pieces than this in each tree that is tested.
-    for _ in 0..1_000_000u32 {
-        match writer.todo.pop() {
-            Some(piece) => writer.write(piece)?,
-            None => return Ok(writer.line),
-        }
-    }
-    Ok(String::from_str(alloc, "too many pieces")?)
+    writer.unit(externals)
 }
 
-impl<'a> Writer<'a> {
+impl<'a, 'b> Writer<'a, 'b> {
+    fn unit(&mut self, externals: &'a [External]) -> Result<(), NoMemory> {
+        self.line.push_str("(unit")?;
+        self.todo.push(Piece::Close)?;
+        for external in externals.iter().rev() {
+            self.todo.push(Piece::External(external))?;
+        }
+        // A tree of as many tokens as a source may have has fewer pieces.
+        for _ in 0..MOST_PIECES {
+            match self.todo.pop() {
+                Some(piece) => self.write(piece)?,
+                None => return Ok(()),
+            }
+        }
+        self.line.push_str(" too many pieces")?;
+        Ok(())
+    }
+
     fn write(&mut self, piece: Piece<'a>) -> Result<(), NoMemory> {
         match piece {
             Piece::Close => self.line.push_str(")")?,

@@ -10,6 +10,8 @@ use c_tree::{
 use std::alloc::Global;
 use word_base::NoMemory;
 
+const MOST_PIECES: u32 = 10_000_000;
+
 // What is yet to be written, each behind a blank.
 #[derive(Clone, Copy, Drop)]
 enum Piece<'a> {
@@ -24,36 +26,42 @@ enum Piece<'a> {
 
 // A writer of programs.
 #[derive(Drop)]
-struct Writer<'a> {
-    line: String,
+struct Writer<'a, 'b> {
+    line: &'b mut String,
     // The last of these is written next.
     todo: Vec<Piece<'a>>,
     // The place from which places are counted.
     base: u32,
 }
 
-/// The line of a program, with places from `base` on.
-pub(crate) fn program_text(
+/// Puts a program behind, with places from `base` on.
+pub(crate) fn push_program(
     alloc: Global,
+    line: &mut String,
     program: &Program,
     base: u32,
-) -> Result<String, NoMemory> {
+) -> Result<(), NoMemory> {
     let mut writer = Writer {
-        line: String::from_str(alloc, "(program")?,
+        line,
         todo: Vec::new(alloc),
         base,
     };
-    for object in program.statics.as_slice() {
-        writer.object("static", object)?;
-    }
-    for function in program.functions.as_slice() {
-        writer.function(function)?;
-    }
-    writer.line.push_str(")")?;
-    Ok(writer.line)
+    writer.program(program)
 }
 
-impl<'a> Writer<'a> {
+impl<'a, 'b> Writer<'a, 'b> {
+    fn program(&mut self, program: &'a Program) -> Result<(), NoMemory> {
+        self.line.push_str("(program")?;
+        for object in program.statics.as_slice() {
+            self.object("static", object)?;
+        }
+        for function in program.functions.as_slice() {
+            self.function(function)?;
+        }
+        self.line.push_str(")")?;
+        Ok(())
+    }
+
     fn object(&mut self, form: &str, object: &Object) -> Result<(), NoMemory> {
         write!(self.line, " ({form} {} ", object.name.as_str())?;
         self.scalar_type(object.kind)?;
@@ -104,8 +112,8 @@ impl<'a> Writer<'a> {
     // A function's body, from which all pieces come.
     fn body(&mut self, body: &'a TypedStmt) -> Result<(), NoMemory> {
         self.todo.push(Piece::Stmt(body))?;
-        // There are fewer pieces than this in each tree that is tested.
-        for _ in 0..1_000_000u32 {
+        // A tree of as many tokens as a source may have has fewer pieces.
+        for _ in 0..MOST_PIECES {
             match self.todo.pop() {
                 Some(piece) => self.piece(piece)?,
                 None => return Ok(()),
