@@ -305,7 +305,8 @@ mkdir words
 cd words || exit 1
 : > ../no.file
 asks() {
-    local request=($1)
+    local request
+    read -ra request <<< "$1"
     shift
     case ${request[0]} in
         refused)

@@ -14,3 +14,5 @@ mod images;
 mod machines;
 #[cfg(test)]
 mod system;
+#[cfg(test)]
+mod words;
