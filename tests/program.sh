@@ -1,6 +1,6 @@
 #!/usr/bin/env bash
 # The built program on real files: its examples, its statuses and lines, and how fast it starts.
-# Expected values stand in examples/ and here; they come from docs/.
+# Expected values stand in examples/, here and in the other files of tests/; they come from docs/.
 set -u
 top=$(cd "$(dirname "${BASH_SOURCE[0]}")/.." && pwd)
 room=$(mktemp -d) || exit 1
@@ -19,12 +19,44 @@ wants() {
 }status $status" ] || fail "'$*' gave: $got"
 }
 
+# puts LINES WORD..: a command puts the lines of a file, and ends with the status that the last of them tells.
+puts() {
+    local lines=$1 status
+    shift
+    case $(tail -n 1 "$lines") in
+        'returned '* | 'input '*) status=0 ;;
+        'words refused') status=2 ;;
+        'read fault: '*) status=3 ;;
+        'running '*) status=6 ;;
+        'trap '*) status=7 ;;
+        'file refused: '*) status=9 ;;
+        'undefined '*) status=10 ;;
+        *) status=1 ;;
+    esac
+    "$top/c25cc" "$@" > got
+    set -- $? "$@"
+    [ "$1" -eq "$status" ] && cmp -s got "$lines" || fail "'${*:2}' gave: $1 $(tail -n 3 got | head -c 300), and wanted: $status $(tail -n 3 "$lines" | head -c 300)"
+}
+
+# rows FILE: its lines but for comments.
+rows() { grep -v '^#' "$top/tests/$1"; }
+
+# shows TEXT: the text that printf %b reads, or nothing for the word none.
+shows() { [ "$1" = none ] || printf '%b' "$1"; }
+
+# image WORD..: the text of an image of these words.
+image() {
+    echo 'C25 IMAGE 1'
+    echo "words $#"
+    printf '%s\n' "$*" | fold -w 40 | sed 's/ $//'
+}
+
 "$top/c25cc" > /dev/null
 [ $? -eq 2 ] || { fail 'the program is not there'; exit 1; }
 
-for image in "$top"/examples/*.img; do
-    wants 0 '' build "${image%.img}.c" made.img
-    cmp -s made.img "$image" || fail "${image%.img}.c has another image"
+for built in "$top"/examples/*.img; do
+    wants 0 '' build "${built%.img}.c" made.img
+    cmp -s made.img "$built" || fail "${built%.img}.c has another image"
 done
 
 printf 'int main(void){__out(1,5); return 7;}' > a.c
@@ -45,6 +77,31 @@ cmp -s a.img "$top/examples/first.img" || fail 'a refused build changed its imag
 wants 4 '' build a.c no_folder/a.img
 printf 'int main(void){return 12ab;}' > bad.c
 wants 1 'source refused: bad constant at byte 22' build bad.c b.img
+
+# The sources of builds.txt. Each stands beside a file that is kept; one that is refused leaves no image.
+mkdir builds
+cd builds || exit 1
+echo kept > kept
+builds=0
+while IFS= read -r row; do
+    builds=$((builds + 1))
+    answer=${row%% | *}
+    shows "${row#* | }" > a.c
+    cp a.c source
+    rm -f a.img
+    if [[ $answer == words\ * ]]; then
+        { image ${answer#words }; printf 'func main 0000 0007\nend\n'; } > wanted.img
+        wants 0 '' build a.c a.img
+        cmp -s a.img wanted.img || fail "another image: $row"
+    else
+        wants 1 "source refused: $answer" build a.c a.img
+        [ -e a.img ] && fail "an image: $row"
+    fi
+    { cmp -s a.c source && [ "$(cat kept)" = kept ]; } || fail "another file was changed: $row"
+done < <(rows builds.txt)
+cd ..
+[ "$builds" -ge 56 ] || fail "builds.txt has $builds sources"
+
 # Sources as high as they may be, one higher, and parentheses, which have no limit of their own.
 nested() {
     awk -v n="$1" -v front="$2" -v back="$3" 'BEGIN {
@@ -92,7 +149,7 @@ sources=$(LC_ALL=C awk '
         close("sources/" count ".wants")
     }
     END { print count + 0 }' "$top/tests/types.txt")
-[ "$sources" -ge 460 ] || fail "types.txt has $sources sources"
+[ "$sources" -ge 465 ] || fail "types.txt has $sources sources"
 # answers_types LINE SOURCE: builds a source without a fault, where LINE is empty, or one with this line.
 answers_types() {
     local line=$1 got status
@@ -151,6 +208,16 @@ head -c 1048576 /dev/zero | tr '\0' ' ' > long.c
 wants 1 'source refused: syntax at byte 0' build long.c b.img
 printf ' ' >> long.c
 wants 9 'file refused: long.c too long' build long.c b.img
+[ -e b.img ] && fail 'a refused source left an image'
+# Names of 127 characters and of one more, and 200,000 tokens and one more.
+awk 'BEGIN { for (i = 0; i < 127; i++) printf "m" }' > name.c
+wants 1 'source refused: syntax at byte 0' build name.c b.img
+printf m >> name.c
+wants 1 'source refused: long name at byte 0' build name.c b.img
+head -c 200000 /dev/zero | tr '\0' ';' > tokens.c
+wants 1 'source refused: syntax at byte 0' build tokens.c b.img
+printf ';' >> tokens.c
+wants 1 'source refused: too many tokens 200001' build tokens.c b.img
 wants 0 '' build a.c a.c
 cmp -s a.c "$top/examples/first.img" || fail 'an image over its own source'
 
@@ -158,18 +225,20 @@ cmp -s a.c "$top/examples/first.img" || fail 'an image over its own source'
 if [ -w /dev/full ]; then
     "$top/c25cc" bild > /dev/full
     [ $? -eq 2 ] || fail 'a full output changed the status'
+    "$top/c25cc" build long.c b.img > /dev/full
+    [ $? -eq 9 ] || fail 'a full output changed the status of a long source'
     "$top/c25cc" run "$top/examples/first.img" b.c > /dev/full
     [ $? -eq 9 ] || fail 'a full output changed the status of a refused run'
 fi
 
 # Runs: images of hand-assembled words.
-image() { echo "C25 IMAGE 1"; echo "words $1"; echo "$2"; echo end; }
 : > none
-image 5 'c806 ca07 6005 e105 ce1f' > seven.img
-image 7 'c806 ca07 6000 ca64 cb0f 4700 ce1f' > divide.img
-image 1 ce26 > pop.img
-image 5 'c806 8000 e100 ff80 0001' > echo.img
-image 2 'ff80 0000' > loop.img
+handmade() { image "$@"; echo end; }
+handmade c806 ca07 6005 e105 ce1f > seven.img
+handmade c806 ca07 6000 ca64 cb0f 4700 ce1f > divide.img
+handmade ce26 > pop.img
+handmade c806 8000 e100 ff80 0001 > echo.img
+handmade ff80 0000 > loop.img
 seven='1 0007
 returned 0007'
 wants 0 "$seven" run seven.img none
@@ -186,8 +255,8 @@ wants 0 '1 000a
 1 000b
 1 000c
 input 0 ended' run echo.img ports
-printf '16 0001\n' > p
-wants 9 'file refused: p bad line 1' run seven.img p
+printf '16 0001\n' > bad.ports
+wants 9 'file refused: bad.ports bad line 1' run seven.img bad.ports
 for lines in 1 2 3; do
     head -n "$lines" seven.img > cut.img
     wants 9 "file refused: cut.img bad line $((lines + 1))" run cut.img none
@@ -197,6 +266,7 @@ wants 9 'file refused: many.img too long 65537' run many.img none
 sed 's/end/func f 0003 0002\nend/' seven.img > range.img
 wants 9 'file refused: range.img bad range line 4' run range.img none
 wants 3 'read fault: absent' run absent none
+wants 3 'read fault: absent' run absent nowhere
 wants 3 'read fault: absent' run cut.img absent
 wants 2 'words refused' run seven.img
 wants 2 'words refused' run seven.img none --steps 0
@@ -204,21 +274,98 @@ wants 2 'words refused' run seven.img none --steps 100000001
 wants 2 'words refused' run seven.img none --help
 [ -w /dev/full ] && { "$top/c25cc" run seven.img none > /dev/full; [ $? -eq 4 ] || fail 'an answer to a full output'; }
 
-# Programs by the language alone.
-# puts LINES WORD..: a command puts the lines of a file, and ends with the status that the last of them tells.
-puts() {
-    local lines=$1 status
+# The images of runs.txt with their ports.
+runs=0
+while IFS= read -r row; do
+    runs=$((runs + 1))
+    lines=${row%% | *}
+    row=${row#* | }
+    steps=()
+    if [[ $row == 'steps '* ]]; then
+        steps=(--steps "$(cut -d ' ' -f 2 <<< "$row")")
+        row=${row#* | }
+    fi
+    text=${row%% | *}
+    ports=none
+    [[ $row == *' | '* ]] && ports=${row#* | }
+    if [[ $text =~ ^[0-9a-f]{4}(\ [0-9a-f]{4})*$ ]]; then
+        handmade $text > i
+    else
+        shows "$text" > i
+    fi
+    shows "$ports" > p
+    printf '%s\n' "${lines//, /$'\n'}" > run.wants
+    puts run.wants run i p "${steps[@]}"
+done < <(rows runs.txt)
+[ "$runs" -ge 82 ] || fail "runs.txt has $runs images"
+
+# The words of words.txt, each over the files that its request names: a source that is built, an image or a source that goes on for
+# ever, and no input. Nothing is left but these and what is built.
+mkdir words
+cd words || exit 1
+: > ../no.file
+asks() {
+    local request
+    read -ra request <<< "$1"
     shift
-    case $(tail -n 1 "$lines") in
-        'returned '* | 'input '*) status=0 ;;
-        'running '*) status=6 ;;
-        'undefined '*) status=10 ;;
-        *) status=1 ;;
+    case ${request[0]} in
+        refused)
+            wants 2 'words refused' "$@"
+            ;;
+        build)
+            cp "$top/examples/first.c" "./${request[1]}"
+            wants 0 '' "$@"
+            cmp -s "./${request[2]}" "$top/examples/first.img" || fail "no image under ${request[2]}: $*"
+            rm -f -- "./${request[1]}" "./${request[2]}"
+            ;;
+        run)
+            cp ../loop.img "./${request[1]}"
+            cp ../no.file "./${request[2]}"
+            wants 6 "running after ${request[3]} steps" "$@"
+            rm -f -- "./${request[1]}" "./${request[2]}"
+            ;;
+        means)
+            echo 'int main(void){for(;;); return 0;}' > "./${request[1]}"
+            cp ../no.file "./${request[2]}"
+            wants 6 "running after ${request[3]} turns" "$@"
+            rm -f -- "./${request[1]}" "./${request[2]}"
+            ;;
+        *) fail "another request: ${request[*]}" ;;
     esac
-    "$top/c25cc" "$@" > got
-    set -- $? "$@"
-    [ "$1" -eq "$status" ] && cmp -s got "$lines" || fail "'${*:2}' gave: $1 $(tail -n 3 got | head -c 300), and wanted: $status $(tail -n 3 "$lines" | head -c 300)"
+    [ -z "$(ls -A)" ] || fail "other files are left by '$*': $(ls -A)"
 }
+lists=0
+while IFS= read -r row; do
+    lists=$((lists + 1))
+    line=${row%% | *}
+    words=()
+    [ -n "$line" ] && mapfile -t -d ' ' words < <(printf '%s' "$line")
+    # No file can have an empty name.
+    if [ "${row#* | }" = 'build  b' ]; then
+        wants 3 'read fault: ' "${words[@]}"
+    else
+        asks "${row#* | }" "${words[@]}"
+    fi
+done < <(rows words.txt)
+cd ..
+[ "$lists" -ge 100 ] || fail "words.txt has $lists lists"
+wants 2 'words refused' ''
+
+# Files as long as they may be, and one byte longer.
+head -c 4194304 /dev/zero | tr '\0' '\n' > long.img
+wants 9 'file refused: long.img bad line 1' run long.img none
+echo >> long.img
+wants 9 'file refused: long.img too long' run long.img none
+head -c 16777216 /dev/zero | tr '\0' '\n' > long.ports
+wants 0 "$seven" run seven.img long.ports
+wants 0 '1 0005
+returned 0007' means "$top/examples/first.c" long.ports
+echo >> long.ports
+wants 9 'file refused: long.ports too long' run seven.img long.ports
+wants 9 'file refused: long.ports too long' means "$top/examples/first.c" long.ports
+wants 9 'file refused: long.c too long' means long.c none
+
+# Programs by the language alone.
 
 # The sources of means.txt: N.c with its input in N.ports, its turns in N.turns, and the lines in N.wants.
 mkdir means
@@ -258,7 +405,7 @@ sources=$(LC_ALL=C awk '
         keep(lines "\n", "wants")
     }
     END { print count + 0 }' "$top/tests/means.txt")
-[ "$sources" -ge 470 ] || fail "means.txt has $sources sources"
+[ "$sources" -ge 499 ] || fail "means.txt has $sources sources"
 for source in $(seq 1 "$sources"); do
     set -- means "means/$source.c" "means/$source.ports"
     if read -r turns < "means/$source.turns"; then
@@ -288,7 +435,9 @@ wants 2 'words refused' means loop.c none none
 wants 2 'words refused' means absent.c absent --turns 0
 wants 3 'read fault: absent.c' means absent.c absent
 wants 3 'read fault: absent' means bad.c absent
-wants 9 'file refused: p bad line 1' means bad.c p
+wants 9 'file refused: bad.ports bad line 1' means bad.c bad.ports
+printf '\n0\n' > bad.ports
+wants 9 'file refused: bad.ports bad line 2' means none bad.ports
 wants 9 'file refused: long.c too long' means long.c absent
 wants 1 'source refused: bad constant at byte 22' means bad.c none
 wants 1 'source refused: syntax at byte 0' means none none

@@ -8,8 +8,6 @@ mod image_lines;
 mod lines;
 mod ports;
 mod reading;
-#[cfg(test)]
-mod tests;
 mod writing;
 
 pub use decimal::push_decimal;

@@ -10,5 +10,3 @@ mod traps;
 
 pub use machine::Machine;
 
-#[cfg(test)]
-mod tests;

@@ -16,8 +16,6 @@ mod numbers;
 mod prefix;
 mod runs;
 mod scanner;
-#[cfg(test)]
-mod tests;
 mod words;
 
 pub use blank::behind_blank;

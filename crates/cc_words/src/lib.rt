@@ -8,5 +8,3 @@ mod plain;
 pub use asked::{Request, requested};
 pub use plain::plain_words;
 
-#[cfg(test)]
-mod tests;

@@ -1,14 +1,16 @@
-//! The typed program of a source as one line, for tests: each node in parentheses, its form first and then its parts.
+//! The typed program of a source as one line: each node in parentheses, its form first and then its parts.
 //!
 //! Nodes are written from a list of those that are yet to be written, so that no tree is too high for it.
-use crate::tree_text::{assignment_text, binary_text};
+use crate::operators::{assignment_text, binary_text};
 use c_syntax::UnaryOp;
 use c_tree::{
     Base, Choice, ExprForm, Function, Initial, Object, Program, ScalarType, Target, TargetForm,
     TypedExpr, TypedStmt, VarRef,
 };
 use std::alloc::Global;
-use std::test::Fail;
+use word_base::NoMemory;
+
+const MOST_PIECES: u32 = 10_000_000;
 
 // What is yet to be written, each behind a blank.
 #[derive(Clone, Copy, Drop)]
@@ -24,33 +26,43 @@ enum Piece<'a> {
 
 // A writer of programs.
 #[derive(Drop)]
-struct Writer<'a> {
-    line: String,
+struct Writer<'a, 'b> {
+    line: &'b mut String,
     // The last of these is written next.
     todo: Vec<Piece<'a>>,
     // The place from which places are counted.
     base: u32,
 }
 
-/// The line of a program, with places from `base` on.
-pub(crate) fn program_text(alloc: Global, program: &Program, base: u32) -> Result<String, Fail> {
+/// Puts a program behind, with places from `base` on.
+pub(crate) fn push_program(
+    alloc: Global,
+    line: &mut String,
+    program: &Program,
+    base: u32,
+) -> Result<(), NoMemory> {
     let mut writer = Writer {
-        line: String::from_str(alloc, "(program")?,
+        line,
         todo: Vec::new(alloc),
         base,
     };
-    for object in program.statics.as_slice() {
-        writer.object("static", object)?;
-    }
-    for function in program.functions.as_slice() {
-        writer.function(function)?;
-    }
-    writer.line.push_str(")")?;
-    Ok(writer.line)
+    writer.program(program)
 }
 
-impl<'a> Writer<'a> {
-    fn object(&mut self, form: &str, object: &Object) -> Result<(), Fail> {
+impl<'a, 'b> Writer<'a, 'b> {
+    fn program(&mut self, program: &'a Program) -> Result<(), NoMemory> {
+        self.line.push_str("(program")?;
+        for object in program.statics.as_slice() {
+            self.object("static", object)?;
+        }
+        for function in program.functions.as_slice() {
+            self.function(function)?;
+        }
+        self.line.push_str(")")?;
+        Ok(())
+    }
+
+    fn object(&mut self, form: &str, object: &Object) -> Result<(), NoMemory> {
         write!(self.line, " ({form} {} ", object.name.as_str())?;
         self.scalar_type(object.kind)?;
         write!(self.line, "[{}]", object.length)?;
@@ -65,7 +77,7 @@ impl<'a> Writer<'a> {
         Ok(())
     }
 
-    fn function(&mut self, function: &'a Function) -> Result<(), Fail> {
+    fn function(&mut self, function: &'a Function) -> Result<(), NoMemory> {
         write!(self.line, " (function {} ", function.name.as_str())?;
         self.kind(function.result)?;
         self.line.push_str(" (params")?;
@@ -82,7 +94,7 @@ impl<'a> Writer<'a> {
         Ok(())
     }
 
-    fn types(&mut self, types: &[ScalarType]) -> Result<(), Fail> {
+    fn types(&mut self, types: &[ScalarType]) -> Result<(), NoMemory> {
         for of in types {
             self.line.push_str(" ")?;
             self.scalar_type(*of)?;
@@ -90,7 +102,7 @@ impl<'a> Writer<'a> {
         Ok(())
     }
 
-    fn locals(&mut self, locals: &[Object]) -> Result<(), Fail> {
+    fn locals(&mut self, locals: &[Object]) -> Result<(), NoMemory> {
         for local in locals {
             self.object("local", local)?;
         }
@@ -98,10 +110,10 @@ impl<'a> Writer<'a> {
     }
 
     // A function's body, from which all pieces come.
-    fn body(&mut self, body: &'a TypedStmt) -> Result<(), Fail> {
+    fn body(&mut self, body: &'a TypedStmt) -> Result<(), NoMemory> {
         self.todo.push(Piece::Stmt(body))?;
-        // There are fewer pieces than this in each tree that is tested.
-        for _ in 0..1_000_000u32 {
+        // A tree of as many tokens as a source may have has fewer pieces.
+        for _ in 0..MOST_PIECES {
             match self.todo.pop() {
                 Some(piece) => self.piece(piece)?,
                 None => return Ok(()),
@@ -111,7 +123,7 @@ impl<'a> Writer<'a> {
         Ok(())
     }
 
-    fn piece(&mut self, piece: Piece<'a>) -> Result<(), Fail> {
+    fn piece(&mut self, piece: Piece<'a>) -> Result<(), NoMemory> {
         match piece {
             Piece::Close => self.line.push_str(")")?,
             Piece::Expr(expr) => self.expr(expr)?,
@@ -125,7 +137,7 @@ impl<'a> Writer<'a> {
         Ok(())
     }
 
-    fn scalar_type(&mut self, of: ScalarType) -> Result<(), Fail> {
+    fn scalar_type(&mut self, of: ScalarType) -> Result<(), NoMemory> {
         self.line.push_str(match of.base {
             Base::Void => "void",
             Base::Int => "int",
@@ -137,14 +149,14 @@ impl<'a> Writer<'a> {
         Ok(())
     }
 
-    fn kind(&mut self, kind: Option<ScalarType>) -> Result<(), Fail> {
+    fn kind(&mut self, kind: Option<ScalarType>) -> Result<(), NoMemory> {
         match kind {
             Some(of) => self.scalar_type(of),
             None => Ok(self.line.push_str("void")?),
         }
     }
 
-    fn variable(&mut self, variable: VarRef) -> Result<(), Fail> {
+    fn variable(&mut self, variable: VarRef) -> Result<(), NoMemory> {
         match variable {
             VarRef::Scalar(number) => write!(self.line, "s{number}")?,
             VarRef::Local(number) => write!(self.line, "l{number}")?,
@@ -153,20 +165,20 @@ impl<'a> Writer<'a> {
         Ok(())
     }
 
-    fn place(&mut self, at: u32) -> Result<(), Fail> {
+    fn place(&mut self, at: u32) -> Result<(), NoMemory> {
         write!(self.line, "@{}", at.saturating_sub(self.base))?;
         Ok(())
     }
 
     // The type and the place of an expression, behind its form.
-    fn typed(&mut self, expr: &TypedExpr) -> Result<(), Fail> {
+    fn typed(&mut self, expr: &TypedExpr) -> Result<(), NoMemory> {
         self.line.push_str(":")?;
         self.kind(expr.kind)?;
         self.place(expr.at)
     }
 
     // Opens the node of an expression.
-    fn open(&mut self, form: &str, expr: &TypedExpr) -> Result<(), Fail> {
+    fn open(&mut self, form: &str, expr: &TypedExpr) -> Result<(), NoMemory> {
         write!(self.line, " ({form}")?;
         self.typed(expr)?;
         self.todo.push(Piece::Close)?;
@@ -178,7 +190,7 @@ impl<'a> Writer<'a> {
         form: &str,
         expr: &TypedExpr,
         operand: &'a TypedExpr,
-    ) -> Result<(), Fail> {
+    ) -> Result<(), NoMemory> {
         self.open(form, expr)?;
         self.todo.push(Piece::Expr(operand))?;
         Ok(())
@@ -190,14 +202,14 @@ impl<'a> Writer<'a> {
         expr: &TypedExpr,
         left: &'a TypedExpr,
         right: &'a TypedExpr,
-    ) -> Result<(), Fail> {
+    ) -> Result<(), NoMemory> {
         self.open(form, expr)?;
         self.todo.push(Piece::Expr(right))?;
         self.todo.push(Piece::Expr(left))?;
         Ok(())
     }
 
-    fn expr(&mut self, expr: &'a TypedExpr) -> Result<(), Fail> {
+    fn expr(&mut self, expr: &'a TypedExpr) -> Result<(), NoMemory> {
         match &expr.form {
             ExprForm::Const(word) => {
                 write!(self.line, " {word}")?;
@@ -228,7 +240,7 @@ impl<'a> Writer<'a> {
     }
 
     // An expression of a form that `expr` leaves.
-    fn choice_or_effect(&mut self, expr: &'a TypedExpr) -> Result<(), Fail> {
+    fn choice_or_effect(&mut self, expr: &'a TypedExpr) -> Result<(), NoMemory> {
         match &expr.form {
             ExprForm::Pick { test, yes, no } => self.pick(expr, test, yes, no),
             ExprForm::Assign { to, value } => self.write_to("=", expr, to, value),
@@ -264,14 +276,19 @@ impl<'a> Writer<'a> {
         test: &'a TypedExpr,
         yes: &'a TypedExpr,
         no: &'a TypedExpr,
-    ) -> Result<(), Fail> {
+    ) -> Result<(), NoMemory> {
         self.operand("?", expr, no)?;
         self.todo.push(Piece::Expr(yes))?;
         self.todo.push(Piece::Expr(test))?;
         Ok(())
     }
 
-    fn call(&mut self, expr: &TypedExpr, function: u16, args: &'a [TypedExpr]) -> Result<(), Fail> {
+    fn call(
+        &mut self,
+        expr: &TypedExpr,
+        function: u16,
+        args: &'a [TypedExpr],
+    ) -> Result<(), NoMemory> {
         self.open("call", expr)?;
         write!(self.line, " f{function}")?;
         for arg in args.iter().rev() {
@@ -286,12 +303,12 @@ impl<'a> Writer<'a> {
         expr: &TypedExpr,
         to: &'a Target,
         value: &'a TypedExpr,
-    ) -> Result<(), Fail> {
+    ) -> Result<(), NoMemory> {
         self.operand(form, expr, value)?;
         self.target(to)
     }
 
-    fn target(&mut self, target: &'a Target) -> Result<(), Fail> {
+    fn target(&mut self, target: &'a Target) -> Result<(), NoMemory> {
         match &target.form {
             TargetForm::Named(variable) => {
                 self.line.push_str(" ")?;
@@ -308,7 +325,7 @@ impl<'a> Writer<'a> {
         }
     }
 
-    fn stmt(&mut self, stmt: &'a TypedStmt) -> Result<(), Fail> {
+    fn stmt(&mut self, stmt: &'a TypedStmt) -> Result<(), NoMemory> {
         match stmt {
             TypedStmt::Break => self.line.push_str(" break")?,
             TypedStmt::Continue => self.line.push_str(" continue")?,
@@ -336,7 +353,7 @@ impl<'a> Writer<'a> {
     }
 
     // A loop or a switch.
-    fn repeated_or_chosen(&mut self, stmt: &'a TypedStmt) -> Result<(), Fail> {
+    fn repeated_or_chosen(&mut self, stmt: &'a TypedStmt) -> Result<(), NoMemory> {
         match stmt {
             TypedStmt::While { test, body } => {
                 self.begin("while", &[Piece::Expr(test), Piece::Stmt(body)])
@@ -364,7 +381,7 @@ impl<'a> Writer<'a> {
     }
 
     // Opens the node of a statement that has these parts.
-    fn begin(&mut self, form: &str, parts: &[Piece<'a>]) -> Result<(), Fail> {
+    fn begin(&mut self, form: &str, parts: &[Piece<'a>]) -> Result<(), NoMemory> {
         write!(self.line, " ({form}")?;
         self.todo.push(Piece::Close)?;
         for part in parts.iter().rev() {
@@ -373,7 +390,7 @@ impl<'a> Writer<'a> {
         Ok(())
     }
 
-    fn block(&mut self, declared: &[VarRef], body: &'a [TypedStmt]) -> Result<(), Fail> {
+    fn block(&mut self, declared: &[VarRef], body: &'a [TypedStmt]) -> Result<(), NoMemory> {
         self.line.push_str(" (block [")?;
         let mut is_first = true;
         for variable in declared {
@@ -388,7 +405,7 @@ impl<'a> Writer<'a> {
     }
 
     // The statements of a block, and its end.
-    fn statements(&mut self, body: &'a [TypedStmt]) -> Result<(), Fail> {
+    fn statements(&mut self, body: &'a [TypedStmt]) -> Result<(), NoMemory> {
         self.todo.push(Piece::Close)?;
         for stmt in body.iter().rev() {
             self.todo.push(Piece::Stmt(stmt))?;
@@ -396,7 +413,7 @@ impl<'a> Writer<'a> {
         Ok(())
     }
 
-    fn switch(&mut self, value: &'a TypedExpr, choices: &'a [Choice]) -> Result<(), Fail> {
+    fn switch(&mut self, value: &'a TypedExpr, choices: &'a [Choice]) -> Result<(), NoMemory> {
         self.line.push_str(" (switch")?;
         self.todo.push(Piece::Close)?;
         for choice in choices.iter().rev() {

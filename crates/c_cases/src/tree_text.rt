@@ -1,12 +1,15 @@
-//! The tree of a source as one line, for tests: each node in parentheses, its form first and then its parts.
+//! The tree of a source as one line: each node in parentheses, its form first and then its parts.
 //!
 //! Nodes are written from a list of those that are yet to be written, so that no tree is too high for it.
+use crate::operators::{assignment_text, binary_text};
 use c_syntax::{
-    BinaryOp, Brackets, Decl, Expr, ExprKind, External, FunctionDef, Init, Item, ItemKind, Param,
-    Params, PrefixOp, SpecWord, Specs, Stmt, StmtKind, SwitchPart,
+    Brackets, Decl, Expr, ExprKind, External, FunctionDef, Init, Item, ItemKind, Param, Params,
+    PrefixOp, SpecWord, Specs, Stmt, StmtKind, SwitchPart,
 };
 use std::alloc::Global;
-use std::test::Fail;
+use word_base::NoMemory;
+
+const MOST_PIECES: u32 = 10_000_000;
 
 // What is yet to be written.
 #[derive(Clone, Copy, Drop)]
@@ -36,41 +39,48 @@ enum Piece<'a> {
 
 // A writer of trees.
 #[derive(Drop)]
-struct Writer<'a> {
-    line: String,
+struct Writer<'a, 'b> {
+    line: &'b mut String,
     // The last of these is written next.
     todo: Vec<Piece<'a>>,
     // The place from which places are counted, where they are written.
     base: Option<u32>,
 }
 
-/// The line of a source's tree, with places from `base` on where that is given.
-pub(crate) fn tree_text(
+/// Puts a source's tree behind, with places from `base` on where that is given.
+pub(crate) fn push_tree(
     alloc: Global,
+    line: &mut String,
     externals: &[External],
     base: Option<u32>,
-) -> Result<String, Fail> {
+) -> Result<(), NoMemory> {
     let mut writer = Writer {
-        line: String::from_str(alloc, "(unit")?,
+        line,
         todo: Vec::new(alloc),
         base,
     };
-    writer.todo.push(Piece::Close)?;
-    for external in externals.iter().rev() {
-        writer.todo.push(Piece::External(external))?;
-    }
-    // There are fewer pieces than this in each tree that is tested.
-    for _ in 0..1_000_000u32 {
-        match writer.todo.pop() {
-            Some(piece) => writer.write(piece)?,
-            None => return Ok(writer.line),
-        }
-    }
-    Ok(String::from_str(alloc, "too many pieces")?)
+    writer.unit(externals)
 }
 
-impl<'a> Writer<'a> {
-    fn write(&mut self, piece: Piece<'a>) -> Result<(), Fail> {
+impl<'a, 'b> Writer<'a, 'b> {
+    fn unit(&mut self, externals: &'a [External]) -> Result<(), NoMemory> {
+        self.line.push_str("(unit")?;
+        self.todo.push(Piece::Close)?;
+        for external in externals.iter().rev() {
+            self.todo.push(Piece::External(external))?;
+        }
+        // A tree of as many tokens as a source may have has fewer pieces.
+        for _ in 0..MOST_PIECES {
+            match self.todo.pop() {
+                Some(piece) => self.write(piece)?,
+                None => return Ok(()),
+            }
+        }
+        self.line.push_str(" too many pieces")?;
+        Ok(())
+    }
+
+    fn write(&mut self, piece: Piece<'a>) -> Result<(), NoMemory> {
         match piece {
             Piece::Close => self.line.push_str(")")?,
             Piece::CloseBracket => self.line.push_str("]")?,
@@ -102,7 +112,7 @@ impl<'a> Writer<'a> {
         Ok(())
     }
 
-    fn place(&mut self, at: u32) -> Result<(), Fail> {
+    fn place(&mut self, at: u32) -> Result<(), NoMemory> {
         if let Some(base) = self.base {
             write!(self.line, "@{}", at.saturating_sub(base))?;
         }
@@ -110,33 +120,33 @@ impl<'a> Writer<'a> {
     }
 
     // Opens a node.
-    fn open(&mut self, form: &str, at: u32) -> Result<(), Fail> {
+    fn open(&mut self, form: &str, at: u32) -> Result<(), NoMemory> {
         write!(self.line, " ({form}")?;
         self.place(at)
     }
 
     // A node without parts.
-    fn leaf(&mut self, form: &str, at: u32) -> Result<(), Fail> {
+    fn leaf(&mut self, form: &str, at: u32) -> Result<(), NoMemory> {
         write!(self.line, " {form}")?;
         self.place(at)
     }
 
     // Opens the node of an expression, which a blank or a bracket stands before.
-    fn form(&mut self, form: &str, at: u32) -> Result<(), Fail> {
+    fn form(&mut self, form: &str, at: u32) -> Result<(), NoMemory> {
         write!(self.line, "({form}")?;
         self.place(at)?;
         self.todo.push(Piece::Close)?;
         Ok(())
     }
 
-    fn stars(&mut self, stars: u32) -> Result<(), Fail> {
+    fn stars(&mut self, stars: u32) -> Result<(), NoMemory> {
         for _ in 0..stars {
             self.line.push_str("*")?;
         }
         Ok(())
     }
 
-    fn named(&mut self, stars: u32, name: &str) -> Result<(), Fail> {
+    fn named(&mut self, stars: u32, name: &str) -> Result<(), NoMemory> {
         self.line.push_str(" ")?;
         self.stars(stars)?;
         self.line.push_str(name)?;
@@ -144,7 +154,7 @@ impl<'a> Writer<'a> {
     }
 
     // A type, or words of a type without stars.
-    fn specs(&mut self, specs: &Specs, stars: u32) -> Result<(), Fail> {
+    fn specs(&mut self, specs: &Specs, stars: u32) -> Result<(), NoMemory> {
         self.line.push_str(" <")?;
         let mut is_first = true;
         for word in specs.words.as_slice() {
@@ -166,20 +176,20 @@ impl<'a> Writer<'a> {
         at: u32,
         left: &'a Expr,
         right: &'a Expr,
-    ) -> Result<(), Fail> {
+    ) -> Result<(), NoMemory> {
         self.form(form, at)?;
         self.todo.push(Piece::Expr(right))?;
         self.todo.push(Piece::Expr(left))?;
         Ok(())
     }
 
-    fn operand(&mut self, form: &str, at: u32, operand: &'a Expr) -> Result<(), Fail> {
+    fn operand(&mut self, form: &str, at: u32, operand: &'a Expr) -> Result<(), NoMemory> {
         self.form(form, at)?;
         self.todo.push(Piece::Expr(operand))?;
         Ok(())
     }
 
-    fn expr(&mut self, expr: &'a Expr) -> Result<(), Fail> {
+    fn expr(&mut self, expr: &'a Expr) -> Result<(), NoMemory> {
         let at = expr.at;
         match &expr.kind {
             ExprKind::Name(name) => {
@@ -248,7 +258,7 @@ impl<'a> Writer<'a> {
         }
     }
 
-    fn stmt(&mut self, stmt: &'a Stmt) -> Result<(), Fail> {
+    fn stmt(&mut self, stmt: &'a Stmt) -> Result<(), NoMemory> {
         let at = stmt.at;
         match &stmt.kind {
             StmtKind::Empty => return self.leaf(";", at),
@@ -325,7 +335,7 @@ impl<'a> Writer<'a> {
         Ok(())
     }
 
-    fn body(&mut self, declarations: &'a [Decl], statements: &'a [Stmt]) -> Result<(), Fail> {
+    fn body(&mut self, declarations: &'a [Decl], statements: &'a [Stmt]) -> Result<(), NoMemory> {
         for stmt in statements.iter().rev() {
             self.todo.push(Piece::Stmt(stmt))?;
         }
@@ -335,7 +345,7 @@ impl<'a> Writer<'a> {
         Ok(())
     }
 
-    fn choice(&mut self, choice: &'a SwitchPart) -> Result<(), Fail> {
+    fn choice(&mut self, choice: &'a SwitchPart) -> Result<(), NoMemory> {
         match choice {
             SwitchPart::Case(value) => {
                 self.line.push_str(" (case")?;
@@ -348,7 +358,7 @@ impl<'a> Writer<'a> {
         Ok(())
     }
 
-    fn brackets(&mut self, brackets: &'a Brackets) -> Result<(), Fail> {
+    fn brackets(&mut self, brackets: &'a Brackets) -> Result<(), NoMemory> {
         self.line.push_str(" [")?;
         self.todo.push(Piece::CloseBracket)?;
         if let Brackets::Sized(length) = brackets {
@@ -357,7 +367,7 @@ impl<'a> Writer<'a> {
         Ok(())
     }
 
-    fn params(&mut self, params: &'a Params) -> Result<(), Fail> {
+    fn params(&mut self, params: &'a Params) -> Result<(), NoMemory> {
         self.open("params", params.at)?;
         self.todo.push(Piece::Close)?;
         for param in params.list.as_slice().iter().rev() {
@@ -366,7 +376,7 @@ impl<'a> Writer<'a> {
         Ok(())
     }
 
-    fn param(&mut self, param: &'a Param) -> Result<(), Fail> {
+    fn param(&mut self, param: &'a Param) -> Result<(), NoMemory> {
         self.open("param", param.at)?;
         self.specs(&param.specs, 0)?;
         match &param.name {
@@ -381,7 +391,7 @@ impl<'a> Writer<'a> {
         Ok(())
     }
 
-    fn item(&mut self, item: &'a Item) -> Result<(), Fail> {
+    fn item(&mut self, item: &'a Item) -> Result<(), NoMemory> {
         self.open("item", item.at)?;
         self.named(item.stars, item.name.as_str())?;
         self.todo.push(Piece::Close)?;
@@ -396,7 +406,7 @@ impl<'a> Writer<'a> {
         Ok(())
     }
 
-    fn init(&mut self, init: &'a Init) -> Result<(), Fail> {
+    fn init(&mut self, init: &'a Init) -> Result<(), NoMemory> {
         self.line.push_str(" =")?;
         match init {
             Init::One(value) => self.todo.push(Piece::Expr(value))?,
@@ -411,7 +421,7 @@ impl<'a> Writer<'a> {
         Ok(())
     }
 
-    fn decl(&mut self, decl: &'a Decl) -> Result<(), Fail> {
+    fn decl(&mut self, decl: &'a Decl) -> Result<(), NoMemory> {
         self.open("decl", decl.at)?;
         self.specs(&decl.specs, 0)?;
         self.todo.push(Piece::Close)?;
@@ -421,7 +431,7 @@ impl<'a> Writer<'a> {
         Ok(())
     }
 
-    fn function(&mut self, function: &'a FunctionDef) -> Result<(), Fail> {
+    fn function(&mut self, function: &'a FunctionDef) -> Result<(), NoMemory> {
         self.open("function", function.at)?;
         self.todo.push(Piece::Close)?;
         self.todo.push(Piece::Close)?;
@@ -458,42 +468,5 @@ fn prefix_text(op: PrefixOp) -> &'static str {
         PrefixOp::Minus => "-_",
         PrefixOp::Complement => "~_",
         PrefixOp::Not => "!_",
-    }
-}
-
-pub(crate) fn binary_text(op: BinaryOp) -> &'static str {
-    match op {
-        BinaryOp::Add => "+",
-        BinaryOp::Sub => "-",
-        BinaryOp::Mul => "*",
-        BinaryOp::Div => "/",
-        BinaryOp::Rem => "%",
-        BinaryOp::And => "&",
-        BinaryOp::Or => "|",
-        BinaryOp::Xor => "^",
-        BinaryOp::Shl => "<<",
-        BinaryOp::Shr => ">>",
-        BinaryOp::Eq => "==",
-        BinaryOp::Ne => "!=",
-        BinaryOp::Lt => "<",
-        BinaryOp::Gt => ">",
-        BinaryOp::Le => "<=",
-        BinaryOp::Ge => ">=",
-    }
-}
-
-pub(crate) fn assignment_text(op: BinaryOp) -> &'static str {
-    match op {
-        BinaryOp::Add => "+=",
-        BinaryOp::Sub => "-=",
-        BinaryOp::Mul => "*=",
-        BinaryOp::Div => "/=",
-        BinaryOp::Rem => "%=",
-        BinaryOp::And => "&=",
-        BinaryOp::Or => "|=",
-        BinaryOp::Xor => "^=",
-        BinaryOp::Shl => "<<=",
-        BinaryOp::Shr => ">>=",
-        _ => "no assignment",
     }
 }

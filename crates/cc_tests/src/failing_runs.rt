@@ -1,0 +1,73 @@
+//! Runs and evaluations whose calls fail, each in turn. The answers were decided by hand from docs/COMMANDS.md.
+use crate::commands::{Command, Left, leaves};
+use std::process::Abort;
+use std::test::Fail;
+use std::thread::Threads;
+
+/// Puts 7 to port 1, and returns it.
+const SEVEN: &[u8] = b"C25 IMAGE 1\nwords 5\nc806 ca07 6005 e105 ce1f\nend\n";
+
+const SOURCE: &[u8] = b"int main(void){return 7;}";
+
+const RUN: &[&str] = &["run", "i", "p"];
+
+const MEANS: &[&str] = &["means", "i", "p"];
+
+// Runs a command on no input, and looks at what it leaves. It stores nothing.
+fn answers<R: Threads + Sync + AllocGlobal + Abort>(
+    rt: &R,
+    words: &[&str],
+    file: &[u8],
+    fails_at: (&[u64], &[u64]),
+    answer: (u8, &str),
+    calls: u64,
+) -> Result<(), Fail> {
+    let (shelf_fails_at, sink_fails_at) = fails_at;
+    let (status, text) = answer;
+    leaves(
+        rt,
+        Command {
+            words,
+            file,
+            ports: b"",
+            shelf_fails_at,
+            sink_fails_at,
+        },
+        Left {
+            status,
+            text,
+            calls,
+            store_faults: 0,
+            files: 2,
+        },
+    )
+}
+
+#[test]
+fn failing_runs(rt: HostRuntime) -> Result<(), Fail> {
+    answers(&rt, RUN, SEVEN, (&[0], &[]), (3, "read fault: i\n"), 1)?;
+    answers(&rt, RUN, SEVEN, (&[1], &[]), (3, "read fault: p\n"), 2)?;
+    answers(&rt, RUN, SEVEN, (&[0, 1], &[0]), (3, ""), 1)?;
+    // The answer can't be put, and nothing more is.
+    answers(&rt, RUN, SEVEN, (&[2], &[0]), (4, ""), 2)?;
+    // No further call is made.
+    answers(
+        &rt,
+        RUN,
+        SEVEN,
+        (&[2], &[1]),
+        (0, "1 0007\nreturned 0007\n"),
+        2,
+    )
+}
+
+#[test]
+fn failing_evaluations(rt: HostRuntime) -> Result<(), Fail> {
+    answers(&rt, MEANS, SOURCE, (&[0], &[]), (3, "read fault: i\n"), 1)?;
+    answers(&rt, MEANS, SOURCE, (&[1], &[]), (3, "read fault: p\n"), 2)?;
+    answers(&rt, MEANS, b"", (&[], &[0]), (1, ""), 2)?;
+    // The answer can't be put, and nothing more is.
+    answers(&rt, MEANS, SOURCE, (&[], &[0]), (4, ""), 2)?;
+    // No further call is made.
+    answers(&rt, MEANS, SOURCE, (&[2], &[1]), (0, "returned 0007\n"), 2)
+}

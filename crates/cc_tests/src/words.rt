@@ -1,0 +1,42 @@
+//! Words whose request no run shows: an empty name, which no file has.
+use cc_words::{Request, requested};
+use std::alloc::Global;
+use std::test::Fail;
+
+// What is asked for, as a line.
+fn shown(alloc: Global, request: &Option<Request>) -> Result<String, Fail> {
+    Ok(match request {
+        None => String::from_str(alloc, "refused")?,
+        Some(Request::Build { source, image }) => format!(in alloc; "build {source} {image}")?,
+        Some(
+            Request::Run {
+                image,
+                ports,
+                steps,
+            },
+        ) => format!(in alloc; "run {image} {ports} {steps}")?,
+        Some(
+            Request::Means {
+                source,
+                ports,
+                turns,
+            },
+        ) => format!(in alloc; "means {source} {ports} {turns}")?,
+    })
+}
+
+// What the words of a line ask for.
+fn answer(alloc: Global, line: &str) -> Result<String, Fail> {
+    let mut words = Vec::new(alloc);
+    for word in line.split(' ') {
+        words.push(String::from_str(alloc, word)?)?;
+    }
+    shown(alloc, &requested(alloc, words.as_slice())?)
+}
+
+#[test]
+fn empty_name(rt: HostRuntime) -> Result<(), Fail> {
+    let request = answer(rt.alloc(), "build  b")?;
+    assert_eq!(&rt; request.as_str(), "build  b");
+    Ok(())
+}
