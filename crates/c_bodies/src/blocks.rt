@@ -46,7 +46,12 @@ fn function_in_block(item: &Item) -> Refusal
 
 impl<'a> Body<'a> {
     /// An item of a block.
-    pub fn item(&mut self, opening: Opening, base: Base, item: &'a Item) -> Result<Opening, Refusal>
+    pub(crate) fn item(
+        &mut self,
+        opening: Opening,
+        base: Base,
+        item: &'a Item,
+    ) -> Result<Opening, Refusal>
         ensures typed { IfOk result (λ o. rules.block_item (opened_of self.old opening) base (item_of item.now) ≡ Is (opened_of self.new o)) }
         ensures refused { IfErr result (Refuses (rules.block_item (opened_of self.old opening) base (item_of item.now))) }
         ensures around { OnOk result (around_of self.new.scopes ≡ around_of self.old.scopes) }
@@ -104,7 +109,7 @@ impl<'a> Body<'a> {
     }
 
     /// The items of a declaration of this base, in order.
-    pub fn items(
+    pub(crate) fn items(
         &mut self,
         mut opening: Opening,
         base: Base,

@@ -47,7 +47,11 @@ struct ForHead {
 impl<'a> Body<'a> {
     /// The typed tree of a statement.
     #[cycle(statements)]
-    pub fn statement(&mut self, s: &'a Stmt, enclosing: Enclosing) -> Result<TypedStmt, Refusal>
+    pub(crate) fn statement(
+        &mut self,
+        s: &'a Stmt,
+        enclosing: Enclosing,
+    ) -> Result<TypedStmt, Refusal>
         ensures typed { IfOk result (λ t. statement_in self.old enclosing (statement_of s.now.kind s.now.at) ≡ just (stmt_of t) (locals_of self.new)) }
         ensures refused { IfErr result (Refuses (statement_in self.old enclosing (statement_of s.now.kind s.now.at))) }
         ensures tables { OnOk result (tables_of self.new.scopes ≡ tables_of self.old.scopes) }

@@ -9,7 +9,8 @@ use Rattle.c_syntax.specs.SyntaxTree as tree
 use Rattle.c_syntax.specs.SyntaxView.{form_of, expression_of, trees_of}
 use Rattle.c_tree.specs.TypedTree.{Kind, Node, Call, Exprs}
 use Rattle.c_tree.specs.View.{form_of as typed_form_of, argument_list, expr_of}
-use Rattle.c_tree.proofs.Views.{call_form, typed_call_form}
+use Rattle.c_syntax.proofs.Views.{call_form}
+use Rattle.c_tree.proofs.Views.{typed_call_form}
 use Rattle.c_rules.specs.declared.fault.Refusal.{Refusal}
 use Rattle.c_rules.specs.Outcome.{Outcome, Is, ◌>>=◌}
 use Rattle.c_rules.specs.Answers.{Refuses}
