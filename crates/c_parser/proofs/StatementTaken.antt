@@ -11,10 +11,10 @@ use Rattle.c_syntax.specs.Grammar.{IsMark, IsKeyword, place_of}
 use Rattle.c_syntax.specs.Derives.{Closed, Open, IsTested, IsForHead, DerivesStatement, DerivesDeclarations, DerivesStatements, DerivesChoices, NoStatement}
 use Rattle.c_syntax.specs.Measures.{statements_height, choices_height, statement_height}
 use Rattle.c_syntax.specs.SyntaxView.{body_of, part_before}
-use Rattle.c_parser.specs.Front.{word_at}
-use Rattle.c_parser.specs.Takes.{Takes, IsOne, Both, IsStatement}
-use Rattle.c_parser.specs.StatementRows.{tree_of, parts_of, IsBody, IsDoEnd}
-use Rattle.c_parser.proofs.TakesLemmas.{mapped, joined, one_fewer}
+use Rattle.c_expressions.specs.Front.{word_at}
+use Rattle.c_expressions.specs.Takes.{Takes, IsOne, Both}
+use Rattle.c_parser.specs.StatementRows.{IsStatement, tree_of, parts_of, IsBody, IsDoEnd}
+use Rattle.c_expressions.proofs.TakesLemmas.{mapped, joined, one_fewer}
 use Rattle.c_parser.proofs.StatementRows.{stated, do_row, if_row, if_else_row, while_row, for_row, switch_row, block_row, placed, add, body_more, statements_more, height_add, join, parts_more, choices_more, height_join, chosen_row}
 
 -- a statement with the closing that it has
