@@ -2,6 +2,7 @@
 use Rattle.std.specs.Prelude.{ℕ, ◌+◌, ◌*◌, ◌≤◌, sum_by, length, Option, Some, None}
 use Rattle.c_syntax.specs.SyntaxTree.{Expression, Node, ExpressionForm, Name, Number, Character, Index, Call, StepAfter, StepBefore, Prefix, SizeofValue, SizeofType, Cast, Binary, And, Or, Conditional, Assign, AssignOp, Comma, Expressions, no_argument, argument, ParameterTree, ParametersTree, ItemForm, Plain, Parameters, Array, InitialTree, One, Braced, ItemTree, DeclarationTree, Statement, Empty, Evaluate, Block, Break, Continue, Return, DoWhile, If, IfElse, While, For, Switch, Statements, no_statement, statement, Choices, no_choice, case_label, default_label, chosen, ExternalTree, Defined, Declared, UnitTree}
 use Rattle.c_syntax.specs.Measures.{greatest_height, unit_height}
+use Rattle.c_syntax.specs.declared.limits.TheConstants.{MOST_NODES, MOST_TOKENS}
 
 -- what each expression and each statement weighs, each declared item, each parameter and each star
 pub record Weights : Type 0 where
@@ -114,7 +115,7 @@ unit_stars = unit_weight (record { node = 0; item = 0; parameter = 0; star = 1 }
 -- the limits of the tree of a source
 pub record IsWithinLimits (tree : UnitTree) : Type 0 where
   pub height : unit_height tree ≤ greatest_height
-  pub count : unit_count tree ≤ 400000
-  pub externals : length tree ≤ 200000
-  pub parameters : unit_parameters tree ≤ 200000
-  pub stars : unit_stars tree ≤ 200000
+  pub count : unit_count tree ≤ MOST_NODES
+  pub externals : length tree ≤ MOST_TOKENS
+  pub parameters : unit_parameters tree ≤ MOST_TOKENS
+  pub stars : unit_stars tree ≤ MOST_TOKENS

@@ -6,6 +6,7 @@ use Rattle.word_base.specs.Name.{IsWithin}
 use Rattle.c_syntax.specs.declared.token.Token.{Token}
 use Rattle.c_syntax.specs.declared.token.TokenKind.{TokenKind}
 use Rattle.c_syntax.specs.Spelling.{IsSpelling, Means}
+use Rattle.c_syntax.specs.declared.limits.TheConstants.{MOST_TOKENS}
 
 -- space, or tab, line feed, vertical tab, form feed and carriage return
 abbrev pub IsSpace : ℕ → Type 0
@@ -65,7 +66,7 @@ tokens_from at (Spelled text kind ∷ pieces) = record { kind = kind; at = at; l
 
 -- the most tokens that a text has
 abbrev pub most_tokens : ℕ
-most_tokens = 200000
+most_tokens = MOST_TOKENS
 
 -- a text is cut into pieces up to a rest, and these have the tokens
 pub record ReadsTo (text : List ℕ) (tokens : List Token) (rest : List ℕ) : Type 0 where

@@ -1,6 +1,7 @@
 -- How high the tree of a source is (docs/LANGUAGE.md, "Grammar"). A node without parts has height 1, another is one higher than its highest part, and the parts of a list stand on one level.
 use Rattle.std.specs.Prelude.{ℕ, ◌+◌, max, List, map, fold, Option, Some, None}
 use Rattle.c_syntax.specs.SyntaxTree.{Expression, Node, ExpressionForm, Name, Number, Character, Index, Call, StepAfter, StepBefore, Prefix, SizeofValue, SizeofType, Cast, Binary, And, Or, Conditional, Assign, AssignOp, Comma, Expressions, no_argument, argument, ParameterTree, ParametersTree, ItemForm, Plain, Parameters, Array, InitialTree, One, Braced, ItemTree, DeclarationTree, Statement, Empty, Evaluate, Block, Break, Continue, Return, DoWhile, If, IfElse, While, For, Switch, Statements, no_statement, statement, Choices, no_choice, case_label, default_label, chosen, ExternalTree, Defined, Declared, UnitTree}
+use Rattle.c_syntax.specs.declared.limits.TheConstants.{GREATEST_HEIGHT}
 
 -- the greatest of numbers, and 0 where there are none
 abbrev pub greatest : List ℕ → ℕ
@@ -105,4 +106,4 @@ unit_height externals = 1 + greatest (map external_height externals)
 
 -- the greatest height of a source's tree
 abbrev pub greatest_height : ℕ
-greatest_height = 200
+greatest_height = GREATEST_HEIGHT

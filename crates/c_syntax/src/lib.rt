@@ -8,6 +8,7 @@
 mod decl;
 mod expr;
 mod laws;
+mod limits;
 mod operator;
 mod stmt;
 mod syntax;
@@ -17,6 +18,7 @@ mod unit;
 pub use decl::{Brackets, Decl, Init, Item, ItemKind, Param, Params};
 pub use expr::{Expr, ExprKind, Specs, TypeName};
 pub use laws::{functions_have_names, one_token_list, one_tree, trees_are_small};
+pub use limits::{GREATEST_HEIGHT, MOST_NODES, MOST_TOKENS};
 pub use operator::{BinaryOp, UnaryOp};
 pub use stmt::{Stmt, StmtKind, SwitchPart};
 pub use syntax::{PrefixOp, SpecWord};

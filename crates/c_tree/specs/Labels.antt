@@ -24,7 +24,7 @@ in_switch around.Switch = around.Switch
 in_switch around.Loop = around.SwitchInLoop
 in_switch around.SwitchInLoop = around.SwitchInLoop
 
--- labels: a case that stands again further on, and a second default
+-- whether a case has this value
 abbrev pub has_case : ℕ → Choices → Bool
 has_case w no_more = false
 has_case w (case v rest) = w == v || has_case w rest
@@ -37,6 +37,7 @@ has_default (case v rest) = has_default rest
 has_default (default rest) = true
 has_default (body s rest) = has_default rest
 
+-- a case that stands again further on, or a second default
 abbrev pub repeats_label : Choices → Bool
 repeats_label no_more = false
 repeats_label (case w rest) = has_case w rest || repeats_label rest

@@ -14,6 +14,7 @@ use Rattle.c_tree.specs.Kinds.{int, IsType, IsKind}
 use Rattle.c_tree.specs.Rounds.{HasNoRound}
 use Rattle.c_tree.specs.Uses.{statement_uses, case_counts}
 use Rattle.c_tree.specs.WellFormed.{Shape, Signature, Names, IsInitial, IsWellFormed, opened}
+use Rattle.c_tree.specs.declared.limits.TheConstants.{MOST_CASES, MOST_CELLS, MOST_FRAME_SCALARS, MOST_FUNCTIONS, MOST_OBJECTS, MOST_PARAMETERS}
 
 -- the objects that names stand for: a frame scalar is one cell
 abbrev pub scalar_shape : Kind → Option Shape
@@ -63,7 +64,7 @@ names_of p f = record {
 pub record IsObject (p : ProgramTree) (o : ObjectTree) : Type 0 where
   pub is_type : IsType o.kind
   pub from_one : 1 ≤ o.length
-  pub most : o.length ≤ 32767
+  pub most : o.length ≤ MOST_CELLS
   pub within : length o.initial ≤ o.length
   pub starts : All (IsInitial (static_in p) o.kind) o.initial
 
@@ -83,10 +84,10 @@ pub record IsFunction (p : ProgramTree) (f : FunctionTree) : Type 0 where
 
 -- what the counts of a program may be at most
 pub record IsLimited (fs : List FunctionTree) : Type 0 where
-  pub functions : length fs ≤ 256
-  pub parameters : All (λ f. length f.params ≤ 31) fs
-  pub scalars : All (λ f. length f.scalars + statement_temporaries f.body ≤ 64) fs
-  pub cases : All (λ f. All (λ n. n ≤ 256) (case_counts (statement_uses f.body))) fs
+  pub functions : length fs ≤ MOST_FUNCTIONS
+  pub parameters : All (λ f. length f.params ≤ MOST_PARAMETERS) fs
+  pub scalars : All (λ f. length f.scalars + statement_temporaries f.body ≤ MOST_FRAME_SCALARS) fs
+  pub cases : All (λ f. All (λ n. n ≤ MOST_CASES) (case_counts (statement_uses f.body))) fs
 
 -- the objects in memory
 abbrev pub object_count : ProgramTree → ℕ
@@ -112,4 +113,4 @@ pub record IsProgram (p : ProgramTree) : Type 0 where
   pub bodies : (n m : ℕ) → Calls p.functions n m → m < length p.functions
   pub no_cycle : HasNoRound (Calls p.functions)
   pub limits : IsLimited p.functions
-  pub objects : object_count p ≤ 400000
+  pub objects : object_count p ≤ MOST_OBJECTS

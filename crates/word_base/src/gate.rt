@@ -17,21 +17,3 @@ impl Gate for OpenGate {
 
     fn leave(&self, _piece: u32) {}
 }
-
-#[cfg(test)]
-mod tests {
-    use super::*;
-    use crate::NoMemory;
-
-    fn is_shared<T: Send + Sync>(_: &T) -> bool {
-        true
-    }
-
-    // What the pieces of a search share, and what they give back when memory is wanting.
-    #[test]
-    fn shared_types(rt: HostRuntime) {
-        assert!(rt; is_shared(&OpenGate) && is_shared(&NoMemory));
-        OpenGate.enter(0);
-        OpenGate.leave(0);
-    }
-}

@@ -40,18 +40,3 @@ impl<'a, R: Print> Sink for OutSink<'a, R> {
         Err(SinkFault::Failed)
     }
 }
-
-#[cfg(test)]
-mod tests {
-    use super::*;
-    use std::test::Fail;
-
-    // Standard output takes a line.
-    #[test]
-    fn standard_output(rt: HostRuntime) -> Result<(), Fail> {
-        let mut out = OutSink::new(&rt);
-        assert_eq!(rt; out.put(rt.alloc(), b"one line\n"), Ok(()));
-        assert_eq!(rt; out.faults, 0);
-        Ok(())
-    }
-}

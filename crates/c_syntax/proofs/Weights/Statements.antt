@@ -1,6 +1,7 @@
 -- A statement, a function and a whole source weigh no more than they have tokens.
 use Rattle.std.proofs.Common.{◌≤◌, ◌+◌, List, [], ◌∷◌, ◌++◌, length, ap, ◌∙◌, arith, length-append, Option}
 use Rattle.std.proofs.lemmas.List.Sums.{sum_by-cons}
+use Rattle.c_syntax.specs.declared.limits.TheConstants.{MOST_TOKENS}
 use Rattle.c_syntax.specs.declared.token.Token.{Token}
 use Rattle.c_syntax.specs.SyntaxTree.{Expression, Statement, Block, Statements, Choices, ExternalTree, Defined, Declared, UnitTree}
 use Rattle.c_syntax.specs.Derives.{Closing, IsTested, IsForHead, DerivesStatement, EmptyRule, EvaluateRule, BlockRule, BreakRule, ContinueRule, ReturnRule, DoRule, IfRule, IfElseRule, WhileRule, ForRule, SwitchRule, DerivesStatements, NoStatement, MoreStatements, DerivesChoices, NoChoice, CaseRule, DefaultRule, ChosenRule, DerivesExternal, DerivesUnit, LastExternal, MoreExternals}
@@ -135,7 +136,7 @@ module _ (w : Weights) (light : IsLight w) where
       omega (arith, p.1, q, s)
 
 -- what is derived of few tokens, and isn't too high, is within the limits of a source's tree
-pub within_limits : (tokens : List Token) (tree : UnitTree) → length tokens ≤ 200000 → DerivesUnit tokens tree → unit_height tree ≤ greatest_height → IsWithinLimits tree
+pub within_limits : (tokens : List Token) (tree : UnitTree) → length tokens ≤ MOST_TOKENS → DerivesUnit tokens tree → unit_height tree ≤ greatest_height → IsWithinLimits tree
 within_limits tokens tree few d low =
     let node : Weights = record { node = 1; item = 1; parameter = 0; star = 0 } in
     let parameter : Weights = record { node = 0; item = 0; parameter = 1; star = 0 } in
