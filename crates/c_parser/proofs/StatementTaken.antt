@@ -25,6 +25,9 @@ derived r = record { taken = r.taken; cut = r.cut; is = r.is.derives }
 same_tree : {x z : Statement} {k l m : List Token} → z ≡ x → m ≡ l → Takes (IsStatement x l) k l → Takes (IsStatement z m) k m
 same_tree {x = x} {k = k} {l = l} {m = m} e h r = subst (λ v. Takes (IsStatement v m) k m) (sym e) (subst (λ v. Takes (IsStatement x v) k v) (sym h) r)
 
+pub same_taken : {x z : Statement} {k l : List Token} → z ≡ x → Takes (IsStatement x l) k l → Takes (IsStatement z l) k l
+same_taken e r = same_tree e refl r
+
 pub if_taken : {k l m n o : List Token} {at : ℕ} {e : Expression} {x z : Statement} → z ≡ If e x at → (0 < length k → at ≡ place_of k)
     → Takes (IsOne (IsKeyword keyword.If)) k l → Takes (λ a. IsTested [] a e) l m → Takes (IsStatement x n) m n → length m < length l → length n < length m → o ≡ n → (word_at n ≡ Some keyword.Else → ⊥)
     → Takes (IsStatement z o) k o

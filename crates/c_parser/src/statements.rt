@@ -72,6 +72,31 @@ pub(crate) fn statement(parser: &mut Parser<'_>, depth: u32) -> Result<Tall<Stmt
     }
 }
 
+// A statement within another. It is kept in its box while the rest of the other is read.
+#[cycle(statements)]
+fn inner(parser: &mut Parser<'_>, depth: u32) -> Result<Tall<Box<Stmt>>, Refusal>
+    requires { depth ≤ 200 }
+    ensures tree { IfOk result (λ p. Takes (IsStatement (tree_of p.tree.value) parser.new.cursor) parser.old.cursor parser.new.cursor) }
+    ensures refused { IfErr result (Refuses (NoFront (StatementFront depth) parser.old.cursor)) }
+    ensures height { IfOk result (λ p. p.height ≡ statement_height (tree_of p.tree.value)) }
+    ensures room { IfOk result (λ p. depth + p.height ≤ 200) }
+    ensures fewer { IfOk result (λ _. length parser.new.cursor < length parser.old.cursor) }
+{
+    let read = statement(parser, depth)?;
+    boxed(parser.alloc, read)
+}
+
+fn boxed(alloc: Global, statement: Tall<Stmt>) -> Result<Tall<Box<Stmt>>, Refusal>
+    ensures tree { IfOk result (λ b. tree_of b.tree.value ≡ tree_of statement.tree) }
+    ensures memory { IfErr result (λ f. f ≡ refusals.NoMemory) }
+    ensures height { IfOk result (λ b. b.height ≡ statement.height) }
+{
+    Ok(Tall {
+        tree: Box::new(alloc, statement.tree)?,
+        height: statement.height,
+    })
+}
+
 // A statement without other statements in it.
 fn simple(parser: &mut Parser<'_>, depth: u32) -> Result<Tall<Stmt>, Refusal>
     requires low { depth < 200 }
@@ -226,9 +251,9 @@ fn do_loop(parser: &mut Parser<'_>, depth: u32) -> Result<Tall<Stmt>, Refusal>
     let at = parser.cursor.place();
     parser.allow(1, depth)?;
     parser.cursor.expect_keyword(Keyword::Do)?;
-    let body = statement(parser, depth + 1)?;
+    let body = inner(parser, depth + 1)?;
     let test = do_test(parser, depth + 1)?;
-    do_over(parser.alloc, at, body, test)
+    Ok(do_over(at, body, test))
 }
 
 // `while`, a test and `;` behind the body of a `do`.
@@ -246,19 +271,17 @@ fn do_test(parser: &mut Parser<'_>, depth: u32) -> Result<Tall<Expr>, Refusal>
     Ok(test)
 }
 
-fn do_over(alloc: Global, at: u32, body: Tall<Stmt>, test: Tall<Expr>) -> Result<Tall<Stmt>, Refusal>
+fn do_over(at: u32, body: Tall<Box<Stmt>>, test: Tall<Expr>) -> Tall<Stmt>
     requires body_low { body.height < 200 }
     requires test_low { test.height < 200 }
-    ensures tree { IfOk result (λ p. tree_of p.tree ≡ DoWhile (tree_of body.tree) (expression_of test.tree) at) }
-    ensures memory { IfErr result (λ f. f ≡ refusals.NoMemory) }
-    ensures height { IfOk result (λ p. p.height ≡ 1 + max body.height test.height) }
+    ensures tree { tree_of result.tree ≡ DoWhile (tree_of body.tree.value) (expression_of test.tree) at }
+    ensures height { result.height ≡ 1 + max body.height test.height }
 {
-    let parts = body.height.max(test.height);
     let kind = StmtKind::Do {
-        body: Box::new(alloc, body.tree)?,
+        body: body.tree,
         test: test.tree,
     };
-    Ok(over(kind, at, parts))
+    over(kind, at, body.height.max(test.height))
 }
 
 // An `if`, and its `else` where one stands behind it.
@@ -276,50 +299,41 @@ fn choice(parser: &mut Parser<'_>, depth: u32) -> Result<Tall<Stmt>, Refusal>
     parser.allow(1, depth)?;
     parser.cursor.expect_keyword(Keyword::If)?;
     let test = tested(parser, depth + 1)?;
-    let yes = statement(parser, depth + 1)?;
+    let yes = inner(parser, depth + 1)?;
     if !parser.cursor.take_keyword(Keyword::Else) {
-        return if_alone(parser.alloc, at, test, yes);
+        return Ok(if_alone(at, test, yes));
     }
-    let no = statement(parser, depth + 1)?;
-    if_else(parser.alloc, at, test, yes, no)
+    let no = inner(parser, depth + 1)?;
+    Ok(if_else(at, test, yes, no))
 }
 
-fn if_alone(alloc: Global, at: u32, test: Tall<Expr>, yes: Tall<Stmt>) -> Result<Tall<Stmt>, Refusal>
+fn if_alone(at: u32, test: Tall<Expr>, yes: Tall<Box<Stmt>>) -> Tall<Stmt>
     requires test_low { test.height < 200 }
     requires yes_low { yes.height < 200 }
-    ensures tree { IfOk result (λ p. tree_of p.tree ≡ If (expression_of test.tree) (tree_of yes.tree) at) }
-    ensures memory { IfErr result (λ f. f ≡ refusals.NoMemory) }
-    ensures height { IfOk result (λ p. p.height ≡ 1 + max test.height yes.height) }
+    ensures tree { tree_of result.tree ≡ If (expression_of test.tree) (tree_of yes.tree.value) at }
+    ensures height { result.height ≡ 1 + max test.height yes.height }
 {
-    let parts = test.height.max(yes.height);
     let kind = StmtKind::If {
         test: test.tree,
-        yes: Box::new(alloc, yes.tree)?,
+        yes: yes.tree,
     };
-    Ok(over(kind, at, parts))
+    over(kind, at, test.height.max(yes.height))
 }
 
-fn if_else(
-    alloc: Global,
-    at: u32,
-    test: Tall<Expr>,
-    yes: Tall<Stmt>,
-    no: Tall<Stmt>,
-) -> Result<Tall<Stmt>, Refusal>
+fn if_else(at: u32, test: Tall<Expr>, yes: Tall<Box<Stmt>>, no: Tall<Box<Stmt>>) -> Tall<Stmt>
     requires test_low { test.height < 200 }
     requires yes_low { yes.height < 200 }
     requires no_low { no.height < 200 }
-    ensures tree { IfOk result (λ p. tree_of p.tree ≡ IfElse (expression_of test.tree) (tree_of yes.tree) (tree_of no.tree) at) }
-    ensures memory { IfErr result (λ f. f ≡ refusals.NoMemory) }
-    ensures height { IfOk result (λ p. p.height ≡ 1 + max test.height (max yes.height no.height)) }
+    ensures tree { tree_of result.tree ≡ IfElse (expression_of test.tree) (tree_of yes.tree.value) (tree_of no.tree.value) at }
+    ensures height { result.height ≡ 1 + max test.height (max yes.height no.height) }
 {
     let parts = test.height.max(yes.height.max(no.height));
     let kind = StmtKind::IfElse {
         test: test.tree,
-        yes: Box::new(alloc, yes.tree)?,
-        no: Box::new(alloc, no.tree)?,
+        yes: yes.tree,
+        no: no.tree,
     };
-    Ok(over(kind, at, parts))
+    over(kind, at, parts)
 }
 
 #[cycle(statements)]
@@ -336,23 +350,21 @@ fn while_loop(parser: &mut Parser<'_>, depth: u32) -> Result<Tall<Stmt>, Refusal
     parser.allow(1, depth)?;
     parser.cursor.expect_keyword(Keyword::While)?;
     let test = tested(parser, depth + 1)?;
-    let body = statement(parser, depth + 1)?;
-    while_over(parser.alloc, at, test, body)
+    let body = inner(parser, depth + 1)?;
+    Ok(while_over(at, test, body))
 }
 
-fn while_over(alloc: Global, at: u32, test: Tall<Expr>, body: Tall<Stmt>) -> Result<Tall<Stmt>, Refusal>
+fn while_over(at: u32, test: Tall<Expr>, body: Tall<Box<Stmt>>) -> Tall<Stmt>
     requires test_low { test.height < 200 }
     requires body_low { body.height < 200 }
-    ensures tree { IfOk result (λ p. tree_of p.tree ≡ While (expression_of test.tree) (tree_of body.tree) at) }
-    ensures memory { IfErr result (λ f. f ≡ refusals.NoMemory) }
-    ensures height { IfOk result (λ p. p.height ≡ 1 + max test.height body.height) }
+    ensures tree { tree_of result.tree ≡ While (expression_of test.tree) (tree_of body.tree.value) at }
+    ensures height { result.height ≡ 1 + max test.height body.height }
 {
-    let parts = test.height.max(body.height);
     let kind = StmtKind::While {
         test: test.tree,
-        body: Box::new(alloc, body.tree)?,
+        body: body.tree,
     };
-    Ok(over(kind, at, parts))
+    over(kind, at, test.height.max(body.height))
 }
 
 #[cycle(statements)]
@@ -368,8 +380,8 @@ fn for_loop(parser: &mut Parser<'_>, depth: u32) -> Result<Tall<Stmt>, Refusal>
     let at = parser.cursor.place();
     parser.allow(1, depth)?;
     let head = for_head(parser, depth + 1)?;
-    let body = statement(parser, depth + 1)?;
-    for_over(parser.alloc, at, head, body)
+    let body = inner(parser, depth + 1)?;
+    Ok(for_over(at, head, body))
 }
 
 // `for` and what stands between its parentheses.
@@ -394,21 +406,19 @@ fn for_head(parser: &mut Parser<'_>, depth: u32) -> Result<ForHead, Refusal>
     })
 }
 
-fn for_over(alloc: Global, at: u32, head: ForHead, body: Tall<Stmt>) -> Result<Tall<Stmt>, Refusal>
+fn for_over(at: u32, head: ForHead, body: Tall<Box<Stmt>>) -> Tall<Stmt>
     requires head_low { head.highest < 200 }
     requires body_low { body.height < 200 }
-    ensures tree { IfOk result (λ p. tree_of p.tree ≡ For (optional_of head.first) (optional_of head.test) (optional_of head.third) (tree_of body.tree) at) }
-    ensures memory { IfErr result (λ f. f ≡ refusals.NoMemory) }
-    ensures height { IfOk result (λ p. p.height ≡ 1 + max head.highest body.height) }
+    ensures tree { tree_of result.tree ≡ For (optional_of head.first) (optional_of head.test) (optional_of head.third) (tree_of body.tree.value) at }
+    ensures height { result.height ≡ 1 + max head.highest body.height }
 {
-    let parts = head.highest.max(body.height);
     let kind = StmtKind::For {
         first: head.first,
         test: head.test,
         third: head.third,
-        body: Box::new(alloc, body.tree)?,
+        body: body.tree,
     };
-    Ok(over(kind, at, parts))
+    over(kind, at, head.highest.max(body.height))
 }
 
 #[cycle(statements)]

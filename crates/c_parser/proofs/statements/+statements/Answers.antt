@@ -3,7 +3,7 @@ use Rattle.c_syntax.specs.declared.token.Keyword.TheVariants as keyword
 use Rattle.c_syntax.specs.declared.token.Punct.TheVariants as mark
 use Rattle.c_syntax.specs.Derives.{NoChoice}
 use Rattle.c_expressions.proofs.TakesLemmas.{nothing, joined, mark_taken, word_taken, took, took_word, not_there, kept, length_kept, ok_mapped}
-use Rattle.c_parser.proofs.StatementTaken.{if_taken, if_else_taken, while_taken, for_taken, do_taken, switch_taken, block_taken, body_begun, body_ended, body_grown, body_height, parts_grown, parts_height, chosen_taken}
+use Rattle.c_parser.proofs.StatementTaken.{same_taken, if_taken, if_else_taken, while_taken, for_taken, do_taken, switch_taken, block_taken, body_begun, body_ended, body_grown, body_height, parts_grown, parts_height, chosen_taken}
 use Rattle.c_parser.proofs.FrontLemmas.{first_fails, second_fails, second_never, fails_as, leads_as, one_leads, mark_fails, fails_kept, only_kept, leads_on, leads_from, leads_further, fails_on}
 use Rattle.c_expressions.proofs.Refusals.{passed_on, known_to, goes_out}
 use Rattle.c_parser.proofs.StatementWays.{while_ways, if_ways, else_fails, do_ways, for_ways, switch_ways, block_ways, tested_too_high, statement_too_high}
@@ -13,28 +13,28 @@ use Rattle.c_parser.proofs.statements.+statements.Goals as goal
 
 pub choice-returns-then-not-take_keyword-clause-tree : goal.choice-returns-then-not-take_keyword-clause-tree
 choice-returns-then-not-take_keyword-clause-tree t c =
-    ok_mapped c.if_alone.result (λ p e. if_taken e c.place-at.ensures (word_taken keyword.If c.args.parser.now.cursor _ c.in_ok-expect_keyword.ensures.taken c.in_ok-expect_keyword.ensures.left) c.in_ok-test.ensures.tree c.in_ok-yes.ensures.tree
-    c.in_ok-test.ensures.fewer c.in_ok-yes.ensures.fewer (kept c.take_keyword.ensures.left c.if-not-take_keyword.true) (not_there c.take_keyword.ensures.taken c.if-not-take_keyword.true)) c.if_alone.ensures.tree
+    if_taken c.if_alone.ensures.tree c.place-at.ensures (word_taken keyword.If c.args.parser.now.cursor _ c.in_ok-expect_keyword.ensures.taken c.in_ok-expect_keyword.ensures.left) c.in_ok-test.ensures.tree c.in_ok-yes.ensures.tree
+    c.in_ok-test.ensures.fewer c.in_ok-yes.ensures.fewer (kept c.take_keyword.ensures.left c.if-not-take_keyword.true) (not_there c.take_keyword.ensures.taken c.if-not-take_keyword.true)
 
 pub choice-returns-clause-tree : goal.choice-returns-clause-tree
 choice-returns-clause-tree t c =
-    ok_mapped c.if_else.result (λ p e. if_else_taken e c.place-at.ensures (word_taken keyword.If c.args.parser.now.cursor _ c.in_ok-expect_keyword.ensures.taken c.in_ok-expect_keyword.ensures.left) c.in_ok-test.ensures.tree c.in_ok-yes.ensures.tree
+    if_else_taken c.if_else.ensures.tree c.place-at.ensures (word_taken keyword.If c.args.parser.now.cursor _ c.in_ok-expect_keyword.ensures.taken c.in_ok-expect_keyword.ensures.left) c.in_ok-test.ensures.tree c.in_ok-yes.ensures.tree
     (c.take_keyword.ensures.taken.0 c.if-not-take_keyword.false) (took_word c.take_keyword.ensures.taken c.take_keyword.ensures.left c.if-not-take_keyword.false) c.in_ok-no.ensures.tree
-    c.in_ok-test.ensures.fewer c.in_ok-yes.ensures.fewer c.in_ok-no.ensures.fewer) c.if_else.ensures.tree
+    c.in_ok-test.ensures.fewer c.in_ok-yes.ensures.fewer c.in_ok-no.ensures.fewer
 
 pub do_loop-returns-clause-tree : goal.do_loop-returns-clause-tree
 do_loop-returns-clause-tree t c =
-    ok_mapped c.do_over.result (λ p e. do_taken e c.place-at.ensures (word_taken keyword.Do c.args.parser.now.cursor _ c.in_ok-expect_keyword.ensures.taken c.in_ok-expect_keyword.ensures.left) c.in_ok-body.ensures.tree c.in_ok-test.ensures.tree
-    c.in_ok-body.ensures.fewer c.in_ok-test.ensures.fewer) c.do_over.ensures.tree
+    do_taken c.do_over.ensures.tree c.place-at.ensures (word_taken keyword.Do c.args.parser.now.cursor _ c.in_ok-expect_keyword.ensures.taken c.in_ok-expect_keyword.ensures.left) c.in_ok-body.ensures.tree c.in_ok-test.ensures.tree
+    c.in_ok-body.ensures.fewer c.in_ok-test.ensures.fewer
 
 pub while_loop-returns-clause-tree : goal.while_loop-returns-clause-tree
 while_loop-returns-clause-tree t c =
-    ok_mapped c.while_over.result (λ p e. while_taken e c.place-at.ensures (word_taken keyword.While c.args.parser.now.cursor _ c.in_ok-expect_keyword.ensures.taken c.in_ok-expect_keyword.ensures.left) c.in_ok-test.ensures.tree c.in_ok-body.ensures.tree
-    c.in_ok-test.ensures.fewer c.in_ok-body.ensures.fewer) c.while_over.ensures.tree
+    while_taken c.while_over.ensures.tree c.place-at.ensures (word_taken keyword.While c.args.parser.now.cursor _ c.in_ok-expect_keyword.ensures.taken c.in_ok-expect_keyword.ensures.left) c.in_ok-test.ensures.tree c.in_ok-body.ensures.tree
+    c.in_ok-test.ensures.fewer c.in_ok-body.ensures.fewer
 
 pub for_loop-returns-clause-tree : goal.for_loop-returns-clause-tree
 for_loop-returns-clause-tree t c =
-    ok_mapped c.for_over.result (λ p e. for_taken e c.place-at.ensures c.in_ok-head.ensures.tree c.in_ok-body.ensures.tree c.in_ok-head.ensures.fewer c.in_ok-body.ensures.fewer) c.for_over.ensures.tree
+    for_taken c.for_over.ensures.tree c.place-at.ensures c.in_ok-head.ensures.tree c.in_ok-body.ensures.tree c.in_ok-head.ensures.fewer c.in_ok-body.ensures.fewer
 
 pub switch-returns-clause-tree : goal.switch-returns-clause-tree
 switch-returns-clause-tree t c =
@@ -90,6 +90,9 @@ switch_parts-loop-parser-preserved t c =
 
 pub switch_parts-returns-clause-tree : goal.switch_parts-returns-clause-tree
 switch_parts-returns-clause-tree t c = joined c.loop-parser.invariant.tree (took c.take.ensures.taken c.take.ensures.left c.loop-parser-test.false)
+
+pub inner-returns-clause-tree : goal.inner-returns-clause-tree
+inner-returns-clause-tree t c = ok_mapped c.boxed.result (λ p e. same_taken e c.in_ok-read.ensures.tree) c.boxed.ensures.tree
 
 pub switch_part-returns-clause-tree : goal.switch_part-returns-clause-tree
 switch_part-returns-clause-tree t c = chosen_taken c.part_over.ensures.tree c.in_ok-statement.ensures.tree

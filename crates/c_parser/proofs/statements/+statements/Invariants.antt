@@ -11,6 +11,9 @@ use Rattle.c_parser.proofs.statements.+statements.Given as goal
 abbrev pub decreases-statement : goal.decreases-statement
 decreases-statement l = 4 * length l.parser.now.cursor + 1
 
+abbrev pub decreases-inner : goal.decreases-inner
+decreases-inner l = 4 * length l.parser.now.cursor + 2
+
 abbrev pub decreases-inner_block : goal.decreases-inner_block
 decreases-inner_block l = 4 * length l.parser.now.cursor + 0
 
