@@ -4,8 +4,7 @@ use Rattle.c_syntax.specs.declared.token.Token.{Token}
 use Rattle.c_syntax.specs.declared.token.TokenKind.{TokenKind}
 use Rattle.c_syntax.specs.declared.token.TokenKind.TheVariants as token
 use Rattle.c_syntax.specs.declared.token.Punct.TheVariants as mark
-use Rattle.c_syntax.specs.declared.expr.Expr.{Expr}
-use Rattle.c_syntax.specs.SyntaxTree.{SpecsTree, TypeTree, ExpressionForm, Node, Number, Character, Expressions, no_argument, argument}
+use Rattle.c_syntax.specs.SyntaxTree.{SpecsTree, TypeTree, ExpressionForm, Node, Number, Character}
 use Rattle.c_syntax.specs.Grammar.{Row, PostfixRow, PrimaryRow, tighter, place_of, IsMark, AreSpecs, AreStars, IsType}
 use Rattle.c_syntax.specs.Lookahead.{next_of, going_of, spec_of, start_of}
 use Rattle.c_syntax.specs.Reads.{Reading, reading, first_of, Reads, Starts, More, ArgumentsReading, ReadsArguments, listed, separator_of}

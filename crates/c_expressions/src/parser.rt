@@ -8,12 +8,9 @@ ghost use Rattle.c_syntax.specs.Lookahead.{spec_of};
 
 use crate::cursor::Cursor;
 use crate::fault::Refusal;
-use c_syntax::{Expr, ExprKind, Punct, SpecWord, Specs, Token, TypeName};
+use c_syntax::{Expr, ExprKind, GREATEST_HEIGHT, Punct, SpecWord, Specs, Token, TypeName};
 use std::alloc::Global;
 use word_base::Items;
-
-/// The greatest height of a source's tree.
-pub(crate) const GREATEST_HEIGHT: u32 = 200;
 
 /// A parser in the middle of its tokens.
 #[derive(Drop)]

@@ -64,7 +64,11 @@ pub(crate) fn declaration_from(
 }
 
 // The items of a declaration behind its first.
-fn items_from(parser: &mut Parser<'_>, first: Tall<Item>, depth: u32) -> Result<Tall<Vec<Item>>, Refusal>
+fn items_from(
+    parser: &mut Parser<'_>,
+    first: Tall<Item>,
+    depth: u32,
+) -> Result<Tall<Vec<Item>>, Refusal>
     requires low { depth < 199 }
     requires first_height { first.height ≡ item_height (item_of first.tree) }
     requires first_room { depth + first.height ≤ 200 }

@@ -587,6 +587,7 @@ fn declarations(parser: &mut Parser<'_>, depth: u32) -> Result<Tall<Vec<Decl>>, 
         height: highest,
     })
 }
+
 fn switch_over(
     at: u32,
     value: Expr,
