@@ -4,8 +4,7 @@ use Rattle.c_syntax.specs.declared.token.Token.{Token}
 use Rattle.c_syntax.specs.declared.token.Punct.{Punct}
 use Rattle.c_syntax.specs.Grammar.{Row, IsMark}
 use Rattle.c_syntax.specs.Lookahead.{row_rank, next_mark, next_rank, Ends}
-use Rattle.c_syntax.specs.SyntaxTree.{Expression, Node}
-use Rattle.c_syntax.specs.Measures.{greatest, expression_height}
+use Rattle.c_syntax.specs.Measures.{greatest}
 use Rattle.c_syntax.proofs.Parsing.ExpressionOne.{ends_mark}
 use Rattle.c_syntax.proofs.Rows.Fronts.{Sort, mark_sort, first}
 use Rattle.c_expressions.specs.Front.{kind_mark, mark_at}

@@ -6,10 +6,10 @@ use Rattle.c_syntax.specs.declared.token.Keyword.{Keyword}
 use Rattle.c_syntax.specs.declared.token.Keyword.TheVariants as keyword
 use Rattle.c_syntax.specs.declared.token.Punct.{Punct}
 use Rattle.c_syntax.specs.declared.token.Punct.TheVariants as mark
-use Rattle.c_syntax.specs.Grammar.{Row, ExpressionRow, IsMark, IsKeyword}
+use Rattle.c_syntax.specs.Grammar.{ExpressionRow, IsMark, IsKeyword}
 use Rattle.c_syntax.specs.Derives.{DerivesOptional, Closing, Closed, Open, IsTested, DerivesStatement}
 use Rattle.c_syntax.specs.Lookahead.{row_rank, next_mark, next_rank}
-use Rattle.c_syntax.specs.SyntaxTree.{Expression, Node, Statement, Empty, Evaluate, Block, Break, Continue, Return, DoWhile, If, IfElse, While, For, Switch}
+use Rattle.c_syntax.specs.SyntaxTree.{Expression, Statement, Empty, Evaluate, Block, Break, Continue, Return, DoWhile, If, IfElse, While, For, Switch}
 use Rattle.c_syntax.specs.Measures.{expression_height, optional_height, statement_height}
 use Rattle.c_syntax.proofs.Parsing.ExpressionOne.{ends_mark}
 use Rattle.c_syntax.proofs.Rows.Fronts.{Sort, BreakWord, ContinueWord, ReturnWord, DoWord, IfWord, WhileWord, ForWord, SwitchWord, AnyName, StarMark, ParenOpens, BracketOpens, BraceOpens, SemicolonMark, Others, first}
