@@ -9,9 +9,10 @@ use Rattle.c_syntax.specs.declared.syntax.SpecWord.{SpecWord}
 use Rattle.c_syntax.specs.SyntaxTree.{Expression, InitialTree, Braced, ItemTree, ItemForm, Parameters, DeclarationTree, ParameterTree, ParametersTree}
 use Rattle.c_syntax.specs.Grammar.{ConditionalRow, IsMark, IsKeyword, place_of, AreSpecs, LastSpec, MoreSpecs, AreStars}
 use Rattle.c_syntax.specs.Derives.{IsName, IsLastComma, DerivesSpecs, DerivesOptional, DerivesList, DerivesInitial, BracedRule, DerivesInitialiser, DerivesArray, ArrayRule, DerivesArrayMark, DerivesName, DerivesParameter, DerivesParameterList, DerivesParameters, VoidRule, ParametersRule, DerivesForm, FunctionRule, DerivesItem, DerivesItems, DerivesDeclaration}
-use Rattle.c_parser.specs.Front.{behind, is_void_word, is_void_alone, is_separator_at, is_separator_kind, is_close_kind, is_void_kind}
-use Rattle.c_parser.specs.Takes.{Takes, IsOne, Both, Behind, IsItemFront, ListGoesOn}
-use Rattle.c_parser.proofs.TakesLemmas.{mapped, joined, place_taken, one_before, one_behind, one_place}
+use Rattle.c_expressions.specs.Front.{behind, is_void_word, is_void_alone, is_separator_at, is_separator_kind, is_close_kind, is_void_kind}
+use Rattle.c_expressions.specs.Takes.{Takes, IsOne, Both, Behind}
+use Rattle.c_parser.specs.DeclarationRows.{IsItemFront, ListGoesOn}
+use Rattle.c_expressions.proofs.TakesLemmas.{mapped, joined, place_taken, one_before, one_behind, one_place}
 
 -- a length in brackets
 array_row : (x : Option Expression) (all : List Token) → Both (IsOne (IsMark mark.OpenBracket)) (Both (λ a. DerivesOptional ConditionalRow a x) (IsOne (IsMark mark.CloseBracket))) all → DerivesArray all x

@@ -15,9 +15,9 @@ use Rattle.c_syntax.proofs.Rows.Initialisers.{array_first}
 use Rattle.c_syntax.proofs.Rows.Parameters.{name_first}
 use Rattle.c_syntax.proofs.Rows.Declarations.{initialiser_other, items_other}
 use Rattle.c_syntax.proofs.Rows.UnitOne.{known}
-use Rattle.c_parser.specs.Front.{mark_at}
-use Rattle.c_parser.specs.Fronts.{OnlyTo, Then, One, ExpressionFront, SpecsFront, StarsFront, DeclarationFront}
-use Rattle.c_parser.specs.DeclarationFronts.{EndsItem, ItemFront, ItemsFront, EndsForm, FormFront, ArrayFront, LengthFront, InitialiserFront, InitialFront, BracedFront, ParametersFront, IsAnyName, Ended, GoesOn, MoreItems}
+use Rattle.c_expressions.specs.Front.{mark_at}
+use Rattle.c_expressions.specs.Fronts.{OnlyTo, Then, One, ExpressionFront, SpecsFront, StarsFront}
+use Rattle.c_parser.specs.DeclarationFronts.{DeclarationFront, EndsItem, ItemFront, ItemsFront, EndsForm, FormFront, ArrayFront, LengthFront, InitialiserFront, InitialFront, BracedFront, ParametersFront, IsAnyName, Ended, GoesOn, MoreItems}
 use Rattle.c_parser.proofs.FrontLemmas.{behind_one}
 use Rattle.c_parser.proofs.FrontTokens.{mark_sorted, no_spec}
 use Rattle.c_parser.proofs.FrontMarks.{first_low, others_low, mark_here, not_mark, other_mark, ends_at_mark}

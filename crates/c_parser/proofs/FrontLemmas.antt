@@ -4,9 +4,9 @@ use Rattle.c_syntax.specs.declared.token.Token.{Token}
 use Rattle.c_syntax.specs.declared.token.Punct.{Punct}
 use Rattle.c_syntax.specs.declared.token.Keyword.{Keyword}
 use Rattle.c_syntax.specs.Grammar.{IsMark, IsKeyword}
-use Rattle.c_parser.specs.Front.{behind, kind_mark, kind_word, mark_at, word_at}
-use Rattle.c_parser.specs.Fronts.{NoFront, OnlyTo, Then, One}
-use Rattle.c_parser.specs.Takes.{Takes, IsOne}
+use Rattle.c_expressions.specs.Front.{behind, kind_mark, kind_word, mark_at, word_at}
+use Rattle.c_expressions.specs.Fronts.{NoFront, OnlyTo, Then, One}
+use Rattle.c_expressions.specs.Takes.{Takes, IsOne}
 
 -- ---- one part behind another
 

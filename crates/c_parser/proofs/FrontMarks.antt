@@ -4,15 +4,14 @@ use Rattle.c_syntax.specs.declared.token.Token.{Token}
 use Rattle.c_syntax.specs.declared.token.Punct.{Punct}
 use Rattle.c_syntax.specs.Grammar.{Row, IsMark}
 use Rattle.c_syntax.specs.Lookahead.{row_rank, next_mark, next_rank, Ends}
-use Rattle.c_syntax.specs.SyntaxTree.{Expression, Node}
-use Rattle.c_syntax.specs.Measures.{greatest, expression_height}
+use Rattle.c_syntax.specs.Measures.{greatest}
 use Rattle.c_syntax.proofs.Parsing.ExpressionOne.{ends_mark}
 use Rattle.c_syntax.proofs.Rows.Fronts.{Sort, mark_sort, first}
-use Rattle.c_parser.specs.Front.{kind_mark, mark_at}
-use Rattle.c_parser.specs.Fronts.{NoFront, ExpressionFront}
-use Rattle.c_parser.proofs.TakesLemmas.{greatest_first}
+use Rattle.c_expressions.specs.Front.{kind_mark, mark_at}
+use Rattle.c_expressions.specs.Fronts.{NoFront, ExpressionFront}
+use Rattle.c_expressions.proofs.TakesLemmas.{greatest_first}
 use Rattle.c_parser.proofs.FrontTokens.{mark_sorted, mark_is}
-use Rattle.c_parser.proofs.Insides.{expression_some}
+use Rattle.c_expressions.proofs.Insides.{expression_some}
 
 -- heights of lists
 pub first_low : {T : Type 0} (h : T → ℕ) (x : T) (xs : List T) (depth limit : ℕ) → depth + greatest (map h (x ∷ xs)) ≤ limit → depth + h x ≤ limit

@@ -14,10 +14,10 @@ use Rattle.c_syntax.specs.Derives.{Closing, Closed, Open}
 use Rattle.c_syntax.specs.Lookahead.{keyword_spec, kind_spec, spec_of}
 use Rattle.c_syntax.proofs.Rows.Fronts.{Sort, TypeWord, ElseWord, BreakWord, ContinueWord, ReturnWord, DoWord, IfWord, WhileWord, ForWord, SwitchWord, BraceOpens, SemicolonMark, keyword_sort, mark_sort, kind_sort, first}
 use Rattle.c_syntax.proofs.Rows.Statements.{Fits}
-use Rattle.c_parser.specs.Front.{kind_mark, kind_word, mark_at, word_at}
-use Rattle.c_parser.specs.Takes.{Ends}
+use Rattle.c_expressions.specs.Front.{kind_mark, kind_word, mark_at, word_at}
+use Rattle.c_parser.specs.StatementRows.{Ends}
 use Rattle.c_parser.specs.StatementFronts.{begins_statement}
-use Rattle.c_parser.proofs.TakesLemmas.{kind_marked, kind_worded}
+use Rattle.c_expressions.proofs.TakesLemmas.{kind_marked, kind_worded}
 
 pub mark_sorted : (m : Punct) (r : List Token) → mark_at r ≡ Some m → first r ≡ mark_sort m
 mark_sorted m [] e = absurd cc
@@ -82,29 +82,6 @@ kind_no_spec k n = refl
 pub no_spec : (r : List Token) → first r ≢ TypeWord → spec_of r ≡ None
 no_spec [] n = refl
 no_spec (t ∷ r) n = kind_no_spec t.kind n
-
-keyword_spec_none : (w : Keyword) → keyword_spec w ≡ None → keyword_sort w ≢ TypeWord
-keyword_spec_none keyword.Static h e = cc
-keyword_spec_none keyword.Void h e = cc
-keyword_spec_none keyword.Char h e = cc
-keyword_spec_none keyword.Short h e = cc
-keyword_spec_none keyword.Int h e = cc
-keyword_spec_none keyword.Signed h e = cc
-keyword_spec_none keyword.Unsigned h e = cc
-keyword_spec_none w h e = cc
-
-mark_no_type : (m : Punct) → mark_sort m ≢ TypeWord
-mark_no_type mark.Star e = cc
-mark_no_type m e = cc
-
-kind_spec_none : (k : TokenKind) → kind_spec k ≡ None → kind_sort k ≢ TypeWord
-kind_spec_none (token.Word w) h e = keyword_spec_none w h e
-kind_spec_none (token.Mark m) h e = mark_no_type m e
-kind_spec_none k h e = cc
-
-pub no_type : (r : List Token) → spec_of r ≡ None → first r ≢ TypeWord
-no_type [] h e = cc
-no_type (t ∷ r) h e = kind_spec_none t.kind h e
 
 -- what `is_some` says of a word of a type
 pub spec_stands : {r : Bool} {o : Option SpecWord} (b : List Token) → r ≡ is_some o → o ≡ spec_of b → r ≡ true → spec_of b ≢ None

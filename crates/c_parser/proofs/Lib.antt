@@ -1,15 +1,3 @@
-pub mod Refusals
-pub mod Arguments
-pub mod Firsts
-pub mod Nexts
-pub mod Parens
-pub mod Rows
-pub mod RowsRefuse
-pub mod Words
-pub mod Insides
-pub mod OperandsRefuse
-pub mod WholeWays
-pub mod TakesLemmas
 pub mod Lists
 pub mod Boxes
 pub mod FrontLemmas

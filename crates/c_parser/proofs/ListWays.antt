@@ -4,8 +4,8 @@ use Rattle.c_syntax.specs.declared.token.Token.{Token}
 use Rattle.c_syntax.specs.declared.token.Punct.{Punct}
 use Rattle.c_syntax.specs.declared.token.Punct.TheVariants as mark
 use Rattle.c_syntax.proofs.Rows.Fronts.{CommaMark, mark_sort}
-use Rattle.c_parser.specs.Front.{behind, mark_at}
-use Rattle.c_parser.specs.Fronts.{NoFront, OnlyTo, Then}
+use Rattle.c_expressions.specs.Front.{behind, mark_at}
+use Rattle.c_expressions.specs.Fronts.{NoFront, OnlyTo, Then}
 use Rattle.c_parser.specs.DeclarationFronts.{MoreOf, Ended, GoesOn, EndsAt}
 use Rattle.c_parser.proofs.FrontLemmas.{mark_found, one_leads, LeadsOn}
 use Rattle.c_parser.proofs.FrontMarks.{other_mark}

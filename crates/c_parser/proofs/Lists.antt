@@ -7,8 +7,8 @@ use Rattle.c_syntax.specs.SyntaxTree.{Expression, ItemTree, ParameterTree, Decla
 use Rattle.c_syntax.specs.Grammar.{AssignmentRow, IsMark, Derives}
 use Rattle.c_syntax.specs.Derives.{DerivesList, LastOfList, MoreOfList, DerivesItem, DerivesItems, LastItem, MoreItems, DerivesParameter, DerivesParameterList, LastParameter, MoreParameters, DerivesDeclaration, DerivesDeclarations, NoDeclaration, MoreDeclarations, DerivesExternal, DerivesUnit, LastExternal, MoreExternals}
 use Rattle.c_syntax.specs.Measures.{greatest}
-use Rattle.c_parser.specs.Takes.{Takes, IsOne, Behind}
-use Rattle.c_parser.proofs.TakesLemmas.{mapped, joined, greatest_more, one_before}
+use Rattle.c_expressions.specs.Takes.{Takes, IsOne, Behind}
+use Rattle.c_expressions.proofs.TakesLemmas.{mapped, joined, greatest_more, one_before}
 
 -- more tokens behind those of a list with a comma in it
 cut_more : (tokens a b c : List Token) (t : Token) → tokens ≡ a ++ t ∷ b → tokens ++ c ≡ a ++ t ∷ (b ++ c)

@@ -15,8 +15,8 @@ use Rattle.c_syntax.proofs.Rows.Fronts.{TypeWord, StarMark, AnyName, BracketOpen
 use Rattle.c_syntax.proofs.Rows.Initialisers.{array_first}
 use Rattle.c_syntax.proofs.Rows.Parameters.{name_first, stars_other}
 use Rattle.c_syntax.proofs.Rows.SpecsAndStars.{specs_first, star_first}
-use Rattle.c_parser.specs.Front.{behind, kind_mark, mark_at, name_at, kind_name, is_void_kind, is_close_kind, is_separator_kind, is_void_alone, is_void_word, is_separator_at}
-use Rattle.c_parser.specs.Fronts.{NoFront, OnlyTo, Then, One, SpecsFront, StarsFront}
+use Rattle.c_expressions.specs.Front.{behind, kind_mark, mark_at, name_at, kind_name, is_void_kind, is_close_kind, is_separator_kind, is_void_alone, is_void_word, is_separator_at}
+use Rattle.c_expressions.specs.Fronts.{NoFront, OnlyTo, Then, One, SpecsFront, StarsFront}
 use Rattle.c_parser.specs.DeclarationFronts.{EndsParameter, ArrayFront, ParametersFront, ParameterListFront, ParameterFront, NameFront, ArrayMarkFront, IsAnyName, Ended, GoesOn, Before, MoreParameters}
 use Rattle.c_parser.proofs.FrontTokens.{mark_sorted, no_spec}
 use Rattle.c_parser.proofs.FrontMarks.{first_low, others_low, mark_here}

@@ -15,13 +15,15 @@ use Rattle.c_syntax.proofs.Rows.Declarations.{declaration_first}
 use Rattle.c_syntax.proofs.Rows.Statements.{statements_other}
 use Rattle.c_syntax.proofs.Rows.Blocks.{statements_no_else, choices_no_else}
 use Rattle.c_syntax.proofs.Rows.UnitOne.{known}
-use Rattle.c_parser.specs.Front.{mark_at, word_at}
-use Rattle.c_parser.specs.Fronts.{DeclarationFront, Then, NoFront, OnlyTo}
+use Rattle.c_expressions.specs.Front.{mark_at, word_at}
+use Rattle.c_parser.specs.DeclarationFronts.{DeclarationFront}
+use Rattle.c_expressions.specs.Fronts.{Then, NoFront, OnlyTo}
 use Rattle.c_parser.specs.StatementFronts.{StatementFront, CaseFront, DefaultFront, PartFront, PartsFront, DeclarationsFront, StatementsFront, BodyFront}
 use Rattle.c_parser.proofs.FrontLemmas.{behind_one, word_found}
-use Rattle.c_parser.proofs.FrontTokens.{word_sorted, ends_fitting, no_else_word, no_spec, no_type}
+use Rattle.c_parser.proofs.FrontTokens.{word_sorted, ends_fitting, no_else_word, no_spec}
+use Rattle.c_expressions.proofs.WholeWays.{no_type}
 use Rattle.c_parser.proofs.StatementWays.{head_of, closed_front, brace_stands}
-use Rattle.c_parser.proofs.TakesLemmas.{greatest_first, one_behind}
+use Rattle.c_expressions.proofs.TakesLemmas.{greatest_first, one_behind}
 
 -- ---- declarations
 

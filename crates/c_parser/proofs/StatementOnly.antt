@@ -13,10 +13,12 @@ use Rattle.c_syntax.proofs.Rows.Declarations.{declaration_one}
 use Rattle.c_syntax.proofs.Rows.Statements.{for_head_one}
 use Rattle.c_syntax.proofs.Rows.Blocks.{statement_one}
 use Rattle.c_syntax.proofs.Rows.UnitOne.{known}
-use Rattle.c_parser.specs.Takes.{Takes, IsOne, Both, IsStatement}
-use Rattle.c_parser.specs.Fronts.{OnlyTo, DeclarationFront}
+use Rattle.c_expressions.specs.Takes.{Takes, IsOne, Both}
+use Rattle.c_parser.specs.StatementRows.{IsStatement}
+use Rattle.c_expressions.specs.Fronts.{OnlyTo}
+use Rattle.c_parser.specs.DeclarationFronts.{DeclarationFront}
 use Rattle.c_parser.specs.StatementFronts.{StatementFront, OptionalFront, ForHeadFront}
-use Rattle.c_parser.proofs.TakesLemmas.{one_behind}
+use Rattle.c_expressions.proofs.TakesLemmas.{one_behind}
 use Rattle.c_parser.proofs.FrontTokens.{fits_ends}
 
 pub statement_only : {depth : ℕ} {x : Statement} {b e : List Token} → Takes (IsStatement x e) b e → OnlyTo (StatementFront depth) b e

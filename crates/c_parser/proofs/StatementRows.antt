@@ -13,10 +13,10 @@ use Rattle.c_syntax.specs.Grammar.{ExpressionRow, ConditionalRow, IsMark, IsKeyw
 use Rattle.c_syntax.specs.Derives.{DerivesOptional, Closing, Closed, Open, IsTested, IsForHead, DerivesStatement, EmptyRule, EvaluateRule, BlockRule, BreakRule, ContinueRule, ReturnRule, DoRule, IfRule, IfElseRule, WhileRule, ForRule, SwitchRule, DerivesStatements, NoStatement, MoreStatements, DerivesChoices, NoChoice, CaseRule, DefaultRule, ChosenRule}
 use Rattle.c_syntax.specs.Measures.{statement_height, statements_height, choices_height}
 use Rattle.c_syntax.specs.SyntaxView.{body_of, part_before}
-use Rattle.c_parser.specs.Front.{word_at}
-use Rattle.c_parser.specs.Takes.{Takes, IsOne, Both, Ends, IsStatement}
-use Rattle.c_parser.specs.StatementRows.{tree_of, parts_of, IsBody, IsDoEnd}
-use Rattle.c_parser.proofs.TakesLemmas.{place_taken, one_before, one_behind, one_place}
+use Rattle.c_expressions.specs.Front.{word_at}
+use Rattle.c_expressions.specs.Takes.{Takes, IsOne, Both}
+use Rattle.c_parser.specs.StatementRows.{Ends, IsStatement, tree_of, parts_of, IsBody, IsDoEnd}
+use Rattle.c_expressions.proofs.TakesLemmas.{place_taken, one_before, one_behind, one_place}
 
 -- a statement that stands at the place of its tokens
 pub stated : (c : Closing) (f : ℕ → Statement) {R : List Token → Type 0} {k l : List Token} {at : ℕ} (r : Takes R k l) → length l < length k → at ≡ place_of k → Ends c l

@@ -11,10 +11,10 @@ use Rattle.c_syntax.specs.Grammar.{IsMark, IsKeyword, place_of}
 use Rattle.c_syntax.specs.Derives.{Closed, Open, IsTested, IsForHead, DerivesStatement, DerivesDeclarations, DerivesStatements, DerivesChoices, NoStatement}
 use Rattle.c_syntax.specs.Measures.{statements_height, choices_height, statement_height}
 use Rattle.c_syntax.specs.SyntaxView.{body_of, part_before}
-use Rattle.c_parser.specs.Front.{word_at}
-use Rattle.c_parser.specs.Takes.{Takes, IsOne, Both, IsStatement}
-use Rattle.c_parser.specs.StatementRows.{tree_of, parts_of, IsBody, IsDoEnd}
-use Rattle.c_parser.proofs.TakesLemmas.{mapped, joined, one_fewer}
+use Rattle.c_expressions.specs.Front.{word_at}
+use Rattle.c_expressions.specs.Takes.{Takes, IsOne, Both}
+use Rattle.c_parser.specs.StatementRows.{IsStatement, tree_of, parts_of, IsBody, IsDoEnd}
+use Rattle.c_expressions.proofs.TakesLemmas.{mapped, joined, one_fewer}
 use Rattle.c_parser.proofs.StatementRows.{stated, do_row, if_row, if_else_row, while_row, for_row, switch_row, block_row, placed, add, body_more, statements_more, height_add, join, parts_more, choices_more, height_join, chosen_row}
 
 -- a statement with the closing that it has
@@ -24,6 +24,9 @@ derived r = record { taken = r.taken; cut = r.cut; is = r.is.derives }
 -- a tree that equals one, and tokens that equal those that are left
 same_tree : {x z : Statement} {k l m : List Token} → z ≡ x → m ≡ l → Takes (IsStatement x l) k l → Takes (IsStatement z m) k m
 same_tree {x = x} {k = k} {l = l} {m = m} e h r = subst (λ v. Takes (IsStatement v m) k m) (sym e) (subst (λ v. Takes (IsStatement x v) k v) (sym h) r)
+
+pub same_taken : {x z : Statement} {k l : List Token} → z ≡ x → Takes (IsStatement x l) k l → Takes (IsStatement z l) k l
+same_taken e r = same_tree e refl r
 
 pub if_taken : {k l m n o : List Token} {at : ℕ} {e : Expression} {x z : Statement} → z ≡ If e x at → (0 < length k → at ≡ place_of k)
     → Takes (IsOne (IsKeyword keyword.If)) k l → Takes (λ a. IsTested [] a e) l m → Takes (IsStatement x n) m n → length m < length l → length n < length m → o ≡ n → (word_at n ≡ Some keyword.Else → ⊥)

@@ -6,23 +6,24 @@ use Rattle.c_syntax.specs.declared.token.Keyword.{Keyword}
 use Rattle.c_syntax.specs.declared.token.Keyword.TheVariants as keyword
 use Rattle.c_syntax.specs.declared.token.Punct.{Punct}
 use Rattle.c_syntax.specs.declared.token.Punct.TheVariants as mark
-use Rattle.c_syntax.specs.Grammar.{Row, ExpressionRow, IsMark, IsKeyword}
+use Rattle.c_syntax.specs.Grammar.{ExpressionRow, IsMark, IsKeyword}
 use Rattle.c_syntax.specs.Derives.{DerivesOptional, Closing, Closed, Open, IsTested, DerivesStatement}
 use Rattle.c_syntax.specs.Lookahead.{row_rank, next_mark, next_rank}
-use Rattle.c_syntax.specs.SyntaxTree.{Expression, Node, Statement, Empty, Evaluate, Block, Break, Continue, Return, DoWhile, If, IfElse, While, For, Switch}
+use Rattle.c_syntax.specs.SyntaxTree.{Expression, Statement, Empty, Evaluate, Block, Break, Continue, Return, DoWhile, If, IfElse, While, For, Switch}
 use Rattle.c_syntax.specs.Measures.{expression_height, optional_height, statement_height}
 use Rattle.c_syntax.proofs.Parsing.ExpressionOne.{ends_mark}
 use Rattle.c_syntax.proofs.Rows.Fronts.{Sort, BreakWord, ContinueWord, ReturnWord, DoWord, IfWord, WhileWord, ForWord, SwitchWord, AnyName, StarMark, ParenOpens, BracketOpens, BraceOpens, SemicolonMark, Others, first}
 use Rattle.c_syntax.proofs.Rows.Heads.{Head, EvaluateHead, BlockHead, BreakHead, ContinueHead, ReturnHead, DoHead, IfHead, IfElseHead, WhileHead, ForHead, SwitchHead, head_at}
 use Rattle.c_syntax.proofs.Rows.UnitOne.{known}
-use Rattle.c_parser.specs.Front.{behind, kind_mark, kind_word, mark_at, word_at}
-use Rattle.c_parser.specs.Takes.{Ends, IsOne, Both}
-use Rattle.c_parser.specs.Fronts.{Front, ExpressionFront, TestedFront, Then, One, NoFront}
-use Rattle.c_parser.specs.StatementFronts.{StatementFront, OptionalFront, DoTestFront, ForHeadFront, PartsFront, BodyFront, begins_statement}
+use Rattle.c_expressions.specs.Front.{behind, kind_mark, kind_word, mark_at, word_at}
+use Rattle.c_parser.specs.StatementRows.{Ends}
+use Rattle.c_expressions.specs.Takes.{IsOne, Both}
+use Rattle.c_expressions.specs.Fronts.{Front, ExpressionFront, Then, One, NoFront}
+use Rattle.c_parser.specs.StatementFronts.{TestedFront, StatementFront, OptionalFront, DoTestFront, ForHeadFront, PartsFront, BodyFront, begins_statement}
 use Rattle.c_parser.proofs.FrontLemmas.{behind_one, fails_as, second_fails, one_leads}
 use Rattle.c_parser.proofs.FrontTokens.{mark_sorted, word_sorted, mark_is, word_is, ends_fitting, no_semicolon, no_brace, leads, word_leads}
-use Rattle.c_parser.proofs.TakesLemmas.{gone, one_before, one_behind}
-use Rattle.c_parser.proofs.Insides.{expression_some}
+use Rattle.c_expressions.proofs.TakesLemmas.{gone, one_before, one_behind}
+use Rattle.c_expressions.proofs.Insides.{expression_some}
 
 pub tested_ways : (depth : ℕ) (b after : List Token) → TestedFront depth b after → Then (One (IsMark mark.OpenParen)) (Then (ExpressionFront ExpressionRow depth) (One (IsMark mark.CloseParen))) b after
 tested_ways depth b after f =

@@ -7,24 +7,23 @@ use Rattle.c_syntax.specs.SyntaxTree.{ParametersTree, ItemForm, FunctionSyntax, 
 use Rattle.c_syntax.specs.Grammar.{IsMark}
 use Rattle.c_syntax.specs.Derives.{DerivesForm, FunctionRule, PlainRule, ArrayFormRule, Closed, DerivesStatement, BlockRule, DerivesFunction, DerivesExternal, DerivesUnit, LastExternal, MoreExternals}
 use Rattle.c_syntax.specs.Measures.{greatest, parameters_height, item_form_height, external_height}
-use Rattle.c_syntax.specs.Source.{IsSource}
+use Rattle.c_syntax.specs.Source.{IsSource, NoSource}
 use Rattle.c_syntax.proofs.Rows.Fronts.{AnyName, ParenOpens, BracketOpens, first, same_tail}
 use Rattle.c_syntax.proofs.Rows.Given.{mark_first}
 use Rattle.c_syntax.proofs.Rows.Initialisers.{array_first}
 use Rattle.c_syntax.proofs.Rows.Parameters.{parameters_one, name_first}
 use Rattle.c_syntax.proofs.Rows.Externals.{external_one, name_other}
 use Rattle.c_syntax.proofs.Rows.UnitOne.{known}
-use Rattle.c_parser.specs.Front.{mark_at}
-use Rattle.c_parser.specs.Takes.{Takes}
-use Rattle.c_syntax.specs.Source.{NoSource}
-use Rattle.c_parser.specs.Fronts.{NoFront, OnlyTo, Then, One, SpecsFront, StarsFront, DeclarationFront}
-use Rattle.c_parser.specs.DeclarationFronts.{EndsForm, FormFront, MoreItems, Ended, GoesOn, ParametersFront, IsAnyName}
+use Rattle.c_expressions.specs.Front.{mark_at}
+use Rattle.c_expressions.specs.Takes.{Takes}
+use Rattle.c_expressions.specs.Fronts.{NoFront, OnlyTo, Then, One, SpecsFront, StarsFront}
+use Rattle.c_parser.specs.DeclarationFronts.{DeclarationFront, EndsForm, FormFront, MoreItems, Ended, GoesOn, ParametersFront, IsAnyName}
 use Rattle.c_parser.specs.StatementFronts.{StatementFront}
 use Rattle.c_parser.specs.UnitFronts.{ExternalFront, IsListed, ListedFront, DeclarationEnd, FunctionEnd, RestFront, AsDeclaration, AsFunction, UnitFront, MoreUnits, EndsHere, OneMore}
 use Rattle.c_parser.proofs.FrontLemmas.{mark_found, first_fails, second_fails}
 use Rattle.c_parser.proofs.FrontTokens.{no_spec, mark_sorted}
 use Rattle.c_parser.proofs.FrontMarks.{mark_here, not_mark, other_mark}
-use Rattle.c_parser.proofs.TakesLemmas.{greatest_first}
+use Rattle.c_expressions.proofs.TakesLemmas.{greatest_first}
 use Rattle.c_parser.proofs.DeclarationWays.{declaration_ways, items_ways, item_ways, no_initial_leads}
 use Rattle.c_parser.proofs.StatementWays.{block_ways}
 

@@ -12,15 +12,15 @@ use Rattle.c_syntax.proofs.Parsing.ExpressionOne.{ends_mark}
 use Rattle.c_syntax.proofs.Rows.Fronts.{BraceCloses, first}
 use Rattle.c_syntax.proofs.Rows.Given.{expression_first}
 use Rattle.c_syntax.proofs.Rows.UnitOne.{known}
-use Rattle.c_parser.specs.Front.{behind, mark_at}
-use Rattle.c_parser.specs.Fronts.{NoFront, OnlyTo, Then, ExpressionFront}
+use Rattle.c_expressions.specs.Front.{behind, mark_at}
+use Rattle.c_expressions.specs.Fronts.{NoFront, OnlyTo, Then, ExpressionFront}
 use Rattle.c_parser.specs.DeclarationFronts.{ValuesFront, BracedFront, Ended, GoesOn, EndsValues, MoreValues}
 use Rattle.c_parser.proofs.FrontLemmas.{one_leads, only_stays}
-use Rattle.c_parser.proofs.TakesLemmas.{greatest_first}
+use Rattle.c_expressions.proofs.TakesLemmas.{greatest_first}
 use Rattle.c_parser.proofs.FrontTokens.{mark_sorted}
 use Rattle.c_parser.proofs.FrontMarks.{first_low, others_low, mark_here, other_mark, ends_at_mark}
 use Rattle.c_parser.proofs.ListWays.{no_comma_ends}
-use Rattle.c_parser.proofs.Insides.{expression_some}
+use Rattle.c_expressions.proofs.Insides.{expression_some}
 
 last_ends : (last after : List Token) → IsLastComma last → mark_at after ≡ Some mark.CloseBrace → Ends AssignmentRow (last ++ after)
 last_ends last after (inl e) ends = subst (λ l. Ends AssignmentRow (l ++ after)) (sym e) (ends_at_mark AssignmentRow mark.CloseBrace after ends (omega arith))

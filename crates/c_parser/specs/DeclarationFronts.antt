@@ -5,10 +5,10 @@ use Rattle.c_syntax.specs.declared.token.Punct.{Punct}
 use Rattle.c_syntax.specs.declared.token.Punct.TheVariants as mark
 use Rattle.c_syntax.specs.SyntaxTree.{Expression}
 use Rattle.c_syntax.specs.Grammar.{ConditionalRow, IsMark}
-use Rattle.c_syntax.specs.Derives.{IsName, IsLastComma, DerivesOptional, DerivesList, DerivesInitial, DerivesArray, DerivesArrayMark, DerivesName, DerivesParameter, DerivesParameterList, DerivesParameters, DerivesForm, DerivesInitialiser, DerivesItem, DerivesItems}
-use Rattle.c_syntax.specs.Measures.{greatest, expression_height, optional_height, array_height, parameter_height, parameters_height, item_form_height, initial_height, item_height}
-use Rattle.c_parser.specs.Front.{mark_at, name_at}
-use Rattle.c_parser.specs.Fronts.{Front, Then, One}
+use Rattle.c_syntax.specs.Derives.{IsName, IsLastComma, DerivesOptional, DerivesList, DerivesInitial, DerivesArray, DerivesArrayMark, DerivesName, DerivesParameter, DerivesParameterList, DerivesParameters, DerivesForm, DerivesInitialiser, DerivesItem, DerivesItems, DerivesDeclaration}
+use Rattle.c_syntax.specs.Measures.{greatest, expression_height, optional_height, array_height, parameter_height, parameters_height, item_form_height, initial_height, item_height, declaration_height}
+use Rattle.c_expressions.specs.Front.{mark_at, name_at}
+use Rattle.c_expressions.specs.Fronts.{Front, Then, One}
 
 -- what may stand behind an item, and behind a parameter
 abbrev pub EndsItem : List Token → Type 0
@@ -106,3 +106,6 @@ pub record EndsValues (before after : List Token) : Type 0 where
 
 abbrev pub MoreValues : ℕ → List Token → List Token → Type 0
 MoreValues depth = MoreOf EndsValues (ValuesFront depth)
+
+abbrev pub DeclarationFront : ℕ → List Token → List Token → Type 0
+DeclarationFront depth = Front DerivesDeclaration (λ _. Unit {0}) declaration_height depth

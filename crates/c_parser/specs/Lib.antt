@@ -1,11 +1,6 @@
-pub mod Refusals
 pub mod ParseFaults
-pub mod Front
-pub mod Operators
-pub mod Parses
-pub mod Takes
+pub mod DeclarationRows
 pub mod StatementRows
-pub mod Fronts
 pub mod DeclarationFronts
 pub mod StatementFronts
 pub mod UnitFronts

@@ -1,5 +1,5 @@
 -- What the parts of statements take, and the tree of what stands between the braces of a switch.
-use Rattle.std.specs.Prelude.{List, [], ◌∷◌}
+use Rattle.std.specs.Prelude.{◌≢◌, List, [], ◌∷◌, Some}
 use Rattle.c_syntax.specs.declared.token.Token.{Token}
 use Rattle.c_syntax.specs.declared.token.Keyword.TheVariants as keyword
 use Rattle.c_syntax.specs.declared.token.Punct.TheVariants as mark
@@ -7,13 +7,25 @@ use Rattle.c_syntax.specs.declared.stmt.Stmt.{Stmt}
 use Rattle.c_syntax.specs.declared.stmt.SwitchPart.{SwitchPart}
 use Rattle.c_syntax.specs.SyntaxTree.{Expression, DeclarationTree, Statement, Statements, Choices, no_choice}
 use Rattle.c_syntax.specs.Grammar.{IsMark, IsKeyword}
-use Rattle.c_syntax.specs.Derives.{IsTested, DerivesDeclarations, DerivesStatements}
+use Rattle.c_syntax.specs.Derives.{IsTested, DerivesDeclarations, Closing, Closed, Open, DerivesStatement, DerivesStatements}
 use Rattle.c_syntax.specs.SyntaxView.{statement_of, part_before}
-use Rattle.c_parser.specs.Takes.{Both, IsOne}
+use Rattle.c_expressions.specs.Front.{word_at}
+use Rattle.c_expressions.specs.Takes.{Both, IsOne}
 
 -- a statement
 abbrev pub tree_of : Stmt → Statement
 tree_of s = statement_of s.kind s.at
+
+-- before `else` stands no statement that may yet take it
+abbrev pub Ends : Closing → List Token → Type 0
+Ends Closed after = Unit {0}
+Ends Open after = word_at after ≢ Some keyword.Else
+
+-- tokens are a statement of either row, and an `else` behind them belongs to an outer `if`
+pub record IsStatement (tree : Statement) (after taken : List Token) : Type 0 where
+  pub closing : Closing
+  pub derives : DerivesStatement closing taken tree
+  pub ends : Ends closing after
 
 -- what stands between the braces of a switch
 abbrev pub parts_of : List SwitchPart → Choices

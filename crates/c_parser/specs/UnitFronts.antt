@@ -6,7 +6,7 @@ use Rattle.c_syntax.specs.SyntaxTree.{SpecsTree, ParametersTree, Parameters, Uni
 use Rattle.c_syntax.specs.Grammar.{IsMark, AreStars}
 use Rattle.c_syntax.specs.Derives.{IsName, DerivesSpecs, DerivesForm, DerivesExternal, DerivesUnit}
 use Rattle.c_syntax.specs.Measures.{greatest, parameters_height, external_height, greatest_height}
-use Rattle.c_parser.specs.Fronts.{Front, Then, One}
+use Rattle.c_expressions.specs.Fronts.{Front, Then, One}
 use Rattle.c_parser.specs.DeclarationFronts.{FormFront, InitialiserFront, MoreItems}
 use Rattle.c_parser.specs.StatementFronts.{BodyFront}
 

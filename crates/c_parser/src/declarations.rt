@@ -1,467 +1,462 @@
 //! The rows of declarations: items, parameters and initialisers.
 ghost use Rattle.std.specs.Prelude.{◌≡◌, ◌≢◌, ◌⊎◌, ◌+◌, ◌<◌, ◌≤◌, false, Some, length, map, IfOk, IfErr, IsTrue};
-ghost use Rattle.c_parser.specs.Front.{behind, mark_at};
+ghost use Rattle.c_expressions.specs.Front.{behind, mark_at};
 ghost use Rattle.c_syntax.specs.declared.token.Punct.TheVariants as mark;
 ghost use Rattle.c_syntax.specs.SyntaxTree.{Braced};
 ghost use Rattle.c_syntax.specs.Grammar.{ConditionalRow, IsMark, place_of};
 ghost use Rattle.c_syntax.specs.Derives.{IsName, DerivesSpecs, DerivesOptional, DerivesList, DerivesInitial, DerivesArray, DerivesArrayMark, DerivesName, DerivesParameter, DerivesParameterList, DerivesParameters, DerivesForm, DerivesInitialiser, DerivesItem, DerivesItems, DerivesDeclaration, IsLastComma};
 ghost use Rattle.c_syntax.specs.Measures.{greatest, expression_height, optional_height, array_height, parameter_height, parameters_height, item_form_height, initial_height, item_height, declaration_height};
 ghost use Rattle.c_syntax.specs.SyntaxView.{specs_of, expression_of, brackets_of, array_of, parameter_of, parameters_of, item_form_of, initial_of, item_of, declaration_of};
-ghost use Rattle.c_parser.specs.Fronts.{NoFront, OnlyTo, Then, One, DeclarationFront};
-ghost use Rattle.c_parser.specs.Refusals.{Refuses};
-ghost use Rattle.c_parser.specs.DeclarationFronts.{ItemFront, FormFront, ArrayFront, LengthFront, InitialiserFront, BracedFront, ValuesFront, ParametersFront, ParameterListFront, ParameterFront, NameFront, ArrayMarkFront, IsAnyName, MoreItems};
-ghost use Rattle.c_parser.specs.Takes.{Takes, IsOne, Both, Behind, IsItemFront, ListGoesOn};
+ghost use Rattle.c_expressions.specs.Fronts.{NoFront, OnlyTo, Then, One};
+ghost use Rattle.c_parser.specs.DeclarationFronts.{DeclarationFront, ItemFront, FormFront, ArrayFront, LengthFront, InitialiserFront, BracedFront, ValuesFront, ParametersFront, ParameterListFront, ParameterFront, NameFront, ArrayMarkFront, IsAnyName, MoreItems};
+ghost use Rattle.c_expressions.specs.Refusals.{Refuses};
+ghost use Rattle.c_expressions.specs.Takes.{Takes, IsOne, Both, Behind};
+ghost use Rattle.c_parser.specs.DeclarationRows.{IsItemFront, ListGoesOn};
 
-use crate::fault::Refusal;
-use crate::parser::Parser;
+use c_expressions::{Parser, Refusal, Tall};
 use c_syntax::{Brackets, Decl, Expr, Init, Item, ItemKind, Keyword, Param, Params, Punct, Specs};
 use word_base::{Items, Text};
-
-/// A part of a tree, with its height.
-#[derive(Drop)]
-pub(crate) struct Tall<T> {
-    pub(crate) tree: T,
-    pub(crate) height: u32,
-}
 
 /// The height of the row `specs` and of the row `stars`.
 const LEAF: u32 = 1;
 
-impl<'a> Parser<'a> {
-    /// The row `declaration`, under so many nodes.
-    pub(crate) fn declaration(&mut self, depth: u32) -> Result<Tall<Decl>, Refusal>
-        requires { depth < 198 }
-        ensures tree { IfOk result (λ p. Takes (λ all. DerivesDeclaration all (declaration_of p.tree)) self.old.cursor self.new.cursor) }
-        ensures height { IfOk result (λ p. p.height ≡ declaration_height (declaration_of p.tree)) }
-        ensures room { IfOk result (λ p. depth + p.height ≤ 200) }
-        ensures fewer { IfOk result (λ _. length self.new.cursor < length self.old.cursor) }
-        ensures refused { IfErr result (Refuses (NoFront (DeclarationFront depth) self.old.cursor)) }
-    {
-        let specs = self.whole_specs()?;
-        let first = self.item(depth + 1)?;
-        self.declaration_from(specs, first, depth)
-    }
+/// The row `declaration`, under so many nodes.
+pub(crate) fn declaration(parser: &mut Parser<'_>, depth: u32) -> Result<Tall<Decl>, Refusal>
+    requires { depth < 198 }
+    ensures tree { IfOk result (λ p. Takes (λ all. DerivesDeclaration all (declaration_of p.tree)) parser.old.cursor parser.new.cursor) }
+    ensures height { IfOk result (λ p. p.height ≡ declaration_height (declaration_of p.tree)) }
+    ensures room { IfOk result (λ p. depth + p.height ≤ 200) }
+    ensures fewer { IfOk result (λ _. length parser.new.cursor < length parser.old.cursor) }
+    ensures refused { IfErr result (Refuses (NoFront (DeclarationFront depth) parser.old.cursor)) }
+{
+    let specs = parser.whole_specs()?;
+    let first = item(parser, depth + 1)?;
+    declaration_from(parser, specs, first, depth)
+}
 
-    /// The row `declaration` behind its first item.
-    pub(crate) fn declaration_from(
-        &mut self,
-        specs: Specs,
-        first: Tall<Item>,
-        depth: u32,
-    ) -> Result<Tall<Decl>, Refusal>
-        requires low { depth < 198 }
-        requires first_height { first.height ≡ item_height (item_of first.tree) }
-        requires first_room { depth + 1 + first.height ≤ 200 }
-        ensures tree { IfOk result (λ p. Takes (Behind (Both (λ a. DerivesSpecs a (specs_of specs)) (λ a. DerivesItem a (item_of first.tree))) (λ all. DerivesDeclaration all (declaration_of p.tree))) self.old.cursor self.new.cursor) }
-        ensures height { IfOk result (λ p. p.height ≡ declaration_height (declaration_of p.tree)) }
-        ensures room { IfOk result (λ p. depth + p.height ≤ 200) }
-        ensures fewer { IfOk result (λ _. length self.new.cursor < length self.old.cursor) }
-        ensures refused { IfErr result (Refuses (NoFront (Then (MoreItems (depth + 1)) (One (IsMark mark.Semicolon))) self.old.cursor)) }
-    {
-        let at = specs.at;
-        let items = self.items_from(first, depth + 1)?;
-        self.cursor.expect(Punct::Semicolon)?;
-        Ok(Tall {
-            tree: Decl {
-                specs,
-                items: Items::new(items.tree),
-                at,
-            },
-            height: items.height + 1,
-        })
-    }
+/// The row `declaration` behind its first item.
+pub(crate) fn declaration_from(
+    parser: &mut Parser<'_>,
+    specs: Specs,
+    first: Tall<Item>,
+    depth: u32,
+) -> Result<Tall<Decl>, Refusal>
+    requires low { depth < 198 }
+    requires first_height { first.height ≡ item_height (item_of first.tree) }
+    requires first_room { depth + 1 + first.height ≤ 200 }
+    ensures tree { IfOk result (λ p. Takes (Behind (Both (λ a. DerivesSpecs a (specs_of specs)) (λ a. DerivesItem a (item_of first.tree))) (λ all. DerivesDeclaration all (declaration_of p.tree))) parser.old.cursor parser.new.cursor) }
+    ensures height { IfOk result (λ p. p.height ≡ declaration_height (declaration_of p.tree)) }
+    ensures room { IfOk result (λ p. depth + p.height ≤ 200) }
+    ensures fewer { IfOk result (λ _. length parser.new.cursor < length parser.old.cursor) }
+    ensures refused { IfErr result (Refuses (NoFront (Then (MoreItems (depth + 1)) (One (IsMark mark.Semicolon))) parser.old.cursor)) }
+{
+    let at = specs.at;
+    let items = items_from(parser, first, depth + 1)?;
+    parser.cursor.expect(Punct::Semicolon)?;
+    Ok(Tall {
+        tree: Decl {
+            specs,
+            items: Items::new(items.tree),
+            at,
+        },
+        height: items.height + 1,
+    })
+}
 
-    // The items of a declaration behind its first.
-    fn items_from(&mut self, first: Tall<Item>, depth: u32) -> Result<Tall<Vec<Item>>, Refusal>
-        requires low { depth < 199 }
-        requires first_height { first.height ≡ item_height (item_of first.tree) }
-        requires first_room { depth + first.height ≤ 200 }
-        ensures tree { IfOk result (λ p. Takes (Behind (λ a. DerivesItem a (item_of first.tree)) (λ all. DerivesItems all (map item_of p.tree.items))) self.old.cursor self.new.cursor) }
-        ensures height { IfOk result (λ p. p.height ≡ greatest (map item_height (map item_of p.tree.items))) }
-        ensures high { IfOk result (λ p. 1 ≤ p.height) }
-        ensures room { IfOk result (λ p. depth + p.height ≤ 200) }
-        ensures no_more { IfOk result (λ _. length self.new.cursor ≤ length self.old.cursor) }
-        ensures only { IfOk result (λ _. OnlyTo (MoreItems depth) self.old.cursor self.new.cursor) }
-        ensures refused { IfErr result (Refuses (NoFront (MoreItems depth) self.old.cursor)) }
-    {
-        let mut highest = first.height;
-        let mut items = Vec::new(self.alloc);
-        items.push(first.tree)?;
-        while self.cursor.take(Punct::Comma) {
-            let next = self.item(depth)?;
-            highest = highest.max(next.height);
-            items.push(next.tree)?;
-        }
-        Ok(Tall {
-            tree: items,
-            height: highest,
-        })
+// The items of a declaration behind its first.
+fn items_from(
+    parser: &mut Parser<'_>,
+    first: Tall<Item>,
+    depth: u32,
+) -> Result<Tall<Vec<Item>>, Refusal>
+    requires low { depth < 199 }
+    requires first_height { first.height ≡ item_height (item_of first.tree) }
+    requires first_room { depth + first.height ≤ 200 }
+    ensures tree { IfOk result (λ p. Takes (Behind (λ a. DerivesItem a (item_of first.tree)) (λ all. DerivesItems all (map item_of p.tree.items))) parser.old.cursor parser.new.cursor) }
+    ensures height { IfOk result (λ p. p.height ≡ greatest (map item_height (map item_of p.tree.items))) }
+    ensures high { IfOk result (λ p. 1 ≤ p.height) }
+    ensures room { IfOk result (λ p. depth + p.height ≤ 200) }
+    ensures no_more { IfOk result (λ _. length parser.new.cursor ≤ length parser.old.cursor) }
+    ensures only { IfOk result (λ _. OnlyTo (MoreItems depth) parser.old.cursor parser.new.cursor) }
+    ensures refused { IfErr result (Refuses (NoFront (MoreItems depth) parser.old.cursor)) }
+{
+    let mut highest = first.height;
+    let mut items = Vec::new(parser.alloc);
+    items.push(first.tree)?;
+    while parser.cursor.take(Punct::Comma) {
+        let next = item(parser, depth)?;
+        highest = highest.max(next.height);
+        items.push(next.tree)?;
     }
+    Ok(Tall {
+        tree: items,
+        height: highest,
+    })
+}
 
-    // The row `item`.
-    fn item(&mut self, depth: u32) -> Result<Tall<Item>, Refusal>
-        requires { depth < 199 }
-        ensures tree { IfOk result (λ p. Takes (λ all. DerivesItem all (item_of p.tree)) self.old.cursor self.new.cursor) }
-        ensures height { IfOk result (λ p. p.height ≡ item_height (item_of p.tree)) }
-        ensures room { IfOk result (λ p. depth + p.height ≤ 200) }
-        ensures fewer { IfOk result (λ _. length self.new.cursor < length self.old.cursor) }
-        ensures only { IfOk result (λ _. OnlyTo (ItemFront depth) self.old.cursor self.new.cursor) }
-        ensures refused { IfErr result (Refuses (NoFront (ItemFront depth) self.old.cursor)) }
-    {
-        let at = self.cursor.place();
-        let stars = self.whole_stars();
-        let name = self.name()?;
-        let kind = self.item_kind(depth + 1)?;
-        self.item_from(at, stars, name, kind, depth)
+// The row `item`.
+fn item(parser: &mut Parser<'_>, depth: u32) -> Result<Tall<Item>, Refusal>
+    requires { depth < 199 }
+    ensures tree { IfOk result (λ p. Takes (λ all. DerivesItem all (item_of p.tree)) parser.old.cursor parser.new.cursor) }
+    ensures height { IfOk result (λ p. p.height ≡ item_height (item_of p.tree)) }
+    ensures room { IfOk result (λ p. depth + p.height ≤ 200) }
+    ensures fewer { IfOk result (λ _. length parser.new.cursor < length parser.old.cursor) }
+    ensures only { IfOk result (λ _. OnlyTo (ItemFront depth) parser.old.cursor parser.new.cursor) }
+    ensures refused { IfErr result (Refuses (NoFront (ItemFront depth) parser.old.cursor)) }
+{
+    let at = parser.cursor.place();
+    let stars = parser.whole_stars();
+    let name = name(parser)?;
+    let kind = item_kind(parser, depth + 1)?;
+    item_from(parser, at, stars, name, kind, depth)
+}
+
+/// A name.
+pub(crate) fn name(parser: &mut Parser<'_>) -> Result<Text, Refusal>
+    ensures tree { IfOk result (λ name. Takes (IsOne (IsName name)) parser.old.cursor parser.new.cursor) }
+    ensures fewer { IfOk result (λ _. length parser.new.cursor < length parser.old.cursor) }
+    ensures refused { IfErr result (Refuses (NoFront (One IsAnyName) parser.old.cursor)) }
+{
+    match parser.cursor.take_name() {
+        Ok(name) => Ok(Text::copy_of(parser.alloc, name)?),
+        Err(fault) => Err(fault),
     }
+}
 
-    /// A name.
-    pub(crate) fn name(&mut self) -> Result<Text, Refusal>
-        ensures tree { IfOk result (λ name. Takes (IsOne (IsName name)) self.old.cursor self.new.cursor) }
-        ensures fewer { IfOk result (λ _. length self.new.cursor < length self.old.cursor) }
-        ensures refused { IfErr result (Refuses (NoFront (One IsAnyName) self.old.cursor)) }
-    {
-        match self.cursor.take_name() {
-            Ok(name) => Ok(Text::copy_of(self.alloc, name)?),
-            Err(fault) => Err(fault),
-        }
+/// The row `item` behind its name and what follows it. The item stands at its first star, or else at its name.
+pub(crate) fn item_from(
+    parser: &mut Parser<'_>,
+    at: u32,
+    stars: u32,
+    name: Text,
+    kind: Tall<ItemKind>,
+    depth: u32,
+) -> Result<Tall<Item>, Refusal>
+    requires low { depth < 199 }
+    requires kind_height { kind.height ≡ item_form_height (item_form_of kind.tree) }
+    requires kind_room { depth + 1 + kind.height ≤ 200 }
+    ensures tree { IfOk result (λ p. Takes (Behind (IsItemFront stars name (item_form_of kind.tree) at) (λ all. DerivesItem all (item_of p.tree))) parser.old.cursor parser.new.cursor) }
+    ensures height { IfOk result (λ p. p.height ≡ item_height (item_of p.tree)) }
+    ensures room { IfOk result (λ p. depth + p.height ≤ 200) }
+    ensures no_more { IfOk result (λ _. length parser.new.cursor ≤ length parser.old.cursor) }
+    ensures only { IfOk result (λ _. OnlyTo (InitialiserFront (depth + 1)) parser.old.cursor parser.new.cursor) }
+    ensures refused { IfErr result (Refuses (NoFront (InitialiserFront (depth + 1)) parser.old.cursor)) }
+{
+    let init = initialiser(parser, depth + 1)?;
+    let parts = LEAF.max(kind.height).max(init.height);
+    Ok(Tall {
+        tree: Item {
+            stars,
+            name,
+            kind: kind.tree,
+            init: init.tree,
+            at,
+        },
+        height: parts + 1,
+    })
+}
+
+/// What stands behind the name of an item, if anything.
+pub(crate) fn item_kind(parser: &mut Parser<'_>, depth: u32) -> Result<Tall<ItemKind>, Refusal>
+    requires { depth ≤ 200 }
+    ensures tree { IfOk result (λ p. Takes (λ all. DerivesForm all (item_form_of p.tree)) parser.old.cursor parser.new.cursor) }
+    ensures height { IfOk result (λ p. p.height ≡ item_form_height (item_form_of p.tree)) }
+    ensures room { IfOk result (λ p. depth + p.height ≤ 200) }
+    ensures no_more { IfOk result (λ _. length parser.new.cursor ≤ length parser.old.cursor) }
+    ensures only { IfOk result (λ _. OnlyTo (FormFront depth) parser.old.cursor parser.new.cursor) }
+    ensures refused { IfErr result (Refuses (NoFront (FormFront depth) parser.old.cursor)) }
+{
+    if parser.cursor.take(Punct::OpenParen) {
+        let params = params(parser, depth)?;
+        parser.cursor.expect(Punct::CloseParen)?;
+        return Ok(Tall {
+            tree: ItemKind::Function(params.tree),
+            height: params.height,
+        });
     }
-
-    /// The row `item` behind its name and what follows it. The item stands at its first star, or else at its name.
-    pub(crate) fn item_from(
-        &mut self,
-        at: u32,
-        stars: u32,
-        name: Text,
-        kind: Tall<ItemKind>,
-        depth: u32,
-    ) -> Result<Tall<Item>, Refusal>
-        requires low { depth < 199 }
-        requires kind_height { kind.height ≡ item_form_height (item_form_of kind.tree) }
-        requires kind_room { depth + 1 + kind.height ≤ 200 }
-        ensures tree { IfOk result (λ p. Takes (Behind (IsItemFront stars name (item_form_of kind.tree) at) (λ all. DerivesItem all (item_of p.tree))) self.old.cursor self.new.cursor) }
-        ensures height { IfOk result (λ p. p.height ≡ item_height (item_of p.tree)) }
-        ensures room { IfOk result (λ p. depth + p.height ≤ 200) }
-        ensures no_more { IfOk result (λ _. length self.new.cursor ≤ length self.old.cursor) }
-        ensures only { IfOk result (λ _. OnlyTo (InitialiserFront (depth + 1)) self.old.cursor self.new.cursor) }
-        ensures refused { IfErr result (Refuses (NoFront (InitialiserFront (depth + 1)) self.old.cursor)) }
-    {
-        let init = self.initialiser(depth + 1)?;
-        let parts = LEAF.max(kind.height).max(init.height);
-        Ok(Tall {
-            tree: Item {
-                stars,
-                name,
-                kind: kind.tree,
-                init: init.tree,
-                at,
-            },
-            height: parts + 1,
-        })
-    }
-
-    /// What stands behind the name of an item, if anything.
-    pub(crate) fn item_kind(&mut self, depth: u32) -> Result<Tall<ItemKind>, Refusal>
-        requires { depth ≤ 200 }
-        ensures tree { IfOk result (λ p. Takes (λ all. DerivesForm all (item_form_of p.tree)) self.old.cursor self.new.cursor) }
-        ensures height { IfOk result (λ p. p.height ≡ item_form_height (item_form_of p.tree)) }
-        ensures room { IfOk result (λ p. depth + p.height ≤ 200) }
-        ensures no_more { IfOk result (λ _. length self.new.cursor ≤ length self.old.cursor) }
-        ensures only { IfOk result (λ _. OnlyTo (FormFront depth) self.old.cursor self.new.cursor) }
-        ensures refused { IfErr result (Refuses (NoFront (FormFront depth) self.old.cursor)) }
-    {
-        if self.cursor.take(Punct::OpenParen) {
-            let params = self.params(depth)?;
-            self.cursor.expect(Punct::CloseParen)?;
-            return Ok(Tall {
-                tree: ItemKind::Function(params.tree),
-                height: params.height,
-            });
-        }
-        if self.cursor.stands(Punct::OpenBracket) {
-            let brackets = self.brackets(depth)?;
-            return Ok(Tall {
-                tree: ItemKind::Array(brackets.tree),
-                height: brackets.height,
-            });
-        }
-        Ok(Tall {
-            tree: ItemKind::Plain,
-            height: 0,
-        })
-    }
-
-    // `[`, a length where there is one, and `]`.
-    fn brackets(&mut self, depth: u32) -> Result<Tall<Brackets>, Refusal>
-        requires { depth ≤ 200 }
-        ensures tree { IfOk result (λ p. Takes (λ all. DerivesArray all (brackets_of p.tree)) self.old.cursor self.new.cursor) }
-        ensures height { IfOk result (λ p. p.height ≡ optional_height (brackets_of p.tree)) }
-        ensures room { IfOk result (λ p. depth + p.height ≤ 200) }
-        ensures fewer { IfOk result (λ _. length self.new.cursor < length self.old.cursor) }
-        ensures only { IfOk result (λ _. OnlyTo (ArrayFront depth) self.old.cursor self.new.cursor) }
-        ensures refused { IfErr result (Refuses (NoFront (ArrayFront depth) self.old.cursor)) }
-    {
-        self.cursor.expect(Punct::OpenBracket)?;
-        let length = self.length(depth)?;
-        self.cursor.expect(Punct::CloseBracket)?;
-        Ok(length)
-    }
-
-    // A length before `]`, where there is one.
-    fn length(&mut self, depth: u32) -> Result<Tall<Brackets>, Refusal>
-        requires { depth ≤ 200 }
-        ensures tree { IfOk result (λ p. Takes (λ all. DerivesOptional ConditionalRow all (brackets_of p.tree)) self.old.cursor self.new.cursor) }
-        ensures height { IfOk result (λ p. p.height ≡ optional_height (brackets_of p.tree)) }
-        ensures room { IfOk result (λ p. depth + p.height ≤ 200) }
-        ensures no_more { IfOk result (λ _. length self.new.cursor ≤ length self.old.cursor) }
-        ensures only { IfOk result (λ _. OnlyTo (LengthFront depth) self.old.cursor self.new.cursor) }
-        ensures refused { IfErr result (Refuses (NoFront (LengthFront depth) self.old.cursor)) }
-    {
-        if self.cursor.stands(Punct::CloseBracket) {
-            return Ok(Tall {
-                tree: Brackets::Unsized,
-                height: 0,
-            });
-        }
-        self.allow(0, depth)?;
-        let length = self.whole_conditional(depth)?;
-        Ok(Tall {
-            tree: Brackets::Sized(length.tree),
-            height: length.height,
-        })
-    }
-
-    // `=` and an initialiser, where there are.
-    fn initialiser(&mut self, depth: u32) -> Result<Tall<Option<Init>>, Refusal>
-        requires { depth ≤ 200 }
-        ensures tree { IfOk result (λ p. Takes (λ all. DerivesInitialiser all (initial_of p.tree)) self.old.cursor self.new.cursor) }
-        ensures height { IfOk result (λ p. p.height ≡ initial_height (initial_of p.tree)) }
-        ensures room { IfOk result (λ p. depth + p.height ≤ 200) }
-        ensures no_more { IfOk result (λ _. length self.new.cursor ≤ length self.old.cursor) }
-        ensures only { IfOk result (λ _. OnlyTo (InitialiserFront depth) self.old.cursor self.new.cursor) }
-        ensures refused { IfErr result (Refuses (NoFront (InitialiserFront depth) self.old.cursor)) }
-    {
-        if !self.cursor.take(Punct::Assign) {
-            return Ok(Tall {
-                tree: None,
-                height: 0,
-            });
-        }
-        if self.cursor.stands(Punct::OpenBrace) {
-            let at = self.cursor.place();
-            let values = self.braced(depth)?;
-            return Ok(Tall {
-                tree: Some(Init::Braced {
-                    values: values.tree,
-                    at,
-                }),
-                height: values.height,
-            });
-        }
-        self.allow(0, depth)?;
-        let value = self.whole_assignment(depth)?;
-        Ok(Tall {
-            tree: Some(Init::One(value.tree)),
-            height: value.height,
-        })
-    }
-
-    // `{`, values, perhaps a comma, and `}`.
-    fn braced(&mut self, depth: u32) -> Result<Tall<Items<Expr>>, Refusal>
-        requires { depth ≤ 200 }
-        ensures tree { IfOk result (λ p. Takes (λ all. DerivesInitial all (Braced (map expression_of p.tree) (place_of self.old.cursor))) self.old.cursor self.new.cursor) }
-        ensures height { IfOk result (λ p. p.height ≡ 1 + greatest (map expression_height (map expression_of p.tree))) }
-        ensures room { IfOk result (λ p. depth + p.height ≤ 200) }
-        ensures fewer { IfOk result (λ _. length self.new.cursor < length self.old.cursor) }
-        ensures only { IfOk result (λ _. OnlyTo (BracedFront depth) self.old.cursor self.new.cursor) }
-        ensures refused { IfErr result (Refuses (NoFront (BracedFront depth) self.old.cursor)) }
-    {
-        self.allow(1, depth)?;
-        self.cursor.expect(Punct::OpenBrace)?;
-        let values = self.values(depth + 1)?;
-        self.cursor.expect(Punct::CloseBrace)?;
-        Ok(Tall {
-            tree: Items::new(values.tree),
-            height: values.height + 1,
-        })
-    }
-
-    // Values with commas between them, and perhaps a comma before `}`.
-    fn values(&mut self, depth: u32) -> Result<Tall<Vec<Expr>>, Refusal>
-        requires { depth < 200 }
-        ensures tree { IfOk result (λ p. Takes (Both (λ all. DerivesList all (map expression_of p.tree.items)) IsLastComma) self.old.cursor self.new.cursor) }
-        ensures height { IfOk result (λ p. p.height ≡ greatest (map expression_height (map expression_of p.tree.items))) }
-        ensures room { IfOk result (λ p. depth + p.height ≤ 200) }
-        ensures fewer { IfOk result (λ _. length self.new.cursor < length self.old.cursor) }
-        ensures only { IfOk result (λ _. OnlyTo (ValuesFront depth) self.old.cursor self.new.cursor) }
-        ensures refused { IfErr result (Refuses (NoFront (ValuesFront depth) self.old.cursor)) }
-    {
-        let first = self.whole_assignment(depth)?;
-        let mut highest = first.height;
-        let mut values: Vec<Expr> = Vec::new(self.alloc);
-        values.push(first.tree)?;
-        while self.list_goes_on() {
-            let next = self.whole_assignment(depth)?;
-            highest = highest.max(next.height);
-            values.push(next.tree)?;
-        }
-        Ok(Tall {
-            tree: values,
-            height: highest,
-        })
-    }
-
-    // Takes a comma, where one stands next, and says whether a value follows it.
-    fn list_goes_on(&mut self) -> bool
-        ensures tree { ListGoesOn result self.old.cursor self.new.cursor }
-        ensures no_more { length self.new.cursor ≤ length self.old.cursor }
-        ensures more { IsTrue result → (mark_at self.old.cursor ≡ Some mark.Comma) × (self.new.cursor ≡ behind self.old.cursor) × (mark_at self.new.cursor ≢ Some mark.CloseBrace) }
-        ensures ended { result ≡ false → ((mark_at self.old.cursor ≢ Some mark.Comma) × (self.new.cursor ≡ self.old.cursor))
-            ⊎ ((mark_at self.old.cursor ≡ Some mark.Comma) × (self.new.cursor ≡ behind self.old.cursor) × (mark_at self.new.cursor ≡ Some mark.CloseBrace)) }
-    {
-        if !self.cursor.take(Punct::Comma) {
-            return false;
-        }
-        !self.cursor.stands(Punct::CloseBrace)
-    }
-
-    /// The row `params`, before `)`.
-    pub(crate) fn params(&mut self, depth: u32) -> Result<Tall<Params>, Refusal>
-        requires { depth ≤ 200 }
-        ensures tree { IfOk result (λ p. Takes (λ all. DerivesParameters all (parameters_of p.tree)) self.old.cursor self.new.cursor) }
-        ensures height { IfOk result (λ p. p.height ≡ parameters_height (parameters_of p.tree)) }
-        ensures room { IfOk result (λ p. depth + p.height ≤ 200) }
-        ensures fewer { IfOk result (λ _. length self.new.cursor < length self.old.cursor) }
-        ensures only { IfOk result (λ _. OnlyTo (ParametersFront depth) self.old.cursor self.new.cursor) }
-        ensures refused { IfErr result (Refuses (NoFront (ParametersFront depth) self.old.cursor)) }
-    {
-        let at = self.cursor.place();
-        if self.cursor.is_void_alone() {
-            self.cursor.skip();
-            self.allow(0, depth)?;
-            return Ok(Tall {
-                tree: Params {
-                    list: Items::new(Vec::new(self.alloc)),
-                    at,
-                },
-                height: 1,
-            });
-        }
-        let list = self.param_list(depth + 1)?;
-        Ok(Tall {
-            tree: Params {
-                list: Items::new(list.tree),
-                at,
-            },
-            height: list.height + 1,
-        })
-    }
-
-    // Parameters with commas between them.
-    fn param_list(&mut self, depth: u32) -> Result<Tall<Vec<Param>>, Refusal>
-        requires { depth ≤ 201 }
-        ensures tree { IfOk result (λ p. Takes (λ all. DerivesParameterList all (map parameter_of p.tree.items)) self.old.cursor self.new.cursor) }
-        ensures height { IfOk result (λ p. p.height ≡ greatest (map parameter_height (map parameter_of p.tree.items))) }
-        ensures room { IfOk result (λ p. depth + p.height ≤ 200) }
-        ensures fewer { IfOk result (λ _. length self.new.cursor < length self.old.cursor) }
-        ensures only { IfOk result (λ _. OnlyTo (ParameterListFront depth) self.old.cursor self.new.cursor) }
-        ensures refused { IfErr result (Refuses (NoFront (ParameterListFront depth) self.old.cursor)) }
-    {
-        let first = self.param(depth)?;
-        let mut highest = first.height;
-        let mut list = Vec::new(self.alloc);
-        list.push(first.tree)?;
-        while self.cursor.take(Punct::Comma) {
-            let next = self.param(depth)?;
-            highest = highest.max(next.height);
-            list.push(next.tree)?;
-        }
-        Ok(Tall {
-            tree: list,
-            height: highest,
-        })
-    }
-
-    // The row `param`, before `,` or `)`.
-    fn param(&mut self, depth: u32) -> Result<Tall<Param>, Refusal>
-        requires { depth ≤ 201 }
-        ensures tree { IfOk result (λ p. Takes (λ all. DerivesParameter all (parameter_of p.tree)) self.old.cursor self.new.cursor) }
-        ensures height { IfOk result (λ p. p.height ≡ parameter_height (parameter_of p.tree)) }
-        ensures room { IfOk result (λ p. depth + p.height ≤ 200) }
-        ensures fewer { IfOk result (λ _. length self.new.cursor < length self.old.cursor) }
-        ensures only { IfOk result (λ _. OnlyTo (ParameterFront depth) self.old.cursor self.new.cursor) }
-        ensures refused { IfErr result (Refuses (NoFront (ParameterFront depth) self.old.cursor)) }
-    {
-        let at = self.cursor.place();
-        if self.cursor.is_void_word() {
-            return Err(self.cursor.refused_behind());
-        }
-        self.allow_parameter(depth)?;
-        let specs = self.whole_specs()?;
-        let stars = self.whole_stars();
-        let name = self.param_name()?;
-        let array = self.param_array(depth + 1)?;
-        if !self.cursor.separates() {
-            return Err(self.cursor.refused());
-        }
-        Ok(Tall {
-            tree: Param {
-                specs,
-                stars,
-                name,
-                array: array.tree,
-                at,
-            },
-            height: LEAF.max(array.height) + 1,
-        })
-    }
-
-    // Whether a parameter may stand under `depth` nodes. Where none may, the word `void` could still stand alone, so what is
-    // behind it is refused. The first parameter of a list tells for all.
-    fn allow_parameter(&self, depth: u32) -> Result<(), Refusal>
-        ensures low { IfOk result (λ _. depth + 1 < 200) }
-        ensures refused { IfErr result (λ _. 200 ≤ depth + 1) }
-    {
-        let allowed = self.allow(1, depth);
-        if allowed.is_err() && self.cursor.stands_word(Keyword::Void) {
-            return Err(self.cursor.refused_behind());
-        }
-        allowed
-    }
-
-    // The name of a parameter, where there is one.
-    fn param_name(&mut self) -> Result<Option<Text>, Refusal>
-        ensures tree { IfOk result (λ name. Takes (λ all. DerivesName all name) self.old.cursor self.new.cursor) }
-        ensures no_more { IfOk result (λ _. length self.new.cursor ≤ length self.old.cursor) }
-        ensures only { IfOk result (λ _. OnlyTo (NameFront) self.old.cursor self.new.cursor) }
-        ensures refused { IfErr result (Refuses (NoFront (NameFront) self.old.cursor)) }
-    {
-        if !self.cursor.is_name() {
-            return Ok(None);
-        }
-        Ok(Some(self.name()?))
-    }
-
-    // The brackets of a parameter, where there are.
-    fn param_array(&mut self, depth: u32) -> Result<Tall<Option<Brackets>>, Refusal>
-        requires { depth ≤ 200 }
-        ensures tree { IfOk result (λ p. Takes (λ all. DerivesArrayMark all (array_of p.tree)) self.old.cursor self.new.cursor) }
-        ensures height { IfOk result (λ p. p.height ≡ array_height (array_of p.tree)) }
-        ensures room { IfOk result (λ p. depth + p.height ≤ 200) }
-        ensures no_more { IfOk result (λ _. length self.new.cursor ≤ length self.old.cursor) }
-        ensures only { IfOk result (λ _. OnlyTo (ArrayMarkFront depth) self.old.cursor self.new.cursor) }
-        ensures refused { IfErr result (Refuses (NoFront (ArrayMarkFront depth) self.old.cursor)) }
-    {
-        if !self.cursor.stands(Punct::OpenBracket) {
-            return Ok(Tall {
-                tree: None,
-                height: 0,
-            });
-        }
-        let brackets = self.brackets(depth)?;
-        Ok(Tall {
-            tree: Some(brackets.tree),
+    if parser.cursor.stands(Punct::OpenBracket) {
+        let brackets = brackets(parser, depth)?;
+        return Ok(Tall {
+            tree: ItemKind::Array(brackets.tree),
             height: brackets.height,
-        })
+        });
     }
+    Ok(Tall {
+        tree: ItemKind::Plain,
+        height: 0,
+    })
+}
+
+// `[`, a length where there is one, and `]`.
+fn brackets(parser: &mut Parser<'_>, depth: u32) -> Result<Tall<Brackets>, Refusal>
+    requires { depth ≤ 200 }
+    ensures tree { IfOk result (λ p. Takes (λ all. DerivesArray all (brackets_of p.tree)) parser.old.cursor parser.new.cursor) }
+    ensures height { IfOk result (λ p. p.height ≡ optional_height (brackets_of p.tree)) }
+    ensures room { IfOk result (λ p. depth + p.height ≤ 200) }
+    ensures fewer { IfOk result (λ _. length parser.new.cursor < length parser.old.cursor) }
+    ensures only { IfOk result (λ _. OnlyTo (ArrayFront depth) parser.old.cursor parser.new.cursor) }
+    ensures refused { IfErr result (Refuses (NoFront (ArrayFront depth) parser.old.cursor)) }
+{
+    parser.cursor.expect(Punct::OpenBracket)?;
+    let length = array_length(parser, depth)?;
+    parser.cursor.expect(Punct::CloseBracket)?;
+    Ok(length)
+}
+
+// A length before `]`, where there is one.
+fn array_length(parser: &mut Parser<'_>, depth: u32) -> Result<Tall<Brackets>, Refusal>
+    requires { depth ≤ 200 }
+    ensures tree { IfOk result (λ p. Takes (λ all. DerivesOptional ConditionalRow all (brackets_of p.tree)) parser.old.cursor parser.new.cursor) }
+    ensures height { IfOk result (λ p. p.height ≡ optional_height (brackets_of p.tree)) }
+    ensures room { IfOk result (λ p. depth + p.height ≤ 200) }
+    ensures no_more { IfOk result (λ _. length parser.new.cursor ≤ length parser.old.cursor) }
+    ensures only { IfOk result (λ _. OnlyTo (LengthFront depth) parser.old.cursor parser.new.cursor) }
+    ensures refused { IfErr result (Refuses (NoFront (LengthFront depth) parser.old.cursor)) }
+{
+    if parser.cursor.stands(Punct::CloseBracket) {
+        return Ok(Tall {
+            tree: Brackets::Unsized,
+            height: 0,
+        });
+    }
+    parser.allow(0, depth)?;
+    let length = parser.whole_conditional(depth)?;
+    Ok(Tall {
+        tree: Brackets::Sized(length.tree),
+        height: length.height,
+    })
+}
+
+// `=` and an initialiser, where there are.
+fn initialiser(parser: &mut Parser<'_>, depth: u32) -> Result<Tall<Option<Init>>, Refusal>
+    requires { depth ≤ 200 }
+    ensures tree { IfOk result (λ p. Takes (λ all. DerivesInitialiser all (initial_of p.tree)) parser.old.cursor parser.new.cursor) }
+    ensures height { IfOk result (λ p. p.height ≡ initial_height (initial_of p.tree)) }
+    ensures room { IfOk result (λ p. depth + p.height ≤ 200) }
+    ensures no_more { IfOk result (λ _. length parser.new.cursor ≤ length parser.old.cursor) }
+    ensures only { IfOk result (λ _. OnlyTo (InitialiserFront depth) parser.old.cursor parser.new.cursor) }
+    ensures refused { IfErr result (Refuses (NoFront (InitialiserFront depth) parser.old.cursor)) }
+{
+    if !parser.cursor.take(Punct::Assign) {
+        return Ok(Tall {
+            tree: None,
+            height: 0,
+        });
+    }
+    if parser.cursor.stands(Punct::OpenBrace) {
+        let at = parser.cursor.place();
+        let values = braced(parser, depth)?;
+        return Ok(Tall {
+            tree: Some(Init::Braced {
+                values: values.tree,
+                at,
+            }),
+            height: values.height,
+        });
+    }
+    parser.allow(0, depth)?;
+    let value = parser.whole_assignment(depth)?;
+    Ok(Tall {
+        tree: Some(Init::One(value.tree)),
+        height: value.height,
+    })
+}
+
+// `{`, values, perhaps a comma, and `}`.
+fn braced(parser: &mut Parser<'_>, depth: u32) -> Result<Tall<Items<Expr>>, Refusal>
+    requires { depth ≤ 200 }
+    ensures tree { IfOk result (λ p. Takes (λ all. DerivesInitial all (Braced (map expression_of p.tree) (place_of parser.old.cursor))) parser.old.cursor parser.new.cursor) }
+    ensures height { IfOk result (λ p. p.height ≡ 1 + greatest (map expression_height (map expression_of p.tree))) }
+    ensures room { IfOk result (λ p. depth + p.height ≤ 200) }
+    ensures fewer { IfOk result (λ _. length parser.new.cursor < length parser.old.cursor) }
+    ensures only { IfOk result (λ _. OnlyTo (BracedFront depth) parser.old.cursor parser.new.cursor) }
+    ensures refused { IfErr result (Refuses (NoFront (BracedFront depth) parser.old.cursor)) }
+{
+    parser.allow(1, depth)?;
+    parser.cursor.expect(Punct::OpenBrace)?;
+    let values = values(parser, depth + 1)?;
+    parser.cursor.expect(Punct::CloseBrace)?;
+    Ok(Tall {
+        tree: Items::new(values.tree),
+        height: values.height + 1,
+    })
+}
+
+// Values with commas between them, and perhaps a comma before `}`.
+fn values(parser: &mut Parser<'_>, depth: u32) -> Result<Tall<Vec<Expr>>, Refusal>
+    requires { depth < 200 }
+    ensures tree { IfOk result (λ p. Takes (Both (λ all. DerivesList all (map expression_of p.tree.items)) IsLastComma) parser.old.cursor parser.new.cursor) }
+    ensures height { IfOk result (λ p. p.height ≡ greatest (map expression_height (map expression_of p.tree.items))) }
+    ensures room { IfOk result (λ p. depth + p.height ≤ 200) }
+    ensures fewer { IfOk result (λ _. length parser.new.cursor < length parser.old.cursor) }
+    ensures only { IfOk result (λ _. OnlyTo (ValuesFront depth) parser.old.cursor parser.new.cursor) }
+    ensures refused { IfErr result (Refuses (NoFront (ValuesFront depth) parser.old.cursor)) }
+{
+    let first = parser.whole_assignment(depth)?;
+    let mut highest = first.height;
+    let mut values: Vec<Expr> = Vec::new(parser.alloc);
+    values.push(first.tree)?;
+    while list_goes_on(parser) {
+        let next = parser.whole_assignment(depth)?;
+        highest = highest.max(next.height);
+        values.push(next.tree)?;
+    }
+    Ok(Tall {
+        tree: values,
+        height: highest,
+    })
+}
+
+// Takes a comma, where one stands next, and says whether a value follows it.
+fn list_goes_on(parser: &mut Parser<'_>) -> bool
+    ensures tree { ListGoesOn result parser.old.cursor parser.new.cursor }
+    ensures no_more { length parser.new.cursor ≤ length parser.old.cursor }
+    ensures more { IsTrue result → (mark_at parser.old.cursor ≡ Some mark.Comma) × (parser.new.cursor ≡ behind parser.old.cursor) × (mark_at parser.new.cursor ≢ Some mark.CloseBrace) }
+    ensures ended { result ≡ false → ((mark_at parser.old.cursor ≢ Some mark.Comma) × (parser.new.cursor ≡ parser.old.cursor))
+        ⊎ ((mark_at parser.old.cursor ≡ Some mark.Comma) × (parser.new.cursor ≡ behind parser.old.cursor) × (mark_at parser.new.cursor ≡ Some mark.CloseBrace)) }
+{
+    if !parser.cursor.take(Punct::Comma) {
+        return false;
+    }
+    !parser.cursor.stands(Punct::CloseBrace)
+}
+
+/// The row `params`, before `)`.
+pub(crate) fn params(parser: &mut Parser<'_>, depth: u32) -> Result<Tall<Params>, Refusal>
+    requires { depth ≤ 200 }
+    ensures tree { IfOk result (λ p. Takes (λ all. DerivesParameters all (parameters_of p.tree)) parser.old.cursor parser.new.cursor) }
+    ensures height { IfOk result (λ p. p.height ≡ parameters_height (parameters_of p.tree)) }
+    ensures room { IfOk result (λ p. depth + p.height ≤ 200) }
+    ensures fewer { IfOk result (λ _. length parser.new.cursor < length parser.old.cursor) }
+    ensures only { IfOk result (λ _. OnlyTo (ParametersFront depth) parser.old.cursor parser.new.cursor) }
+    ensures refused { IfErr result (Refuses (NoFront (ParametersFront depth) parser.old.cursor)) }
+{
+    let at = parser.cursor.place();
+    if parser.cursor.is_void_alone() {
+        parser.cursor.skip();
+        parser.allow(0, depth)?;
+        return Ok(Tall {
+            tree: Params {
+                list: Items::new(Vec::new(parser.alloc)),
+                at,
+            },
+            height: 1,
+        });
+    }
+    let list = param_list(parser, depth + 1)?;
+    Ok(Tall {
+        tree: Params {
+            list: Items::new(list.tree),
+            at,
+        },
+        height: list.height + 1,
+    })
+}
+
+// Parameters with commas between them.
+fn param_list(parser: &mut Parser<'_>, depth: u32) -> Result<Tall<Vec<Param>>, Refusal>
+    requires { depth ≤ 201 }
+    ensures tree { IfOk result (λ p. Takes (λ all. DerivesParameterList all (map parameter_of p.tree.items)) parser.old.cursor parser.new.cursor) }
+    ensures height { IfOk result (λ p. p.height ≡ greatest (map parameter_height (map parameter_of p.tree.items))) }
+    ensures room { IfOk result (λ p. depth + p.height ≤ 200) }
+    ensures fewer { IfOk result (λ _. length parser.new.cursor < length parser.old.cursor) }
+    ensures only { IfOk result (λ _. OnlyTo (ParameterListFront depth) parser.old.cursor parser.new.cursor) }
+    ensures refused { IfErr result (Refuses (NoFront (ParameterListFront depth) parser.old.cursor)) }
+{
+    let first = param(parser, depth)?;
+    let mut highest = first.height;
+    let mut list = Vec::new(parser.alloc);
+    list.push(first.tree)?;
+    while parser.cursor.take(Punct::Comma) {
+        let next = param(parser, depth)?;
+        highest = highest.max(next.height);
+        list.push(next.tree)?;
+    }
+    Ok(Tall {
+        tree: list,
+        height: highest,
+    })
+}
+
+// The row `param`, before `,` or `)`.
+fn param(parser: &mut Parser<'_>, depth: u32) -> Result<Tall<Param>, Refusal>
+    requires { depth ≤ 201 }
+    ensures tree { IfOk result (λ p. Takes (λ all. DerivesParameter all (parameter_of p.tree)) parser.old.cursor parser.new.cursor) }
+    ensures height { IfOk result (λ p. p.height ≡ parameter_height (parameter_of p.tree)) }
+    ensures room { IfOk result (λ p. depth + p.height ≤ 200) }
+    ensures fewer { IfOk result (λ _. length parser.new.cursor < length parser.old.cursor) }
+    ensures only { IfOk result (λ _. OnlyTo (ParameterFront depth) parser.old.cursor parser.new.cursor) }
+    ensures refused { IfErr result (Refuses (NoFront (ParameterFront depth) parser.old.cursor)) }
+{
+    let at = parser.cursor.place();
+    if parser.cursor.is_void_word() {
+        return Err(parser.cursor.refused_behind());
+    }
+    allow_parameter(parser, depth)?;
+    let specs = parser.whole_specs()?;
+    let stars = parser.whole_stars();
+    let name = param_name(parser)?;
+    let array = param_array(parser, depth + 1)?;
+    if !parser.cursor.separates() {
+        return Err(parser.cursor.refused());
+    }
+    Ok(Tall {
+        tree: Param {
+            specs,
+            stars,
+            name,
+            array: array.tree,
+            at,
+        },
+        height: LEAF.max(array.height) + 1,
+    })
+}
+
+// Whether a parameter may stand under `depth` nodes. Where none may, the word `void` could still stand alone, so what is
+// behind it is refused. The first parameter of a list tells for all.
+fn allow_parameter(parser: &Parser<'_>, depth: u32) -> Result<(), Refusal>
+    ensures low { IfOk result (λ _. depth + 1 < 200) }
+    ensures refused { IfErr result (λ _. 200 ≤ depth + 1) }
+{
+    let allowed = parser.allow(1, depth);
+    if allowed.is_err() && parser.cursor.stands_word(Keyword::Void) {
+        return Err(parser.cursor.refused_behind());
+    }
+    allowed
+}
+
+// The name of a parameter, where there is one.
+fn param_name(parser: &mut Parser<'_>) -> Result<Option<Text>, Refusal>
+    ensures tree { IfOk result (λ name. Takes (λ all. DerivesName all name) parser.old.cursor parser.new.cursor) }
+    ensures no_more { IfOk result (λ _. length parser.new.cursor ≤ length parser.old.cursor) }
+    ensures only { IfOk result (λ _. OnlyTo (NameFront) parser.old.cursor parser.new.cursor) }
+    ensures refused { IfErr result (Refuses (NoFront (NameFront) parser.old.cursor)) }
+{
+    if !parser.cursor.is_name() {
+        return Ok(None);
+    }
+    Ok(Some(name(parser)?))
+}
+
+// The brackets of a parameter, where there are.
+fn param_array(parser: &mut Parser<'_>, depth: u32) -> Result<Tall<Option<Brackets>>, Refusal>
+    requires { depth ≤ 200 }
+    ensures tree { IfOk result (λ p. Takes (λ all. DerivesArrayMark all (array_of p.tree)) parser.old.cursor parser.new.cursor) }
+    ensures height { IfOk result (λ p. p.height ≡ array_height (array_of p.tree)) }
+    ensures room { IfOk result (λ p. depth + p.height ≤ 200) }
+    ensures no_more { IfOk result (λ _. length parser.new.cursor ≤ length parser.old.cursor) }
+    ensures only { IfOk result (λ _. OnlyTo (ArrayMarkFront depth) parser.old.cursor parser.new.cursor) }
+    ensures refused { IfErr result (Refuses (NoFront (ArrayMarkFront depth) parser.old.cursor)) }
+{
+    if !parser.cursor.stands(Punct::OpenBracket) {
+        return Ok(Tall {
+            tree: None,
+            height: 0,
+        });
+    }
+    let brackets = brackets(parser, depth)?;
+    Ok(Tall {
+        tree: Some(brackets.tree),
+        height: brackets.height,
+    })
 }

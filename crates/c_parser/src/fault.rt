@@ -1,8 +1,4 @@
 //! Why tokens have no tree.
-ghost use Rattle.std.specs.Prelude.{◌≡◌};
-ghost use Rattle.c_parser.specs.declared.fault.Refusal.TheVariants as refusals;
-
-use std::alloc::{AllocError, AllocFailed};
 use thiserror::Error;
 
 /// Why tokens have no tree.
@@ -14,36 +10,4 @@ pub enum ParseFault {
     Syntax { at: u32 },
     #[error("memory was wanting for the tree")]
     NoMemory,
-}
-
-/// A refusal within the parser.
-#[derive(Clone, Copy, Debug, PartialEq, Eq)]
-pub(crate) enum Refusal {
-    /// No tree goes on where so many tokens are left.
-    Syntax { left: u32 },
-    NoMemory,
-}
-
-impl From<word_base::NoMemory> for Refusal {
-    ghost from_gives = { λ _ e. e ≡ refusals.NoMemory };
-
-    fn from(_: word_base::NoMemory) -> Self {
-        Refusal::NoMemory
-    }
-}
-
-impl From<AllocError> for Refusal {
-    ghost from_gives = { λ _ e. e ≡ refusals.NoMemory };
-
-    fn from(_: AllocError) -> Self {
-        Refusal::NoMemory
-    }
-}
-
-impl<T: Drop> From<AllocFailed<T>> for Refusal {
-    ghost from_gives = { λ _ e. e ≡ refusals.NoMemory };
-
-    fn from(_: AllocFailed<T>) -> Self {
-        Refusal::NoMemory
-    }
 }

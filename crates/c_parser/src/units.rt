@@ -6,17 +6,18 @@ ghost use Rattle.c_syntax.specs.Derives.{DerivesSpecs, DerivesExternal};
 ghost use Rattle.c_syntax.specs.Measures.{parameters_height, item_form_height, external_height};
 ghost use Rattle.c_syntax.specs.SyntaxView.{specs_of, parameters_of, item_form_of, external_of, unit_of};
 ghost use Rattle.c_syntax.specs.declared.decl.ItemKind.TheVariants as functions;
-ghost use Rattle.c_syntax.specs.Source.{IsSource};
-ghost use Rattle.c_syntax.specs.Source.{NoSource, IsPlace, end_of};
+ghost use Rattle.c_syntax.specs.Source.{IsSource, NoSource, IsPlace, end_of};
 ghost use Rattle.c_parser.specs.ParseFaults.{Says};
-ghost use Rattle.c_parser.specs.Refusals.{Refuses};
-ghost use Rattle.c_parser.specs.Fronts.{NoFront};
-ghost use Rattle.c_parser.specs.Takes.{Takes, Both, Behind, IsItemFront};
+ghost use Rattle.c_expressions.specs.Refusals.{Refuses};
+ghost use Rattle.c_expressions.specs.Fronts.{NoFront};
+ghost use Rattle.c_expressions.specs.Takes.{Takes, Both, Behind};
+ghost use Rattle.c_parser.specs.DeclarationRows.{IsItemFront};
 ghost use Rattle.c_parser.specs.UnitFronts.{ExternalFront, IsListed, ListedFront, DeclarationEnd, FunctionEnd, IsFunctionHead};
 
-use crate::declarations::Tall;
-use crate::fault::{ParseFault, Refusal};
-use crate::parser::Parser;
+use crate::declarations::{declaration_from, item_from, item_kind, name, params};
+use crate::fault::ParseFault;
+use crate::statements::body;
+use c_expressions::{Parser, Refusal, Tall};
 use c_syntax::{External, FunctionDef, ItemKind, Params, Punct, Specs, Token, Unit};
 use std::alloc::Global;
 use word_base::{Items, Text};
@@ -24,108 +25,105 @@ use word_base::{Items, Text};
 /// The nodes over an external: the unit.
 const OVER_EXTERNAL: u32 = 1;
 
-impl<'a> Parser<'a> {
-    // The row `external`: a function where a body follows its parameters.
-    fn external(&mut self) -> Result<Tall<External>, Refusal>
-        ensures tree { IfOk result (λ p. Takes (λ all. DerivesExternal all (external_of p.tree)) self.old.cursor self.new.cursor) }
-        ensures height { IfOk result (λ p. p.height ≡ external_height (external_of p.tree)) }
-        ensures room { IfOk result (λ p. 1 + p.height ≤ 200) }
-        ensures fewer { IfOk result (λ _. length self.new.cursor < length self.old.cursor) }
-        ensures refused { IfErr result (Refuses (NoFront ExternalFront self.old.cursor)) }
-    {
-        let specs = self.whole_specs()?;
-        let item_at = self.cursor.place();
-        let stars = self.whole_stars();
-        let name = self.name()?;
-        if !self.cursor.stands(Punct::OpenParen) {
-            let kind = self.item_kind(OVER_EXTERNAL + 2)?;
-            return self.declared(specs, item_at, stars, name, kind);
-        }
-        let params = self.listed(OVER_EXTERNAL + 1)?;
-        if self.cursor.stands(Punct::OpenBrace) {
-            return self.function(specs, stars, name, params);
-        }
-        self.allow(params.height, OVER_EXTERNAL + 1)?;
-        self.declared(specs, item_at, stars, name, function_kind(params))
+// The row `external`: a function where a body follows its parameters.
+fn external(parser: &mut Parser<'_>) -> Result<Tall<External>, Refusal>
+    ensures tree { IfOk result (λ p. Takes (λ all. DerivesExternal all (external_of p.tree)) parser.old.cursor parser.new.cursor) }
+    ensures height { IfOk result (λ p. p.height ≡ external_height (external_of p.tree)) }
+    ensures room { IfOk result (λ p. 1 + p.height ≤ 200) }
+    ensures fewer { IfOk result (λ _. length parser.new.cursor < length parser.old.cursor) }
+    ensures refused { IfErr result (Refuses (NoFront ExternalFront parser.old.cursor)) }
+{
+    let specs = parser.whole_specs()?;
+    let item_at = parser.cursor.place();
+    let stars = parser.whole_stars();
+    let name = name(parser)?;
+    if !parser.cursor.stands(Punct::OpenParen) {
+        let kind = item_kind(parser, OVER_EXTERNAL + 2)?;
+        return declared(parser, specs, item_at, stars, name, kind);
     }
-
-    // Parameters in their parentheses.
-    fn listed(&mut self, depth: u32) -> Result<Tall<Params>, Refusal>
-        requires { depth ≤ 200 }
-        ensures tree { IfOk result (λ p. Takes (λ all. IsListed all (parameters_of p.tree)) self.old.cursor self.new.cursor) }
-        ensures height { IfOk result (λ p. p.height ≡ parameters_height (parameters_of p.tree)) }
-        ensures room { IfOk result (λ p. depth + p.height ≤ 200) }
-        ensures fewer { IfOk result (λ _. length self.new.cursor < length self.old.cursor) }
-        ensures refused { IfErr result (Refuses (NoFront (ListedFront depth) self.old.cursor)) }
-    {
-        self.cursor.expect(Punct::OpenParen)?;
-        let params = self.params(depth)?;
-        self.cursor.expect(Punct::CloseParen)?;
-        Ok(params)
+    let params = listed(parser, OVER_EXTERNAL + 1)?;
+    if parser.cursor.stands(Punct::OpenBrace) {
+        return function(parser, specs, stars, name, params);
     }
-
-    // A declaration, behind the form of its first item.
-    fn declared(
-        &mut self,
-        specs: Specs,
-        item_at: u32,
-        stars: u32,
-        name: Text,
-        kind: Tall<ItemKind>,
-    ) -> Result<Tall<External>, Refusal>
-        requires kind_height { kind.height ≡ item_form_height (item_form_of kind.tree) }
-        requires kind_room { 3 + kind.height ≤ 200 }
-        ensures tree { IfOk result (λ p. Takes (Behind (Both (λ a. DerivesSpecs a (specs_of specs)) (IsItemFront stars name (item_form_of kind.tree) item_at)) (λ all. DerivesExternal all (external_of p.tree))) self.old.cursor self.new.cursor) }
-        ensures height { IfOk result (λ p. p.height ≡ external_height (external_of p.tree)) }
-        ensures room { IfOk result (λ p. 1 + p.height ≤ 200) }
-        ensures fewer { IfOk result (λ _. length self.new.cursor < length self.old.cursor) }
-        ensures refused { IfErr result (Refuses (NoFront DeclarationEnd self.old.cursor)) }
-    {
-        let first = self.item_from(item_at, stars, name, kind, OVER_EXTERNAL + 1)?;
-        let declaration = self.declaration_from(specs, first, OVER_EXTERNAL)?;
-        Ok(Tall {
-            tree: External::Declaration(declaration.tree),
-            height: declaration.height,
-        })
-    }
-
-    // A function, behind its parameters. It stands where its specs do.
-    fn function(
-        &mut self,
-        specs: Specs,
-        stars: u32,
-        name: Text,
-        params: Tall<Params>,
-    ) -> Result<Tall<External>, Refusal>
-        requires params_height { params.height ≡ parameters_height (parameters_of params.tree) }
-        requires params_room { 2 + params.height ≤ 200 }
-        ensures tree { IfOk result (λ p. Takes (Behind (IsFunctionHead (specs_of specs) stars name (parameters_of params.tree)) (λ all. DerivesExternal all (external_of p.tree))) self.old.cursor self.new.cursor) }
-        ensures height { IfOk result (λ p. p.height ≡ external_height (external_of p.tree)) }
-        ensures room { IfOk result (λ p. 1 + p.height ≤ 200) }
-        ensures fewer { IfOk result (λ _. length self.new.cursor < length self.old.cursor) }
-        ensures refused { IfErr result (Refuses (NoFront FunctionEnd self.old.cursor)) }
-    {
-        let at = specs.at;
-        let body_at = self.cursor.place();
-        self.cursor.expect(Punct::OpenBrace)?;
-        let body = self.body(OVER_EXTERNAL + 1)?;
-        let parts = params.height.max(body.highest + 1);
-        Ok(Tall {
-            tree: External::Function(FunctionDef {
-                specs,
-                stars,
-                name,
-                params: params.tree,
-                declarations: Items::new(body.declarations),
-                statements: Items::new(body.statements),
-                body_at,
-                at,
-            }),
-            height: parts + 1,
-        })
-    }
+    parser.allow(params.height, OVER_EXTERNAL + 1)?;
+    declared(parser, specs, item_at, stars, name, function_kind(params))
 }
 
+// Parameters in their parentheses.
+fn listed(parser: &mut Parser<'_>, depth: u32) -> Result<Tall<Params>, Refusal>
+    requires { depth ≤ 200 }
+    ensures tree { IfOk result (λ p. Takes (λ all. IsListed all (parameters_of p.tree)) parser.old.cursor parser.new.cursor) }
+    ensures height { IfOk result (λ p. p.height ≡ parameters_height (parameters_of p.tree)) }
+    ensures room { IfOk result (λ p. depth + p.height ≤ 200) }
+    ensures fewer { IfOk result (λ _. length parser.new.cursor < length parser.old.cursor) }
+    ensures refused { IfErr result (Refuses (NoFront (ListedFront depth) parser.old.cursor)) }
+{
+    parser.cursor.expect(Punct::OpenParen)?;
+    let params = params(parser, depth)?;
+    parser.cursor.expect(Punct::CloseParen)?;
+    Ok(params)
+}
+
+// A declaration, behind the form of its first item.
+fn declared(
+    parser: &mut Parser<'_>,
+    specs: Specs,
+    item_at: u32,
+    stars: u32,
+    name: Text,
+    kind: Tall<ItemKind>,
+) -> Result<Tall<External>, Refusal>
+    requires kind_height { kind.height ≡ item_form_height (item_form_of kind.tree) }
+    requires kind_room { 3 + kind.height ≤ 200 }
+    ensures tree { IfOk result (λ p. Takes (Behind (Both (λ a. DerivesSpecs a (specs_of specs)) (IsItemFront stars name (item_form_of kind.tree) item_at)) (λ all. DerivesExternal all (external_of p.tree))) parser.old.cursor parser.new.cursor) }
+    ensures height { IfOk result (λ p. p.height ≡ external_height (external_of p.tree)) }
+    ensures room { IfOk result (λ p. 1 + p.height ≤ 200) }
+    ensures fewer { IfOk result (λ _. length parser.new.cursor < length parser.old.cursor) }
+    ensures refused { IfErr result (Refuses (NoFront DeclarationEnd parser.old.cursor)) }
+{
+    let first = item_from(parser, item_at, stars, name, kind, OVER_EXTERNAL + 1)?;
+    let declaration = declaration_from(parser, specs, first, OVER_EXTERNAL)?;
+    Ok(Tall {
+        tree: External::Declaration(declaration.tree),
+        height: declaration.height,
+    })
+}
+
+// A function, behind its parameters. It stands where its specs do.
+fn function(
+    parser: &mut Parser<'_>,
+    specs: Specs,
+    stars: u32,
+    name: Text,
+    params: Tall<Params>,
+) -> Result<Tall<External>, Refusal>
+    requires params_height { params.height ≡ parameters_height (parameters_of params.tree) }
+    requires params_room { 2 + params.height ≤ 200 }
+    ensures tree { IfOk result (λ p. Takes (Behind (IsFunctionHead (specs_of specs) stars name (parameters_of params.tree)) (λ all. DerivesExternal all (external_of p.tree))) parser.old.cursor parser.new.cursor) }
+    ensures height { IfOk result (λ p. p.height ≡ external_height (external_of p.tree)) }
+    ensures room { IfOk result (λ p. 1 + p.height ≤ 200) }
+    ensures fewer { IfOk result (λ _. length parser.new.cursor < length parser.old.cursor) }
+    ensures refused { IfErr result (Refuses (NoFront FunctionEnd parser.old.cursor)) }
+{
+    let at = specs.at;
+    let body_at = parser.cursor.place();
+    parser.cursor.expect(Punct::OpenBrace)?;
+    let body = body(parser, OVER_EXTERNAL + 1)?;
+    let parts = params.height.max(body.highest + 1);
+    Ok(Tall {
+        tree: External::Function(FunctionDef {
+            specs,
+            stars,
+            name,
+            params: params.tree,
+            declarations: Items::new(body.declarations),
+            statements: Items::new(body.statements),
+            body_at,
+            at,
+        }),
+        height: parts + 1,
+    })
+}
 // What stands behind the name of a declared function.
 fn function_kind(params: Tall<Params>) -> Tall<ItemKind>
     ensures { result ≡ record { tree = functions.Function params.tree; height = params.height } }
@@ -143,12 +141,12 @@ fn unit(alloc: Global, tokens: &[Token]) -> Result<Unit, Refusal>
     ensures refused { IfErr result (Refuses (NoSource tokens.now)) }
 {
     let mut parser = Parser::new(alloc, tokens);
-    let first = parser.external()?;
+    let first = external(&mut parser)?;
     let mut highest = first.height;
     let mut externals = Vec::new(alloc);
     externals.push(first.tree)?;
     while !parser.cursor.is_at_end() {
-        let next = parser.external()?;
+        let next = external(&mut parser)?;
         highest = highest.max(next.height);
         externals.push(next.tree)?;
     }

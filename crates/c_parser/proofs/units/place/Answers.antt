@@ -1,5 +1,5 @@
 use Rattle.std.proofs.Common.{◌≡◌, ◌++◌, ◌∷◌, ap, ◌∙◌, rules}
-use Rattle.c_syntax.specs.Source.{IsPlace, OfToken, OfEnd}
+use Rattle.c_syntax.specs.Source.{OfToken, OfEnd}
 use Rattle.c_parser.proofs.units.place.Goals as goal
 
 pub returns-in-Some : goal.returns-in-Some

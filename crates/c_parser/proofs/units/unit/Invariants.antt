@@ -2,7 +2,7 @@ use Rattle.std.proofs.Common.{◌≡◌, ◌+◌, ◌≤◌, length, map}
 use Rattle.c_syntax.specs.Derives.{DerivesUnit}
 use Rattle.c_syntax.specs.Measures.{greatest, external_height}
 use Rattle.c_syntax.specs.SyntaxView.{external_of}
-use Rattle.c_parser.specs.Takes.{Takes}
+use Rattle.c_expressions.specs.Takes.{Takes}
 use Rattle.c_parser.specs.UnitFronts.{UnitFront, MoreUnits}
 use Rattle.c_parser.proofs.FrontLemmas.{LeadsOn}
 use Rattle.c_parser.proofs.units.unit.Given as goal

@@ -1,0 +1,12 @@
+pub mod Refusals
+pub mod Arguments
+pub mod Firsts
+pub mod Nexts
+pub mod Parens
+pub mod Rows
+pub mod RowsRefuse
+pub mod Words
+pub mod Insides
+pub mod OperandsRefuse
+pub mod WholeWays
+pub mod TakesLemmas

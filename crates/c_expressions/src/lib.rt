@@ -1,0 +1,17 @@
+//! The part of the parser that reads types and expressions from the front of the tokens that are left (docs/LANGUAGE.md,
+//! "Grammar").
+//!
+//! A part takes the tokens of a row of the grammar, or says that no way of the row leads on from there.
+#![tactic(auto)]
+
+mod cursor;
+mod expressions;
+mod fault;
+mod operands;
+mod operators;
+mod parser;
+mod wholes;
+
+pub use cursor::Cursor;
+pub use fault::Refusal;
+pub use parser::{Parser, Tall};

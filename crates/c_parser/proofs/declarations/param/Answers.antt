@@ -1,0 +1,52 @@
+use Rattle.std.proofs.Common.{sym, arith}
+use Rattle.c_syntax.specs.SyntaxTree.{ParameterTree}
+use Rattle.c_syntax.specs.SyntaxView.{specs_of, array_of}
+use Rattle.c_parser.proofs.DeclarationRows.{is_parameter}
+use Rattle.c_parser.proofs.FrontLemmas.{first_fails, second_fails, both_lead, fails_as, leads_as}
+use Rattle.c_expressions.proofs.Refusals.{passed_on, known_to, refuses_all}
+use Rattle.c_parser.proofs.ParameterWays.{parameter_ways, parameter_too_high, not_separated, before_leads, void_no_parameter}
+use Rattle.c_expressions.proofs.TakesLemmas.{joined}
+use Rattle.c_parser.proofs.declarations.param.Goals as goal
+
+pub returns-clause-tree : goal.returns-clause-tree
+returns-clause-tree c =
+    let x : ParameterTree = record { specs = specs_of c.in_ok-specs.specs; stars = c.whole_stars-stars.result; name = c.in_ok-name.name; array = array_of c.in_ok-array.array.tree; at = c.place-at.result } in
+    let r = joined c.in_ok-specs.ensures.tree (joined c.whole_stars-stars.ensures.tree (joined c.in_ok-name.ensures.tree c.in_ok-array.ensures.tree)) in
+    record {
+      taken = r.taken;
+      cut = r.cut;
+      is = is_parameter x (sym c.if-is_void_word.ensures) (sym c.if-not-separates.ensures) (c.place-at.ensures (omega (arith, c.in_ok-specs.ensures.fewer)))
+          (omega (arith, c.in_ok-specs.ensures.fewer, c.whole_stars-stars.ensures.no_more, c.in_ok-name.ensures.no_more, c.in_ok-array.ensures.no_more)) r;
+    }
+
+pub returns-then-is_void_word-clause-refused : goal.returns-then-is_void_word-clause-refused
+returns-then-is_void_word-clause-refused c = refuses_all c.refused_behind.result (void_no_parameter (sym c.if-is_void_word.ensures))
+
+pub returns-in_err-allow_parameter-clause-refused : goal.returns-in_err-allow_parameter-clause-refused
+returns-in_err-allow_parameter-clause-refused c =
+    known_to c.from_residual.result
+    (parameter_too_high c.in_err-allow_parameter.ensures.refused)
+
+pub returns-in_err-specs-clause-refused : goal.returns-in_err-specs-clause-refused
+returns-in_err-specs-clause-refused c =
+    passed_on _ c.from_residual-in_err-specs.result c.from_residual-in_err-specs.ensures.1 c.in_err-specs.ensures.refused
+    (λ n. fails_as (parameter_ways c.args.depth _) (first_fails n))
+
+pub returns-in_err-name-clause-refused : goal.returns-in_err-name-clause-refused
+returns-in_err-name-clause-refused c =
+    passed_on _ c.from_residual-in_err-name.result c.from_residual-in_err-name.ensures.1 c.in_err-name.ensures.refused
+    (λ n. fails_as (parameter_ways c.args.depth _) (second_fails c.in_ok-specs.ensures.only (second_fails c.whole_stars-stars.ensures.only (first_fails n))))
+
+pub returns-in_err-array-clause-refused : goal.returns-in_err-array-clause-refused
+returns-in_err-array-clause-refused c =
+    passed_on _ c.from_residual-in_err-array.result c.from_residual-in_err-array.ensures.1 c.in_err-array.ensures.refused
+    (λ n. fails_as (parameter_ways c.args.depth _) (second_fails c.in_ok-specs.ensures.only (second_fails c.whole_stars-stars.ensures.only (second_fails c.in_ok-name.ensures.only (first_fails n)))))
+
+pub returns-then-not-separates-clause-refused : goal.returns-then-not-separates-clause-refused
+returns-then-not-separates-clause-refused c =
+    refuses_all c.refused.result
+    (fails_as (parameter_ways c.args.depth _) (second_fails c.in_ok-specs.ensures.only (second_fails c.whole_stars-stars.ensures.only (second_fails c.in_ok-name.ensures.only (second_fails c.in_ok-array.ensures.only (not_separated (sym c.if-not-separates.ensures)))))))
+
+pub returns-clause-only : goal.returns-clause-only
+returns-clause-only c =
+    leads_as (parameter_ways c.args.depth _) (both_lead c.in_ok-specs.ensures.only (both_lead c.whole_stars-stars.ensures.only (both_lead c.in_ok-name.ensures.only (both_lead c.in_ok-array.ensures.only before_leads))))

@@ -1,0 +1,213 @@
+use Rattle.std.proofs.Common.{◌≡◌, ◌+◌, refl, arith}
+use Rattle.c_syntax.specs.declared.token.Keyword.TheVariants as keyword
+use Rattle.c_syntax.specs.declared.token.Punct.TheVariants as mark
+use Rattle.c_syntax.specs.Derives.{NoChoice}
+use Rattle.c_expressions.proofs.TakesLemmas.{nothing, joined, mark_taken, word_taken, took, took_word, not_there, kept, length_kept, ok_mapped}
+use Rattle.c_parser.proofs.StatementTaken.{same_taken, if_taken, if_else_taken, while_taken, for_taken, do_taken, switch_taken, block_taken, body_begun, body_ended, body_grown, body_height, parts_grown, parts_height, chosen_taken}
+use Rattle.c_parser.proofs.FrontLemmas.{first_fails, second_fails, second_never, fails_as, leads_as, one_leads, mark_fails, fails_kept, only_kept, leads_on, leads_from, leads_further, fails_on}
+use Rattle.c_expressions.proofs.Refusals.{passed_on, known_to, goes_out}
+use Rattle.c_parser.proofs.StatementWays.{while_ways, if_ways, else_fails, do_ways, for_ways, switch_ways, block_ways, tested_too_high, statement_too_high}
+use Rattle.c_parser.proofs.StatementLists.{body_ways, statements_ways, parts_ways, case_ways, default_ways, chosen_ways}
+use Rattle.c_parser.proofs.StatementOnly.{statement_only, for_head_only}
+use Rattle.c_parser.proofs.statements.+statements.Goals as goal
+
+pub choice-returns-then-not-take_keyword-clause-tree : goal.choice-returns-then-not-take_keyword-clause-tree
+choice-returns-then-not-take_keyword-clause-tree t c =
+    if_taken c.if_alone.ensures.tree c.place-at.ensures (word_taken keyword.If c.args.parser.now.cursor _ c.in_ok-expect_keyword.ensures.taken c.in_ok-expect_keyword.ensures.left) c.in_ok-test.ensures.tree c.in_ok-yes.ensures.tree
+    c.in_ok-test.ensures.fewer c.in_ok-yes.ensures.fewer (kept c.take_keyword.ensures.left c.if-not-take_keyword.true) (not_there c.take_keyword.ensures.taken c.if-not-take_keyword.true)
+
+pub choice-returns-clause-tree : goal.choice-returns-clause-tree
+choice-returns-clause-tree t c =
+    if_else_taken c.if_else.ensures.tree c.place-at.ensures (word_taken keyword.If c.args.parser.now.cursor _ c.in_ok-expect_keyword.ensures.taken c.in_ok-expect_keyword.ensures.left) c.in_ok-test.ensures.tree c.in_ok-yes.ensures.tree
+    (c.take_keyword.ensures.taken.0 c.if-not-take_keyword.false) (took_word c.take_keyword.ensures.taken c.take_keyword.ensures.left c.if-not-take_keyword.false) c.in_ok-no.ensures.tree
+    c.in_ok-test.ensures.fewer c.in_ok-yes.ensures.fewer c.in_ok-no.ensures.fewer
+
+pub do_loop-returns-clause-tree : goal.do_loop-returns-clause-tree
+do_loop-returns-clause-tree t c =
+    do_taken c.do_over.ensures.tree c.place-at.ensures (word_taken keyword.Do c.args.parser.now.cursor _ c.in_ok-expect_keyword.ensures.taken c.in_ok-expect_keyword.ensures.left) c.in_ok-body.ensures.tree c.in_ok-test.ensures.tree
+    c.in_ok-body.ensures.fewer c.in_ok-test.ensures.fewer
+
+pub while_loop-returns-clause-tree : goal.while_loop-returns-clause-tree
+while_loop-returns-clause-tree t c =
+    while_taken c.while_over.ensures.tree c.place-at.ensures (word_taken keyword.While c.args.parser.now.cursor _ c.in_ok-expect_keyword.ensures.taken c.in_ok-expect_keyword.ensures.left) c.in_ok-test.ensures.tree c.in_ok-body.ensures.tree
+    c.in_ok-test.ensures.fewer c.in_ok-body.ensures.fewer
+
+pub for_loop-returns-clause-tree : goal.for_loop-returns-clause-tree
+for_loop-returns-clause-tree t c =
+    for_taken c.for_over.ensures.tree c.place-at.ensures c.in_ok-head.ensures.tree c.in_ok-body.ensures.tree c.in_ok-head.ensures.fewer c.in_ok-body.ensures.fewer
+
+pub switch-returns-clause-tree : goal.switch-returns-clause-tree
+switch-returns-clause-tree t c =
+    switch_taken c.switch_over.ensures.tree c.place-at.ensures c.place-parts_at.ensures (word_taken keyword.Switch c.args.parser.now.cursor _ c.in_ok-expect_keyword.ensures.taken c.in_ok-expect_keyword.ensures.left) c.in_ok-value.ensures.tree
+    (mark_taken mark.OpenBrace c.tested.new.parser.cursor _ c.in_ok-expect.ensures.taken c.in_ok-expect.ensures.left) c.in_ok-parts.ensures.tree c.in_ok-value.ensures.fewer c.in_ok-parts.ensures.fewer
+
+pub inner_block-returns-clause-tree : goal.inner_block-returns-clause-tree
+inner_block-returns-clause-tree t c =
+    block_taken c.block_over.ensures.tree c.place-at.ensures (mark_taken mark.OpenBrace c.args.parser.now.cursor _ c.in_ok-expect.ensures.taken c.in_ok-expect.ensures.left) c.in_ok-body.ensures.tree c.in_ok-body.ensures.fewer
+
+pub body-loop-parser-init : goal.body-loop-parser-init
+body-loop-parser-init t c = record {
+  tree = body_begun c.new-statements.ensures.items c.in_ok-declarations.ensures.tree;
+  height = rw c.new-statements.ensures.items (omega (arith, c.in_ok-declarations.ensures.height));
+  room = c.in_ok-declarations.ensures.room;
+  no_more = c.in_ok-declarations.ensures.no_more;
+  leads = leads_from (body_ways c.args.depth _) c.in_ok-declarations.ensures.only;
+}
+
+pub body-loop-parser-preserved : goal.body-loop-parser-preserved
+body-loop-parser-preserved t c =
+    let k : c.take.new.self ≡ c.loop-parser.parser.cursor = kept c.take.ensures.left c.loop-parser-test.true in
+    record {
+      tree = body_grown _ _ c.in_ok-push.ensures.items (kept c.take.ensures.left c.loop-parser-test.true) c.loop-parser.invariant.tree c.in_ok-next.ensures.tree;
+      height = body_height _ _ _ c.in_ok-push.ensures.items c.loop-parser.invariant.height c.in_ok-next.ensures.height c.max-highest.ensures;
+      room = omega (arith, c.loop-parser.invariant.room, c.in_ok-next.ensures.room, c.max-highest.ensures);
+      no_more = omega (arith, c.loop-parser.invariant.no_more, length_kept k, c.in_ok-next.ensures.fewer);
+      leads = leads_further c.loop-parser.invariant.leads (statements_ways (c.args.depth + 1) _ (not_there c.take.ensures.taken c.loop-parser-test.true)) (only_kept k (statement_only c.in_ok-next.ensures.tree));
+    }
+
+pub body-returns-clause-tree : goal.body-returns-clause-tree
+body-returns-clause-tree t c = body_ended c.loop-parser.invariant.tree (took c.take.ensures.taken c.take.ensures.left c.loop-parser-test.false)
+
+pub switch_parts-loop-parser-init : goal.switch_parts-loop-parser-init
+switch_parts-loop-parser-init t c = record {
+  tree = rw c.new-parts.ensures.items (nothing _ _ NoChoice);
+  height = rw c.new-parts.ensures.items refl;
+  room = omega arith;
+  no_more = omega arith;
+  leads = leads_on;
+}
+
+pub switch_parts-loop-parser-preserved : goal.switch_parts-loop-parser-preserved
+switch_parts-loop-parser-preserved t c =
+    let k : c.take.new.self ≡ c.loop-parser.parser.cursor = kept c.take.ensures.left c.loop-parser-test.true in
+    record {
+      tree = parts_grown _ _ c.in_ok-push.ensures.items (kept c.take.ensures.left c.loop-parser-test.true) c.loop-parser.invariant.tree c.in_ok-part.ensures.tree;
+      height = parts_height _ _ c.in_ok-push.ensures.items c.loop-parser.invariant.height c.in_ok-part.ensures.height c.max-highest.ensures;
+      room = omega (arith, c.loop-parser.invariant.room, c.in_ok-part.ensures.room, c.max-highest.ensures);
+      no_more = omega (arith, c.loop-parser.invariant.no_more, length_kept k, c.in_ok-part.ensures.fewer);
+      leads = leads_further c.loop-parser.invariant.leads (parts_ways c.args.depth _ (not_there c.take.ensures.taken c.loop-parser-test.true)) (only_kept k c.in_ok-part.ensures.only);
+    }
+
+pub switch_parts-returns-clause-tree : goal.switch_parts-returns-clause-tree
+switch_parts-returns-clause-tree t c = joined c.loop-parser.invariant.tree (took c.take.ensures.taken c.take.ensures.left c.loop-parser-test.false)
+
+pub inner-returns-clause-tree : goal.inner-returns-clause-tree
+inner-returns-clause-tree t c = ok_mapped c.boxed.result (λ p e. same_taken e c.in_ok-read.ensures.tree) c.boxed.ensures.tree
+
+pub switch_part-returns-clause-tree : goal.switch_part-returns-clause-tree
+switch_part-returns-clause-tree t c = chosen_taken c.part_over.ensures.tree c.in_ok-statement.ensures.tree
+
+pub choice-returns-in_err-allow-clause-refused : goal.choice-returns-in_err-allow-clause-refused
+choice-returns-in_err-allow-clause-refused t c = known_to c.from_residual.result (fails_as (if_ways c.args.depth _ c.requires.begun) (second_never (λ m. first_fails (tested_too_high (omega (arith, c.in_err-allow.ensures.refused))))))
+
+pub choice-returns-in_err-test-clause-refused : goal.choice-returns-in_err-test-clause-refused
+choice-returns-in_err-test-clause-refused t c =
+    passed_on _ c.from_residual-in_err-test.result c.from_residual-in_err-test.ensures.1 c.in_err-test.ensures.refused
+    (λ n. fails_as (if_ways c.args.depth _ c.requires.begun) (second_fails (one_leads c.in_ok-expect_keyword.ensures.left) (first_fails n)))
+
+pub choice-returns-in_err-yes-clause-refused : goal.choice-returns-in_err-yes-clause-refused
+choice-returns-in_err-yes-clause-refused t c =
+    passed_on _ c.from_residual-in_err-yes.result c.from_residual-in_err-yes.ensures.1 c.in_err-yes.ensures.refused
+    (λ n. fails_as (if_ways c.args.depth _ c.requires.begun) (second_fails (one_leads c.in_ok-expect_keyword.ensures.left) (second_fails c.in_ok-test.ensures.only (first_fails n))))
+
+pub choice-returns-in_err-no-clause-refused : goal.choice-returns-in_err-no-clause-refused
+choice-returns-in_err-no-clause-refused t c =
+    passed_on _ c.from_residual-in_err-no.result c.from_residual-in_err-no.ensures.1 c.in_err-no.ensures.refused
+    (λ n. fails_as (if_ways c.args.depth _ c.requires.begun) (second_fails (one_leads c.in_ok-expect_keyword.ensures.left) (second_fails c.in_ok-test.ensures.only (second_fails (statement_only c.in_ok-yes.ensures.tree)
+    (else_fails c.take_keyword.ensures.taken c.take_keyword.ensures.left c.if-not-take_keyword.false n)))))
+
+pub do_loop-returns-in_err-allow-clause-refused : goal.do_loop-returns-in_err-allow-clause-refused
+do_loop-returns-in_err-allow-clause-refused t c = known_to c.from_residual.result (fails_as (do_ways c.args.depth _ c.requires.begun) (second_never (λ m. first_fails (statement_too_high (omega (arith, c.in_err-allow.ensures.refused))))))
+
+pub do_loop-returns-in_err-body-clause-refused : goal.do_loop-returns-in_err-body-clause-refused
+do_loop-returns-in_err-body-clause-refused t c =
+    passed_on _ c.from_residual-in_err-body.result c.from_residual-in_err-body.ensures.1 c.in_err-body.ensures.refused
+    (λ n. fails_as (do_ways c.args.depth _ c.requires.begun) (second_fails (one_leads c.in_ok-expect_keyword.ensures.left) (first_fails n)))
+
+pub do_loop-returns-in_err-test-clause-refused : goal.do_loop-returns-in_err-test-clause-refused
+do_loop-returns-in_err-test-clause-refused t c =
+    passed_on _ c.from_residual-in_err-test.result c.from_residual-in_err-test.ensures.1 c.in_err-test.ensures.refused
+    (λ n. fails_as (do_ways c.args.depth _ c.requires.begun) (second_fails (one_leads c.in_ok-expect_keyword.ensures.left) (second_fails (statement_only c.in_ok-body.ensures.tree) n)))
+
+pub while_loop-returns-in_err-allow-clause-refused : goal.while_loop-returns-in_err-allow-clause-refused
+while_loop-returns-in_err-allow-clause-refused t c = known_to c.from_residual.result (fails_as (while_ways c.args.depth _ c.requires.begun) (second_never (λ m. first_fails (tested_too_high (omega (arith, c.in_err-allow.ensures.refused))))))
+
+pub while_loop-returns-in_err-test-clause-refused : goal.while_loop-returns-in_err-test-clause-refused
+while_loop-returns-in_err-test-clause-refused t c =
+    passed_on _ c.from_residual-in_err-test.result c.from_residual-in_err-test.ensures.1 c.in_err-test.ensures.refused
+    (λ n. fails_as (while_ways c.args.depth _ c.requires.begun) (second_fails (one_leads c.in_ok-expect_keyword.ensures.left) (first_fails n)))
+
+pub while_loop-returns-in_err-body-clause-refused : goal.while_loop-returns-in_err-body-clause-refused
+while_loop-returns-in_err-body-clause-refused t c =
+    passed_on _ c.from_residual-in_err-body.result c.from_residual-in_err-body.ensures.1 c.in_err-body.ensures.refused
+    (λ n. fails_as (while_ways c.args.depth _ c.requires.begun) (second_fails (one_leads c.in_ok-expect_keyword.ensures.left) (second_fails c.in_ok-test.ensures.only n)))
+
+pub for_loop-returns-in_err-allow-clause-refused : goal.for_loop-returns-in_err-allow-clause-refused
+for_loop-returns-in_err-allow-clause-refused t c = known_to c.from_residual.result (fails_as (for_ways c.args.depth _ c.requires.begun) (second_never (λ m. statement_too_high (omega (arith, c.in_err-allow.ensures.refused)))))
+
+pub for_loop-returns-in_err-head-clause-refused : goal.for_loop-returns-in_err-head-clause-refused
+for_loop-returns-in_err-head-clause-refused t c =
+    passed_on _ c.from_residual-in_err-head.result c.from_residual-in_err-head.ensures.1 c.in_err-head.ensures.refused
+    (λ n. fails_as (for_ways c.args.depth _ c.requires.begun) (first_fails n))
+
+pub for_loop-returns-in_err-body-clause-refused : goal.for_loop-returns-in_err-body-clause-refused
+for_loop-returns-in_err-body-clause-refused t c =
+    passed_on _ c.from_residual-in_err-body.result c.from_residual-in_err-body.ensures.1 c.in_err-body.ensures.refused
+    (λ n. fails_as (for_ways c.args.depth _ c.requires.begun) (second_fails (for_head_only _ _ _ c.in_ok-head.ensures.tree) n))
+
+pub switch-returns-in_err-allow-clause-refused : goal.switch-returns-in_err-allow-clause-refused
+switch-returns-in_err-allow-clause-refused t c = known_to c.from_residual.result (fails_as (switch_ways c.args.depth _ c.requires.begun) (second_never (λ m. first_fails (tested_too_high (omega (arith, c.in_err-allow.ensures.refused))))))
+
+pub switch-returns-in_err-value-clause-refused : goal.switch-returns-in_err-value-clause-refused
+switch-returns-in_err-value-clause-refused t c =
+    passed_on _ c.from_residual-in_err-value.result c.from_residual-in_err-value.ensures.1 c.in_err-value.ensures.refused
+    (λ n. fails_as (switch_ways c.args.depth _ c.requires.begun) (second_fails (one_leads c.in_ok-expect_keyword.ensures.left) (first_fails n)))
+
+pub switch-returns-in_err-expect-clause-refused : goal.switch-returns-in_err-expect-clause-refused
+switch-returns-in_err-expect-clause-refused t c = known_to c.from_residual-in_err-expect.result (
+    fails_as (switch_ways c.args.depth _ c.requires.begun) (second_fails (one_leads c.in_ok-expect_keyword.ensures.left) (second_fails c.in_ok-value.ensures.only (first_fails (mark_fails c.in_err-expect.ensures.refused)))))
+
+pub switch-returns-in_err-parts-clause-refused : goal.switch-returns-in_err-parts-clause-refused
+switch-returns-in_err-parts-clause-refused t c =
+    passed_on _ c.from_residual-in_err-parts.result c.from_residual-in_err-parts.ensures.1 c.in_err-parts.ensures.refused
+    (λ n. fails_as (switch_ways c.args.depth _ c.requires.begun) (second_fails (one_leads c.in_ok-expect_keyword.ensures.left) (second_fails c.in_ok-value.ensures.only (second_fails (one_leads c.in_ok-expect.ensures.left) n))))
+
+pub inner_block-returns-in_err-body-clause-refused : goal.inner_block-returns-in_err-body-clause-refused
+inner_block-returns-in_err-body-clause-refused t c =
+    passed_on _ c.from_residual-in_err-body.result c.from_residual-in_err-body.ensures.1 c.in_err-body.ensures.refused
+    (λ n. fails_as (block_ways c.args.depth _ c.requires.begun) (second_fails (one_leads c.in_ok-expect.ensures.left) n))
+
+pub body-returns-in_err-declarations-clause-refused : goal.body-returns-in_err-declarations-clause-refused
+body-returns-in_err-declarations-clause-refused t c =
+    passed_on _ c.from_residual.result c.from_residual.ensures.1 c.in_err-declarations.ensures.refused
+    (λ n. fails_as (body_ways c.args.depth _) (first_fails n))
+
+pub body-returns-in_err-next-clause-refused : goal.body-returns-in_err-next-clause-refused
+body-returns-in_err-next-clause-refused t c =
+    passed_on _ c.from_residual-in_err-next.result c.from_residual-in_err-next.ensures.1 c.in_err-next.ensures.refused
+    (λ n. fails_on c.loop-parser.invariant.leads (fails_as (statements_ways (c.args.depth + 1) _ (not_there c.take.ensures.taken c.loop-parser-test.true)) (first_fails (fails_kept (kept c.take.ensures.left c.loop-parser-test.true) n))))
+
+pub switch_parts-returns-in_err-part-clause-refused : goal.switch_parts-returns-in_err-part-clause-refused
+switch_parts-returns-in_err-part-clause-refused t c =
+    passed_on _ c.from_residual.result c.from_residual.ensures.1 c.in_err-part.ensures.refused
+    (λ n. fails_on c.loop-parser.invariant.leads (fails_as (parts_ways c.args.depth _ (not_there c.take.ensures.taken c.loop-parser-test.true)) (first_fails (fails_kept (kept c.take.ensures.left c.loop-parser-test.true) n))))
+
+pub switch_part-returns-then-stands_word-clause-only : goal.switch_part-returns-then-stands_word-clause-only
+switch_part-returns-then-stands_word-clause-only t c = ok_mapped c.default_label.result (λ p o. leads_as (default_ways c.args.depth _ (c.stands_word.ensures.0 c.if-stands_word.true)) o) c.default_label.ensures.only
+
+pub switch_part-returns-then-stands_word-clause-refused : goal.switch_part-returns-then-stands_word-clause-refused
+switch_part-returns-then-stands_word-clause-refused t c = goes_out c.default_label.result (λ n. fails_as (default_ways c.args.depth _ (c.stands_word.ensures.0 c.if-stands_word.true)) n) c.default_label.ensures.refused
+
+pub switch_part-returns-then-stands_word-2-clause-only : goal.switch_part-returns-then-stands_word-2-clause-only
+switch_part-returns-then-stands_word-2-clause-only t c = ok_mapped c.case_label.result (λ p o. leads_as (case_ways c.args.depth _ (c.stands_word-2.ensures.0 c.if-stands_word-2.true)) o) c.case_label.ensures.only
+
+pub switch_part-returns-then-stands_word-2-clause-refused : goal.switch_part-returns-then-stands_word-2-clause-refused
+switch_part-returns-then-stands_word-2-clause-refused t c = goes_out c.case_label.result (λ n. fails_as (case_ways c.args.depth _ (c.stands_word-2.ensures.0 c.if-stands_word-2.true)) n) c.case_label.ensures.refused
+
+pub switch_part-returns-clause-only : goal.switch_part-returns-clause-only
+switch_part-returns-clause-only t c = leads_as (chosen_ways c.args.depth _ (not_there c.stands_word-2.ensures c.if-stands_word-2.false) (not_there c.stands_word.ensures c.if-stands_word.false)) (statement_only c.in_ok-statement.ensures.tree)
+
+pub switch_part-returns-in_err-statement-clause-refused : goal.switch_part-returns-in_err-statement-clause-refused
+switch_part-returns-in_err-statement-clause-refused t c =
+    passed_on _ c.from_residual.result c.from_residual.ensures.1 c.in_err-statement.ensures.refused
+    (λ n. fails_as (chosen_ways c.args.depth _ (not_there c.stands_word-2.ensures c.if-stands_word-2.false) (not_there c.stands_word.ensures c.if-stands_word.false)) n)

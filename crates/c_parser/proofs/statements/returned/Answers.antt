@@ -1,0 +1,22 @@
+use Rattle.std.proofs.Common.{arith}
+use Rattle.c_syntax.specs.declared.token.Keyword.TheVariants as keyword
+use Rattle.c_syntax.specs.SyntaxTree.{Return}
+use Rattle.c_syntax.specs.Derives.{Closed}
+use Rattle.c_syntax.specs.SyntaxView.{optional_of}
+use Rattle.c_expressions.proofs.TakesLemmas.{joined, word_taken, one_fewer}
+use Rattle.c_parser.proofs.StatementRows.{stated, return_row}
+use Rattle.c_parser.proofs.FrontLemmas.{second_fails, fails_as, one_leads}
+use Rattle.c_expressions.proofs.Refusals.{passed_on}
+use Rattle.c_parser.proofs.StatementWays.{return_ways}
+use Rattle.c_parser.proofs.statements.returned.Goals as goal
+
+pub returns-clause-tree : goal.returns-clause-tree
+returns-clause-tree c =
+    let w = word_taken keyword.Return c.args.parser.now.cursor _ c.in_ok-expect_keyword.ensures.taken c.in_ok-expect_keyword.ensures.left in
+    rw c.over.ensures (stated Closed (Return (optional_of c.in_ok-value.value.tree)) (joined w c.in_ok-value.ensures.tree) (omega (arith, one_fewer w, c.in_ok-value.ensures.fewer))
+    (c.place-at.ensures (omega (arith, one_fewer w))) (tt {0}) (return_row (optional_of c.in_ok-value.value.tree)))
+
+pub returns-in_err-value-clause-refused : goal.returns-in_err-value-clause-refused
+returns-in_err-value-clause-refused c =
+    passed_on _ c.from_residual-in_err-value.result c.from_residual-in_err-value.ensures.1 c.in_err-value.ensures.refused
+    (λ n. fails_as (return_ways c.args.depth _ c.requires.begun) (second_fails (one_leads c.in_ok-expect_keyword.ensures.left) n))

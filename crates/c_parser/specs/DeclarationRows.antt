@@ -1,0 +1,24 @@
+-- What the parts of declarations take.
+use Rattle.std.specs.Prelude.{◌≡◌, ℕ, Bool, true, false, List, ◌∷◌, ◌++◌}
+use Rattle.c_syntax.specs.declared.token.Token.{Token}
+use Rattle.c_syntax.specs.declared.token.Punct.TheVariants as mark
+use Rattle.c_syntax.specs.SyntaxTree.{ItemForm}
+use Rattle.c_syntax.specs.Grammar.{IsMark, AreStars, place_of}
+use Rattle.c_syntax.specs.Derives.{IsName, IsLastComma, DerivesForm}
+use Rattle.c_expressions.specs.Takes.{Takes, IsOne}
+
+-- the front of an item: its stars, its name and what stands behind it
+pub record IsItemFront (stars : ℕ) (name : List ℕ) (form : ItemForm) (at : ℕ) (tokens : List Token) : Type 0 where
+  pub a : List Token
+  pub t : Token
+  pub b : List Token
+  pub cut : tokens ≡ a ++ t ∷ b
+  pub are_stars : AreStars a stars
+  pub is_name : IsName name t
+  pub is_form : DerivesForm b form
+  pub place : at ≡ place_of tokens
+
+-- a comma was taken before a value, or none, or the last one
+abbrev pub ListGoesOn : Bool → List Token → List Token → Type 0
+ListGoesOn true before after = Takes (IsOne (IsMark mark.Comma)) before after
+ListGoesOn false before after = Takes IsLastComma before after
