@@ -88,6 +88,19 @@ impl<'a> Body<'a> {
         }
     }
 
+    // A statement within another. It is kept in its box while the rest of the other is typed.
+    #[cycle(statements)]
+    fn inner(&mut self, s: &'a Stmt, enclosing: Enclosing) -> Result<Box<TypedStmt>, Refusal>
+        ensures typed { IfOk result (λ t. statement_in self.old enclosing (statement_of s.now.kind s.now.at) ≡ just (stmt_of t.value) (locals_of self.new)) }
+        ensures refused { IfErr result (Refuses (statement_in self.old enclosing (statement_of s.now.kind s.now.at))) }
+        ensures tables { OnOk result (tables_of self.new.scopes ≡ tables_of self.old.scopes) }
+        ensures bodies { self.new.scopes.bodies ≡ self.old.scopes.bodies }
+        ensures returned { self.new.result ≡ self.old.result }
+    {
+        let typed = self.statement(s, enclosing)?;
+        Ok(Box::new(self.scopes.alloc, typed)?)
+    }
+
     // A block, in a scope of its own: 6.6.2.
     #[cycle(statements)]
     fn block(
@@ -207,19 +220,19 @@ impl<'a> Body<'a> {
         ensures returned { self.new.result ≡ self.old.result }
     {
         let test = self.scopes.expression(test)?;
-        let yes = self.statement(yes, enclosing)?;
+        let yes = self.inner(yes, enclosing)?;
         self.one_armed(test, yes, at)
     }
 
     // An if over its test and its only arm.
-    fn one_armed(&self, test: TypedExpr, yes: TypedStmt, at: u32) -> Result<TypedStmt, Refusal>
-        ensures typed { IfOk result (λ t. tested_in self.now at (expr_of test) (If (expr_of test) (stmt_of yes) (Block [] done)) ≡ just (stmt_of t) (locals_of self.now)) }
-        ensures refused { IfErr result (Refuses (tested_in self.now at (expr_of test) (If (expr_of test) (stmt_of yes) (Block [] done)))) }
+    fn one_armed(&self, test: TypedExpr, yes: Box<TypedStmt>, at: u32) -> Result<TypedStmt, Refusal>
+        ensures typed { IfOk result (λ t. tested_in self.now at (expr_of test) (If (expr_of test) (stmt_of yes.value) (Block [] done)) ≡ just (stmt_of t) (locals_of self.now)) }
+        ensures refused { IfErr result (Refuses (tested_in self.now at (expr_of test) (If (expr_of test) (stmt_of yes.value) (Block [] done)))) }
     {
         not_void(&test, at)?;
         Ok(TypedStmt::If {
             test,
-            yes: Box::new(self.scopes.alloc, yes)?,
+            yes,
             no: None,
         })
     }
@@ -241,7 +254,7 @@ impl<'a> Body<'a> {
         ensures returned { self.new.result ≡ self.old.result }
     {
         let test = self.scopes.expression(test)?;
-        let yes = self.statement(yes, enclosing)?;
+        let yes = self.inner(yes, enclosing)?;
         self.otherwise(test, yes, no, enclosing, at)
     }
 
@@ -250,18 +263,18 @@ impl<'a> Body<'a> {
     fn otherwise(
         &mut self,
         test: TypedExpr,
-        yes: TypedStmt,
+        yes: Box<TypedStmt>,
         no: &'a Stmt,
         enclosing: Enclosing,
         at: u32,
     ) -> Result<TypedStmt, Refusal>
-        ensures typed { IfOk result (λ t. else_in self.old enclosing at (expr_of test) (stmt_of yes) (statement_of no.now.kind no.now.at) ≡ just (stmt_of t) (locals_of self.new)) }
-        ensures refused { IfErr result (Refuses (else_in self.old enclosing at (expr_of test) (stmt_of yes) (statement_of no.now.kind no.now.at))) }
+        ensures typed { IfOk result (λ t. else_in self.old enclosing at (expr_of test) (stmt_of yes.value) (statement_of no.now.kind no.now.at) ≡ just (stmt_of t) (locals_of self.new)) }
+        ensures refused { IfErr result (Refuses (else_in self.old enclosing at (expr_of test) (stmt_of yes.value) (statement_of no.now.kind no.now.at))) }
         ensures tables { OnOk result (tables_of self.new.scopes ≡ tables_of self.old.scopes) }
         ensures bodies { self.new.scopes.bodies ≡ self.old.scopes.bodies }
         ensures returned { self.new.result ≡ self.old.result }
     {
-        let no = self.statement(no, enclosing)?;
+        let no = self.inner(no, enclosing)?;
         self.two_armed(test, yes, no, at)
     }
 
@@ -269,19 +282,18 @@ impl<'a> Body<'a> {
     fn two_armed(
         &self,
         test: TypedExpr,
-        yes: TypedStmt,
-        no: TypedStmt,
+        yes: Box<TypedStmt>,
+        no: Box<TypedStmt>,
         at: u32,
     ) -> Result<TypedStmt, Refusal>
-        ensures typed { IfOk result (λ t. tested_in self.now at (expr_of test) (If (expr_of test) (stmt_of yes) (stmt_of no)) ≡ just (stmt_of t) (locals_of self.now)) }
-        ensures refused { IfErr result (Refuses (tested_in self.now at (expr_of test) (If (expr_of test) (stmt_of yes) (stmt_of no)))) }
+        ensures typed { IfOk result (λ t. tested_in self.now at (expr_of test) (If (expr_of test) (stmt_of yes.value) (stmt_of no.value)) ≡ just (stmt_of t) (locals_of self.now)) }
+        ensures refused { IfErr result (Refuses (tested_in self.now at (expr_of test) (If (expr_of test) (stmt_of yes.value) (stmt_of no.value)))) }
     {
-        let alloc = self.scopes.alloc;
         not_void(&test, at)?;
         Ok(TypedStmt::If {
             test,
-            yes: Box::new(alloc, yes)?,
-            no: Some(Box::new(alloc, no)?),
+            yes,
+            no: Some(no),
         })
     }
 
@@ -374,20 +386,22 @@ impl<'a> Body<'a> {
         ensures returned { self.new.result ≡ self.old.result }
     {
         let test = self.scopes.expression(test)?;
-        let body = self.statement(body, Enclosing::Loop)?;
+        let body = self.inner(body, Enclosing::Loop)?;
         self.while_over(test, body, at)
     }
 
     // A while over its test and its body.
-    fn while_over(&self, test: TypedExpr, body: TypedStmt, at: u32) -> Result<TypedStmt, Refusal>
-        ensures typed { IfOk result (λ t. tested_in self.now at (expr_of test) (While (expr_of test) (stmt_of body)) ≡ just (stmt_of t) (locals_of self.now)) }
-        ensures refused { IfErr result (Refuses (tested_in self.now at (expr_of test) (While (expr_of test) (stmt_of body)))) }
+    fn while_over(
+        &self,
+        test: TypedExpr,
+        body: Box<TypedStmt>,
+        at: u32,
+    ) -> Result<TypedStmt, Refusal>
+        ensures typed { IfOk result (λ t. tested_in self.now at (expr_of test) (While (expr_of test) (stmt_of body.value)) ≡ just (stmt_of t) (locals_of self.now)) }
+        ensures refused { IfErr result (Refuses (tested_in self.now at (expr_of test) (While (expr_of test) (stmt_of body.value)))) }
     {
         not_void(&test, at)?;
-        Ok(TypedStmt::While {
-            test,
-            body: Box::new(self.scopes.alloc, body)?,
-        })
+        Ok(TypedStmt::While { test, body })
     }
 
     // 6.6.5.2.
@@ -399,21 +413,18 @@ impl<'a> Body<'a> {
         ensures bodies { self.new.scopes.bodies ≡ self.old.scopes.bodies }
         ensures returned { self.new.result ≡ self.old.result }
     {
-        let body = self.statement(body, Enclosing::Loop)?;
+        let body = self.inner(body, Enclosing::Loop)?;
         self.do_test(body, test, at)
     }
 
     // The test behind the body of a do.
-    fn do_test(&self, body: TypedStmt, test: &Expr, at: u32) -> Result<TypedStmt, Refusal>
-        ensures typed { IfOk result (λ t. test_in self.now at (stmt_of body) (expression_of test.now) ≡ just (stmt_of t) (locals_of self.now)) }
-        ensures refused { IfErr result (Refuses (test_in self.now at (stmt_of body) (expression_of test.now))) }
+    fn do_test(&self, body: Box<TypedStmt>, test: &Expr, at: u32) -> Result<TypedStmt, Refusal>
+        ensures typed { IfOk result (λ t. test_in self.now at (stmt_of body.value) (expression_of test.now) ≡ just (stmt_of t) (locals_of self.now)) }
+        ensures refused { IfErr result (Refuses (test_in self.now at (stmt_of body.value) (expression_of test.now))) }
     {
         let test = self.scopes.expression(test)?;
         not_void(&test, at)?;
-        Ok(TypedStmt::Do {
-            body: Box::new(self.scopes.alloc, body)?,
-            test,
-        })
+        Ok(TypedStmt::Do { body, test })
     }
 
     // 6.6.5.3.
@@ -436,21 +447,21 @@ impl<'a> Body<'a> {
         let test = self.optional(test)?;
         let third = self.optional(third)?;
         let head = ForHead { first, test, third };
-        let body = self.statement(body, Enclosing::Loop)?;
+        let body = self.inner(body, Enclosing::Loop)?;
         self.for_over(head, body, at)
     }
 
     // A for over what stands between its parentheses and its body.
-    fn for_over(&self, head: ForHead, body: TypedStmt, at: u32) -> Result<TypedStmt, Refusal>
-        ensures typed { IfOk result (λ t. for_in self.now at head (stmt_of body) ≡ just (stmt_of t) (locals_of self.now)) }
-        ensures refused { IfErr result (Refuses (for_in self.now at head (stmt_of body))) }
+    fn for_over(&self, head: ForHead, body: Box<TypedStmt>, at: u32) -> Result<TypedStmt, Refusal>
+        ensures typed { IfOk result (λ t. for_in self.now at head (stmt_of body.value) ≡ just (stmt_of t) (locals_of self.now)) }
+        ensures refused { IfErr result (Refuses (for_in self.now at head (stmt_of body.value))) }
     {
         test_not_void(&head.test, at)?;
         Ok(TypedStmt::For {
             first: head.first,
             test: head.test,
             third: head.third,
-            body: Box::new(self.scopes.alloc, body)?,
+            body,
         })
     }
 

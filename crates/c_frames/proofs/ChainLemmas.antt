@@ -43,33 +43,33 @@ names_further fs numbers i f names new name less within is so_far pushed copied 
     ∙ ap (λ o. map of (take i numbers) ++ o ∷ []) (ap (λ l. Some l) copied ∙ sym (name_there fs (get_or numbers i 0) f within is)) ∙ sym (map_more of numbers i 0 less)
 
 -- the uses of each function, as the code has them
-uses_listed : (fs : List memory.TypedFunction) → map (λ f. statement_uses (stmt_of f.body)) fs ≡ map uses_in (map typed_function_of fs)
+uses_listed : (fs : List memory.TypedFunction) → map (λ f. statement_uses (stmt_of f.body.value)) fs ≡ map uses_in (map typed_function_of fs)
 uses_listed [] = refl
-uses_listed (f ∷ fs) = ap (λ ls. statement_uses (stmt_of f.body) ∷ ls) (uses_listed fs)
+uses_listed (f ∷ fs) = ap (λ ls. statement_uses (stmt_of f.body.value) ∷ ls) (uses_listed fs)
 
 -- the functions that each calls, by such lists
-calls_in : (fs : List memory.TypedFunction) (lists : List (List Use)) → lists ≡ map (λ f. statement_uses (stmt_of f.body)) fs → map called lists ≡ calls_of (map typed_function_of fs)
+calls_in : (fs : List memory.TypedFunction) (lists : List (List Use)) → lists ≡ map (λ f. statement_uses (stmt_of f.body.value)) fs → map called lists ≡ calls_of (map typed_function_of fs)
 calls_in fs lists listed = ap (map called) (listed ∙ uses_listed fs) ∙ calls_listed (map typed_function_of fs)
 
-pub bodies_in : (fs : List memory.TypedFunction) (lists : List (List Use)) → lists ≡ map (λ f. statement_uses (stmt_of f.body)) fs → HasBodies (map typed_function_of fs)
+pub bodies_in : (fs : List memory.TypedFunction) (lists : List (List Use)) → lists ≡ map (λ f. statement_uses (stmt_of f.body.value)) fs → HasBodies (map typed_function_of fs)
     → (n m : ℕ) → CallsAmong (map called lists) n m → m < length lists
 bodies_in fs lists listed bodies n m call =
     let within = bodies n m (subst (λ ls. CallsAmong ls n m) (calls_in fs lists listed) call)
     in omega (arith, within, ap length (listed ∙ uses_listed fs), length-map (map typed_function_of fs) uses_in)
 
-pub no_cycle_in : (fs : List memory.TypedFunction) (lists : List (List Use)) → lists ≡ map (λ f. statement_uses (stmt_of f.body)) fs → HasNoRound (CallsAmong (map called lists))
+pub no_cycle_in : (fs : List memory.TypedFunction) (lists : List (List Use)) → lists ≡ map (λ f. statement_uses (stmt_of f.body.value)) fs → HasNoRound (CallsAmong (map called lists))
     → HasNoCycle (map typed_function_of fs)
 no_cycle_in fs lists listed none = subst (λ ls. HasNoRound (CallsAmong ls)) (calls_in fs lists listed) none
 
-pub chain_there : (fs : List memory.TypedFunction) (lists : List (List Use)) → lists ≡ map (λ f. statement_uses (stmt_of f.body)) fs → (numbers : List ℕ)
+pub chain_there : (fs : List memory.TypedFunction) (lists : List (List Use)) → lists ≡ map (λ f. statement_uses (stmt_of f.body.value)) fs → (numbers : List ℕ)
     → IsFirstChain (CallsAmong (map called lists)) numbers → All (λ k. k < length fs) numbers
 chain_there fs lists listed numbers known =
     let callers : (n m : ℕ) → CallsAmong (map called lists) n m → n < length fs =
-    λ n m call. omega (arith, slice_get_within (map called lists) n call.0 call.1, length-map lists called, ap length listed, length-map fs (λ f. statement_uses (stmt_of f.body)))
+    λ n m call. omega (arith, slice_get_within (map called lists) n call.0 call.1, length-map lists called, ap length listed, length-map fs (λ f. statement_uses (stmt_of f.body.value)))
     in All-same (λ k. k < length fs) numbers (known.number ∷ known.over) known.is
     (round_there (CallsAmong (map called lists)) (length fs) callers known.number known.over known.is_first.round)
 
-pub chain_in : (fs : List memory.TypedFunction) (lists : List (List Use)) → lists ≡ map (λ f. statement_uses (stmt_of f.body)) fs → (numbers : List ℕ) (chain : List (List ℕ))
+pub chain_in : (fs : List memory.TypedFunction) (lists : List (List Use)) → lists ≡ map (λ f. statement_uses (stmt_of f.body.value)) fs → (numbers : List ℕ) (chain : List (List ℕ))
     → IsFirstChain (CallsAmong (map called lists)) numbers → map Some chain ≡ map (name_of (map typed_function_of fs)) numbers → IsChain (map typed_function_of fs) chain
 chain_in fs lists listed numbers chain known named = record {
   number = known.number;

@@ -2,7 +2,6 @@
 use Rattle.std.specs.Prelude.{map}
 use Rattle.c_tree.specs.View.{stmt_of}
 use Rattle.c_frames.specs.declared.functions.TypedFunction as functions
-use Rattle.c_rules.specs.declared.local.Local as locals
 use Rattle.c_rules.specs.Units.{TypedFunction}
 use Rattle.c_rules.specs.LocalView.{local_tree_of}
 
@@ -12,5 +11,5 @@ typed_function_of f = record {
   result = f.result;
   parameters = f.parameters;
   locals = map local_tree_of f.locals.items;
-  body = stmt_of f.body;
+  body = stmt_of f.body.value;
 }

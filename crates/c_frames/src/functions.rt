@@ -23,7 +23,7 @@ pub struct TypedFunction {
     /// How many of its objects are its parameters, which come first.
     pub parameters: usize,
     pub locals: Vec<Local>,
-    pub body: TypedStmt,
+    pub body: Box<TypedStmt>,
 }
 
 /// The function of a program, where it is known what each object stands for.
@@ -43,7 +43,7 @@ pub fn function_of(
         params: Items::new(references),
         scalars: Items::new(storage.scalars),
         locals: Items::new(storage.objects),
-        body: f.body,
+        body: Box::into_inner(f.body),
     })
 }
 

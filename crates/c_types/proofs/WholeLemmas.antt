@@ -24,15 +24,15 @@ use Rattle.c_scopes.proofs.FileScopeLemmas.{first_of}
 
 -- the uses of each function, by its place
 pub uses_at : (fs : List memory.TypedFunction) (lists : List (Vec Use Global)) (n : ℕ) (f : memory.TypedFunction) (us : Vec Use Global)
-    → map vec_items lists ≡ map (λ g. statement_uses (stmt_of g.body)) fs → n < length fs → f ≡ get_or fs n f → us ≡ get_or lists n us
-    → us.items ≡ statement_uses (stmt_of f.body)
+    → map vec_items lists ≡ map (λ g. statement_uses (stmt_of g.body.value)) fs → n < length fs → f ≡ get_or fs n f → us ≡ get_or lists n us
+    → us.items ≡ statement_uses (stmt_of f.body.value)
 uses_at [] lists n f us all within there listed = absurd (omega arith)
 uses_at (g ∷ fs) [] n f us all within there listed = absurd (cc all)
 uses_at (g ∷ fs) (vs ∷ lists) zero f us all within there listed =
-    let head : vs.items ≡ statement_uses (stmt_of g.body) = cc all
-    in ap (λ l. l.items) listed ∙ head ∙ ap (λ h. statement_uses (stmt_of h.body)) (sym there)
+    let head : vs.items ≡ statement_uses (stmt_of g.body.value) = cc all
+    in ap (λ l. l.items) listed ∙ head ∙ ap (λ h. statement_uses (stmt_of h.body.value)) (sym there)
 uses_at (g ∷ fs) (vs ∷ lists) (suc n) f us all within there listed =
-    let rest : map vec_items lists ≡ map (λ g. statement_uses (stmt_of g.body)) fs = cc all
+    let rest : map vec_items lists ≡ map (λ g. statement_uses (stmt_of g.body.value)) fs = cc all
     in uses_at fs lists n f us rest (omega arith) there listed
 
 -- a turn of the loop over functions that makes their frames
@@ -49,7 +49,7 @@ map_trees of [] = refl
 map_trees of (f ∷ fs) = ap (λ xs. of (typed_function_of f) ∷ xs) (map_trees of fs)
 
 -- the uses of each function, as the code has them
-uses_of_trees : (fs : List memory.TypedFunction) {lists : List (List Use)} → lists ≡ map (λ f. statement_uses (stmt_of f.body)) fs
+uses_of_trees : (fs : List memory.TypedFunction) {lists : List (List Use)} → lists ≡ map (λ f. statement_uses (stmt_of f.body.value)) fs
     → lists ≡ map uses_of (map typed_function_of fs)
 uses_of_trees fs listed = listed ∙ sym (map_trees uses_of fs)
 
@@ -63,25 +63,25 @@ earlier_grouped (Some a) None c = refl
 earlier_grouped (Some a) (Some b) None = refl
 earlier_grouped (Some a) (Some b) (Some c) = ap Some (omega arith)
 
-pub missing_same : (fs : List memory.TypedFunction) (lists : List (Vec Use Global)) → map vec_items lists ≡ map (λ f. statement_uses (stmt_of f.body)) fs
+pub missing_same : (fs : List memory.TypedFunction) (lists : List (Vec Use Global)) → map vec_items lists ≡ map (λ f. statement_uses (stmt_of f.body.value)) fs
     → first_among (length lists) (map vec_items lists) ≡ missing_body (map typed_function_of fs)
 missing_same fs lists listed =
     let long : length lists ≡ length (map typed_function_of fs) =
-    sym (length-map lists vec_items) ∙ ap length listed ∙ length-map fs (λ f. statement_uses (stmt_of f.body)) ∙ sym (length-map fs typed_function_of)
+    sym (length-map lists vec_items) ∙ ap length listed ∙ length-map fs (λ f. statement_uses (stmt_of f.body.value)) ∙ sym (length-map fs typed_function_of)
     in ap (λ n. first_among n (map vec_items lists)) long ∙ ap (first_among (length (map typed_function_of fs))) (uses_of_trees fs listed)
 
 -- where the uses are lent meanwhile
 pub missing_is : (fs : List memory.TypedFunction) (lists : List (Vec Use Global)) {lent : List (Vec Use Global)} → lent ≡ lists
-    → map vec_items lists ≡ map (λ f. statement_uses (stmt_of f.body)) fs → first_among (length lent) (map vec_items lent) ≡ missing_body (map typed_function_of fs)
+    → map vec_items lists ≡ map (λ f. statement_uses (stmt_of f.body.value)) fs → first_among (length lent) (map vec_items lent) ≡ missing_body (map typed_function_of fs)
 missing_is fs lists same listed = ap (λ l. first_among (length l) (map vec_items l)) same ∙ missing_same fs lists listed
 
 pub none_missing : (fs : List memory.TypedFunction) (lists : List (Vec Use Global)) {lent : List (Vec Use Global)} (found : Option ℕ) → lent ≡ lists
-    → map vec_items lists ≡ map (λ f. statement_uses (stmt_of f.body)) fs → found ≡ first_among (length lent) (map vec_items lent) → found ≡ None
+    → map vec_items lists ≡ map (λ f. statement_uses (stmt_of f.body.value)) fs → found ≡ first_among (length lent) (map vec_items lent) → found ≡ None
     → missing_body (map typed_function_of fs) ≡ None
 none_missing fs lists found same listed is none = sym (missing_is fs lists same listed) ∙ sym is ∙ none
 
 pub cases_is : (fs : List memory.TypedFunction) (lists : List (Vec Use Global)) {lent : List (Vec Use Global)} → lent ≡ lists
-    → map vec_items lists ≡ map (λ f. statement_uses (stmt_of f.body)) fs → first_above 256 (all_cases (map vec_items lent)) ≡ passed limit.Cases (map typed_function_of fs)
+    → map vec_items lists ≡ map (λ f. statement_uses (stmt_of f.body.value)) fs → first_above 256 (all_cases (map vec_items lent)) ≡ passed limit.Cases (map typed_function_of fs)
 cases_is fs lists same listed =
     ap (λ l. first_above 256 (all_cases (map vec_items l))) same ∙ ap (λ l. first_above 256 (all_cases l)) (uses_of_trees fs listed)
 

@@ -72,7 +72,7 @@ fn has_main(functions: &[TypedFunction]) -> bool
 }
 
 fn all_uses(alloc: Global, functions: &[TypedFunction]) -> Result<Vec<Vec<Use>>, NoMemory>
-    ensures { IfOk result (λ all. map vec_items all.items ≡ map (λ f. statement_uses (stmt_of f.body)) functions.now) }
+    ensures { IfOk result (λ all. map vec_items all.items ≡ map (λ f. statement_uses (stmt_of f.body.value)) functions.now) }
 {
     let mut all = Vec::new(alloc);
     for f in functions {
@@ -123,7 +123,7 @@ fn no_recursion(
     functions: &[TypedFunction],
     uses: &[Vec<Use>],
 ) -> Result<(), TypeFault>
-    requires uses { map vec_items uses.now ≡ map (λ f. statement_uses (stmt_of f.body)) functions.now }
+    requires uses { map vec_items uses.now ≡ map (λ f. statement_uses (stmt_of f.body.value)) functions.now }
     requires bodies { HasBodies (map typed_function_of functions.now) }
     ensures no_cycle { IfOk result (λ _. HasNoCycle (map typed_function_of functions.now)) }
     ensures refused { IfErr result (IsRecursion (map typed_function_of functions.now)) }
@@ -179,7 +179,7 @@ fn small_frames(
     functions: &[TypedFunction],
     uses: &[Vec<Use>],
 ) -> Result<Vec<Vec<VarRef>>, TypeFault>
-    requires { map vec_items uses.now ≡ map (λ f. statement_uses (stmt_of f.body)) functions.now }
+    requires { map vec_items uses.now ≡ map (λ f. statement_uses (stmt_of f.body.value)) functions.now }
     ensures frames { IfOk result (λ frames. frame_lists frames.items ≡ map (λ f. frame (typed_function_of f)) functions.now) }
     ensures small { IfOk result (λ _. passed limit.Scalars (map typed_function_of functions.now) ≡ None) }
     ensures refused { IfErr result (IsOver limit.Scalars (passed limit.Scalars (map typed_function_of functions.now))) }
@@ -192,7 +192,7 @@ fn small_frames(
 }
 
 fn small_frame(alloc: Global, f: &TypedFunction, uses: &[Use]) -> Result<Vec<VarRef>, TypeFault>
-    requires { uses.now ≡ statement_uses (stmt_of f.now.body) }
+    requires { uses.now ≡ statement_uses (stmt_of f.now.body.value) }
     ensures frame { IfOk result (λ references. references.items ≡ frame (typed_function_of f.now)) }
     ensures small { IfOk result (λ _. frame_size (typed_function_of f.now) ≤ 64) }
     ensures refused { IfErr result (IsOver limit.Scalars (first_above 64 (frame_size (typed_function_of f.now) ∷ []))) }

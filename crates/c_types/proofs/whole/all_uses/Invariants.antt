@@ -4,4 +4,4 @@ use Rattle.c_tree.specs.Uses.{statement_uses}
 use Rattle.c_types.proofs.whole.all_uses.Given as goal
 
 abbrev pub invariant-loop-f : goal.invariant-loop-f
-invariant-loop-f l = map vec_items l.all.items ≡ map (λ f. statement_uses (stmt_of f.body)) (take l.f-index l.functions)
+invariant-loop-f l = map vec_items l.all.items ≡ map (λ f. statement_uses (stmt_of f.body.value)) (take l.f-index l.functions)

@@ -46,74 +46,74 @@ statements-returns-in_err-statement-clause-refused t c =
 
 pub do_loop-returns-clause-typed : goal.do_loop-returns-clause-typed
 do_loop-returns-clause-typed t c =
-    same_typed _ _ c.statement.new.self c.do_test.result
-    (do_rest c.args.self.now c.statement.new.self c.in_ok-body.ensures.tables c.in_ok-body.ensures.bodies around.Loop (statement_of c.args.body.now.kind c.args.body.now.at) (expression_of c.args.test.now) c.args.at (stmt_of c.in_ok-body.body) c.in_ok-body.ensures.typed)
+    same_typed _ _ c.inner.new.self c.do_test.result
+    (do_rest c.args.self.now c.inner.new.self c.in_ok-body.ensures.tables c.in_ok-body.ensures.bodies around.Loop (statement_of c.args.body.now.kind c.args.body.now.at) (expression_of c.args.test.now) c.args.at (stmt_of c.in_ok-body.body.value) c.in_ok-body.ensures.typed)
     c.do_test.ensures.typed
 
 pub do_loop-returns-clause-refused : goal.do_loop-returns-clause-refused
 do_loop-returns-clause-refused t c =
     same_refused _ _ c.do_test.result
-    (do_rest c.args.self.now c.statement.new.self c.in_ok-body.ensures.tables c.in_ok-body.ensures.bodies around.Loop (statement_of c.args.body.now.kind c.args.body.now.at) (expression_of c.args.test.now) c.args.at (stmt_of c.in_ok-body.body) c.in_ok-body.ensures.typed)
+    (do_rest c.args.self.now c.inner.new.self c.in_ok-body.ensures.tables c.in_ok-body.ensures.bodies around.Loop (statement_of c.args.body.now.kind c.args.body.now.at) (expression_of c.args.test.now) c.args.at (stmt_of c.in_ok-body.body.value) c.in_ok-body.ensures.typed)
     c.do_test.ensures.refused
 
 pub either-returns-clause-typed : goal.either-returns-clause-typed
 either-returns-clause-typed t c =
     same_typed _ _ c.otherwise.new.self c.otherwise.result
-    (else_rest c.args.self.now c.statement.new.self c.in_ok-yes.ensures.tables c.in_ok-yes.ensures.bodies c.in_ok-yes.ensures.returned c.args.enclosing (expression_of c.args.test.now) (statement_of c.args.yes.now.kind c.args.yes.now.at) (statement_of c.args.no.now.kind c.args.no.now.at) c.args.at (expr_of c.in_ok-test.test) (stmt_of c.in_ok-yes.yes) c.in_ok-test.ensures.typed c.in_ok-yes.ensures.typed)
+    (else_rest c.args.self.now c.inner.new.self c.in_ok-yes.ensures.tables c.in_ok-yes.ensures.bodies c.in_ok-yes.ensures.returned c.args.enclosing (expression_of c.args.test.now) (statement_of c.args.yes.now.kind c.args.yes.now.at) (statement_of c.args.no.now.kind c.args.no.now.at) c.args.at (expr_of c.in_ok-test.test) (stmt_of c.in_ok-yes.yes.value) c.in_ok-test.ensures.typed c.in_ok-yes.ensures.typed)
     c.otherwise.ensures.typed
 
 pub either-returns-clause-refused : goal.either-returns-clause-refused
 either-returns-clause-refused t c =
     same_refused _ _ c.otherwise.result
-    (else_rest c.args.self.now c.statement.new.self c.in_ok-yes.ensures.tables c.in_ok-yes.ensures.bodies c.in_ok-yes.ensures.returned c.args.enclosing (expression_of c.args.test.now) (statement_of c.args.yes.now.kind c.args.yes.now.at) (statement_of c.args.no.now.kind c.args.no.now.at) c.args.at (expr_of c.in_ok-test.test) (stmt_of c.in_ok-yes.yes) c.in_ok-test.ensures.typed c.in_ok-yes.ensures.typed)
+    (else_rest c.args.self.now c.inner.new.self c.in_ok-yes.ensures.tables c.in_ok-yes.ensures.bodies c.in_ok-yes.ensures.returned c.args.enclosing (expression_of c.args.test.now) (statement_of c.args.yes.now.kind c.args.yes.now.at) (statement_of c.args.no.now.kind c.args.no.now.at) c.args.at (expr_of c.in_ok-test.test) (stmt_of c.in_ok-yes.yes.value) c.in_ok-test.ensures.typed c.in_ok-yes.ensures.typed)
     c.otherwise.ensures.refused
 
 pub choice-returns-clause-typed : goal.choice-returns-clause-typed
 choice-returns-clause-typed t c =
-    same_typed _ _ c.statement.new.self c.one_armed.result
-    (if_rest c.args.self.now c.statement.new.self c.args.enclosing (expression_of c.args.test.now) (statement_of c.args.yes.now.kind c.args.yes.now.at) c.args.at (expr_of c.in_ok-test.test) (stmt_of c.in_ok-yes.yes) c.in_ok-test.ensures.typed c.in_ok-yes.ensures.typed)
+    same_typed _ _ c.inner.new.self c.one_armed.result
+    (if_rest c.args.self.now c.inner.new.self c.args.enclosing (expression_of c.args.test.now) (statement_of c.args.yes.now.kind c.args.yes.now.at) c.args.at (expr_of c.in_ok-test.test) (stmt_of c.in_ok-yes.yes.value) c.in_ok-test.ensures.typed c.in_ok-yes.ensures.typed)
     c.one_armed.ensures.typed
 
 pub choice-returns-clause-refused : goal.choice-returns-clause-refused
 choice-returns-clause-refused t c =
     same_refused _ _ c.one_armed.result
-    (if_rest c.args.self.now c.statement.new.self c.args.enclosing (expression_of c.args.test.now) (statement_of c.args.yes.now.kind c.args.yes.now.at) c.args.at (expr_of c.in_ok-test.test) (stmt_of c.in_ok-yes.yes) c.in_ok-test.ensures.typed c.in_ok-yes.ensures.typed)
+    (if_rest c.args.self.now c.inner.new.self c.args.enclosing (expression_of c.args.test.now) (statement_of c.args.yes.now.kind c.args.yes.now.at) c.args.at (expr_of c.in_ok-test.test) (stmt_of c.in_ok-yes.yes.value) c.in_ok-test.ensures.typed c.in_ok-yes.ensures.typed)
     c.one_armed.ensures.refused
 
 pub otherwise-returns-clause-typed : goal.otherwise-returns-clause-typed
 otherwise-returns-clause-typed t c =
-    same_typed _ _ c.statement.new.self c.two_armed.result
-    (arms_rest c.args.self.now c.statement.new.self c.args.enclosing (statement_of c.args.no.now.kind c.args.no.now.at) c.args.at (expr_of c.args.test) (stmt_of c.args.yes) (stmt_of c.in_ok-no.no) c.in_ok-no.ensures.typed)
+    same_typed _ _ c.inner.new.self c.two_armed.result
+    (arms_rest c.args.self.now c.inner.new.self c.args.enclosing (statement_of c.args.no.now.kind c.args.no.now.at) c.args.at (expr_of c.args.test) (stmt_of c.args.yes.value) (stmt_of c.in_ok-no.no.value) c.in_ok-no.ensures.typed)
     c.two_armed.ensures.typed
 
 pub otherwise-returns-clause-refused : goal.otherwise-returns-clause-refused
 otherwise-returns-clause-refused t c =
     same_refused _ _ c.two_armed.result
-    (arms_rest c.args.self.now c.statement.new.self c.args.enclosing (statement_of c.args.no.now.kind c.args.no.now.at) c.args.at (expr_of c.args.test) (stmt_of c.args.yes) (stmt_of c.in_ok-no.no) c.in_ok-no.ensures.typed)
+    (arms_rest c.args.self.now c.inner.new.self c.args.enclosing (statement_of c.args.no.now.kind c.args.no.now.at) c.args.at (expr_of c.args.test) (stmt_of c.args.yes.value) (stmt_of c.in_ok-no.no.value) c.in_ok-no.ensures.typed)
     c.two_armed.ensures.refused
 
 pub while_loop-returns-clause-typed : goal.while_loop-returns-clause-typed
 while_loop-returns-clause-typed t c =
-    same_typed _ _ c.statement.new.self c.while_over.result
-    (while_rest c.args.self.now c.statement.new.self around.Loop (expression_of c.args.test.now) (statement_of c.args.body.now.kind c.args.body.now.at) c.args.at (expr_of c.in_ok-test.test) (stmt_of c.in_ok-body.body) c.in_ok-test.ensures.typed c.in_ok-body.ensures.typed)
+    same_typed _ _ c.inner.new.self c.while_over.result
+    (while_rest c.args.self.now c.inner.new.self around.Loop (expression_of c.args.test.now) (statement_of c.args.body.now.kind c.args.body.now.at) c.args.at (expr_of c.in_ok-test.test) (stmt_of c.in_ok-body.body.value) c.in_ok-test.ensures.typed c.in_ok-body.ensures.typed)
     c.while_over.ensures.typed
 
 pub while_loop-returns-clause-refused : goal.while_loop-returns-clause-refused
 while_loop-returns-clause-refused t c =
     same_refused _ _ c.while_over.result
-    (while_rest c.args.self.now c.statement.new.self around.Loop (expression_of c.args.test.now) (statement_of c.args.body.now.kind c.args.body.now.at) c.args.at (expr_of c.in_ok-test.test) (stmt_of c.in_ok-body.body) c.in_ok-test.ensures.typed c.in_ok-body.ensures.typed)
+    (while_rest c.args.self.now c.inner.new.self around.Loop (expression_of c.args.test.now) (statement_of c.args.body.now.kind c.args.body.now.at) c.args.at (expr_of c.in_ok-test.test) (stmt_of c.in_ok-body.body.value) c.in_ok-test.ensures.typed c.in_ok-body.ensures.typed)
     c.while_over.ensures.refused
 
 pub for_loop-returns-clause-typed : goal.for_loop-returns-clause-typed
 for_loop-returns-clause-typed t c =
-    same_typed _ _ c.statement.new.self c.for_over.result
-    (for_rest c.args.self.now c.statement.new.self around.Loop (optional_of c.args.first.now) (optional_of c.args.test.now) (optional_of c.args.third.now) (statement_of c.args.body.now.kind c.args.body.now.at) c.args.at (record { first = c.in_ok-first.first; test = c.in_ok-test.test; third = c.in_ok-third.third }) (stmt_of c.in_ok-body.body) c.in_ok-first.ensures.typed c.in_ok-test.ensures.typed c.in_ok-third.ensures.typed c.in_ok-body.ensures.typed)
+    same_typed _ _ c.inner.new.self c.for_over.result
+    (for_rest c.args.self.now c.inner.new.self around.Loop (optional_of c.args.first.now) (optional_of c.args.test.now) (optional_of c.args.third.now) (statement_of c.args.body.now.kind c.args.body.now.at) c.args.at (record { first = c.in_ok-first.first; test = c.in_ok-test.test; third = c.in_ok-third.third }) (stmt_of c.in_ok-body.body.value) c.in_ok-first.ensures.typed c.in_ok-test.ensures.typed c.in_ok-third.ensures.typed c.in_ok-body.ensures.typed)
     c.for_over.ensures.typed
 
 pub for_loop-returns-clause-refused : goal.for_loop-returns-clause-refused
 for_loop-returns-clause-refused t c =
     same_refused _ _ c.for_over.result
-    (for_rest c.args.self.now c.statement.new.self around.Loop (optional_of c.args.first.now) (optional_of c.args.test.now) (optional_of c.args.third.now) (statement_of c.args.body.now.kind c.args.body.now.at) c.args.at (record { first = c.in_ok-first.first; test = c.in_ok-test.test; third = c.in_ok-third.third }) (stmt_of c.in_ok-body.body) c.in_ok-first.ensures.typed c.in_ok-test.ensures.typed c.in_ok-third.ensures.typed c.in_ok-body.ensures.typed)
+    (for_rest c.args.self.now c.inner.new.self around.Loop (optional_of c.args.first.now) (optional_of c.args.test.now) (optional_of c.args.third.now) (statement_of c.args.body.now.kind c.args.body.now.at) c.args.at (record { first = c.in_ok-first.first; test = c.in_ok-test.test; third = c.in_ok-third.third }) (stmt_of c.in_ok-body.body.value) c.in_ok-first.ensures.typed c.in_ok-test.ensures.typed c.in_ok-third.ensures.typed c.in_ok-body.ensures.typed)
     c.for_over.ensures.refused
 
 pub statement-returns-in-Switch-clause-typed : goal.statement-returns-in-Switch-clause-typed

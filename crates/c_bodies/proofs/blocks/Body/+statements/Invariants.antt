@@ -9,6 +9,9 @@ use Rattle.c_bodies.proofs.blocks.Body.+statements.Given as goal
 abbrev pub decreases-statement : goal.decreases-statement
 decreases-statement l = 8 * size-StmtKind l.s.now.kind
 
+abbrev pub decreases-inner : goal.decreases-inner
+decreases-inner l = 8 * size-StmtKind l.s.now.kind + 1
+
 abbrev pub decreases-choice : goal.decreases-choice
 decreases-choice l = 8 * size-StmtKind l.yes.now.kind + 2
 
