@@ -2,6 +2,7 @@
 ghost use Rattle.std.specs.Prelude.{◌≡◌, ◌≢◌, ◌↔◌, ◌<◌, ◌-◌, ◌^◌, length, IfOk, IfErr, IsTrue, IsSome, MatchOption, ◌∷◌, Some, None, true, if◌then◌else◌};
 ghost use Rattle.c_syntax.specs.Grammar.{place_of};
 ghost use Rattle.c_syntax.specs.Lookahead.{spec_of, kind_spec, keyword_spec};
+ghost use Rattle.c_expressions.specs.declared.fault.Refusal.TheVariants as refusals;
 ghost use Rattle.c_expressions.specs.Front.{behind, kind_at, kind_mark, kind_word, kind_name, mark_at, word_at, name_at, opens_type, is_open, is_there, opens, is_void_alone, is_void_word, is_void_kind, is_close_kind, is_separator_kind, is_separator_at};
 
 use crate::fault::Refusal;
@@ -60,7 +61,9 @@ impl<'a> Cursor<'a> {
     }
 
     /// The refusal of the next token.
-    pub fn refused(&self) -> Refusal {
+    pub fn refused(&self) -> Refusal
+        ensures { result ≡ refusals.Syntax (length self.now) }
+    {
         Refusal::Syntax { left: self.left() }
     }
 
@@ -168,7 +171,9 @@ impl<'a> Cursor<'a> {
     }
 
     /// The refusal of the token behind the next one.
-    pub fn refused_behind(&self) -> Refusal {
+    pub fn refused_behind(&self) -> Refusal
+        ensures { result ≡ refusals.Syntax (length self.now - 1) }
+    {
         Refusal::Syntax {
             left: self.left().saturating_sub(1),
         }
