@@ -1,5 +1,5 @@
 -- What was typed of the cells of an array, and what is left of them.
-use Rattle.std.proofs.Common.{◌≡◌, ℕ, ◌+◌, List, ◌++◌, map}
+use Rattle.std.proofs.Common.{◌≡◌, ℕ, List, ◌++◌, map}
 use Rattle.c_tree.specs.declared.program.ScalarType.{ScalarType}
 use Rattle.c_tree.specs.declared.program.Initial.{Initial}
 use Rattle.c_objects.specs.declared.first_values.Entry as memory

@@ -1,13 +1,12 @@
 //! The first values of objects: ISO 9899:1990 6.5.7.
-ghost use Rattle.std.specs.Prelude.{◌≡◌, IfOk, IfErr, Some, None, map, length};
+ghost use Rattle.std.specs.Prelude.{◌≡◌, IfOk, IfErr, Some, None, map};
 ghost use Rattle.c_rules.specs.Answers.{Refuses};
 ghost use Rattle.c_rules.specs.Declarations as rules;
 ghost use Rattle.c_rules.specs.Outcome.{Is};
 ghost use Rattle.c_rules.specs.Statements as blocks;
 ghost use Rattle.c_operands.specs.OperandView.{operand_of};
 ghost use Rattle.c_objects.specs.InitialiserView.{entry_of, initialiser_of, start_of, starts_of};
-ghost use Rattle.c_tree.specs.declared.program.VarRef.{VarRef};
-ghost use Rattle.c_rules.specs.Units as rules;
+ghost use Rattle.c_rules.specs.Units as units;
 
 use c_operands::{Operand, given};
 use c_rules::{ObjectType, Refusal, mismatch, number_in};
@@ -194,8 +193,8 @@ pub fn static_list(
     at: u32,
     starts: Starts,
 ) -> Result<Option<Items<Initial>>, Refusal>
-    ensures typed { IfOk result (λ list. rules.static_list object_type at (starts_of starts) ≡ Is list) }
-    ensures refused { IfErr result (Refuses (rules.static_list object_type at (starts_of starts))) }
+    ensures typed { IfOk result (λ list. units.static_list object_type at (starts_of starts) ≡ Is list) }
+    ensures refused { IfErr result (Refuses (units.static_list object_type at (starts_of starts))) }
 {
     match (object_type, starts) {
         (_, Starts::Absent) => Ok(None),
