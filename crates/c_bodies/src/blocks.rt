@@ -6,11 +6,12 @@ ghost use Rattle.c_rules.specs.Answers.{Refuses};
 ghost use Rattle.c_rules.specs.Outcome.{Is, Broken, breaks};
 ghost use Rattle.c_rules.specs.Statements as rules;
 ghost use Rattle.c_scopes.specs.Tables.{scope_of, around_of};
-ghost use Rattle.c_scopes.specs.InitialiserView.{initialiser_of};
+ghost use Rattle.c_objects.specs.InitialiserView.{initialiser_of};
 ghost use Rattle.c_bodies.specs.BodyView.{opened_of};
 
+use c_objects::{Initialiser, plain, redeclared, started};
 use c_rules::{Declared, Local, ObjectType, Refusal, Rule, mismatch};
-use c_scopes::{Initialiser, Scopes, plain, redeclared, started};
+use c_scopes::Scopes;
 use c_syntax::{Decl, Item};
 use c_tree::{Base, ScalarType, TypedStmt, VarRef};
 use word_base::Text;

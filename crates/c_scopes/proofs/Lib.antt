@@ -2,7 +2,6 @@ pub mod ScopeLemmas
 pub mod BodyLemmas
 pub mod OperandsSoFar
 pub mod CallForms
-pub mod TypeWords
 pub mod SoFar
 pub mod ScopesKept
 pub mod KeptScopes

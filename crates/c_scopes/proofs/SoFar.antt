@@ -4,14 +4,13 @@ use Rattle.std.proofs.lemmas.List.{drop_more}
 use Rattle.c_syntax.specs.declared.expr.Expr.{Expr}
 use Rattle.c_syntax.specs.declared.decl.Param.{Param}
 use Rattle.c_tree.specs.declared.program.ScalarType.{ScalarType}
-use Rattle.c_tree.specs.declared.program.Initial.{Initial}
 use Rattle.c_syntax.specs.SyntaxView.{expression_of, parameter_of}
 use Rattle.c_rules.specs.declared.local.Naming.{Naming}
-use Rattle.c_scopes.specs.declared.initialisers.Entry as memory
+use Rattle.c_objects.specs.declared.first_values.Entry as memory
 use Rattle.c_rules.specs.Outcome.{Outcome, Is, Broken, ◌>>=◌}
 use Rattle.c_rules.specs.Scopes.{Scope}
-use Rattle.c_rules.specs.Declarations.{parameters, Entry, entry, entries, cells}
-use Rattle.c_scopes.specs.InitialiserView.{entry_of}
+use Rattle.c_rules.specs.Declarations.{parameters, Entry, entry, entries}
+use Rattle.c_objects.specs.InitialiserView.{entry_of}
 
 -- `s` is the scope before all parameters, and `t` that before those which are left
 abbrev pub ParametersSoFar : Scope → Naming → List Param → Scope → List Param → List ScalarType → Type 0
@@ -40,6 +39,3 @@ entries_further s list i e x xs ys found within so_far is put =
     let there : drop i list ≡ e ∷ drop (i + 1) list = drop_more list i e within ∙ ap (λ d. d ∷ drop (i + 1) list) (sym found) in
     so_far ∙ ap (λ l. entries s (map expression_of l) >>= λ ys. Is (map entry_of xs ++ ys)) there ∙ entry_step s e (drop (i + 1) list) xs x is
     ∙ ap (λ l. entries s (map expression_of (drop (i + 1) list)) >>= λ ys. Is (map entry_of l ++ ys)) (sym put)
-
-abbrev pub CellsSoFar : ScalarType → ℕ → List memory.Entry → List memory.Entry → List Initial → Type 0
-CellsSoFar kind at list rest values = cells kind at (map entry_of list) ≡ (cells kind at (map entry_of rest) >>= λ is. Is (values ++ is))

@@ -3,7 +3,7 @@ ghost use Rattle.std.specs.Prelude.{◌≡◌, IfOk, IfErr, Some};
 ghost use Rattle.c_tree.specs.View.{expr_of};
 ghost use Rattle.c_tree.specs.TypedTree.{Node, Const};
 ghost use Rattle.c_syntax.specs.SyntaxTree as tree;
-ghost use Rattle.c_syntax.specs.SyntaxView.{expression_of, trees_of, type_of};
+ghost use Rattle.c_syntax.specs.SyntaxView.{expression_of, type_of};
 ghost use Rattle.c_rules.specs.declared.fault.Rule.TheVariants as rule;
 ghost use Rattle.c_rules.specs.Outcome.{Is, breaks};
 ghost use Rattle.c_rules.specs.Answers.{Refuses};
@@ -12,7 +12,7 @@ ghost use Rattle.c_scopes.specs.Tables.{scope_of};
 ghost use Rattle.c_rules.specs.Typing as rules;
 
 use crate::scopes::Scopes;
-use crate::type_words::{is_null, type_named};
+use c_objects::{is_null, type_named};
 use c_operands::{
     INT, Operand, UNSIGNED, address, assigned, assigned_by, behind, binary, both_true, cast,
     either_true, indexed, loaded, negated, not_lvalue, number, picked, sized, stepped_after,

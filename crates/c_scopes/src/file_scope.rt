@@ -1,12 +1,12 @@
 //! The names of file scope, and what gives its objects their values: ISO 9899:1990 6.7.
-ghost use Rattle.std.specs.Prelude.{◌≡◌, ◌&&◌, ◌||◌, map, length, option_copied, IfOk, IfErr, OnOk};
+ghost use Rattle.std.specs.Prelude.{◌≡◌, ◌&&◌, ◌||◌, map, IfOk, IfErr, OnOk};
 ghost use Rattle.c_tree.specs.declared.program.VarRef.{VarRef};
 ghost use Rattle.c_syntax.specs.SyntaxView.{initial_of, parameter_of};
 ghost use Rattle.c_rules.specs.Answers.{Refuses};
 ghost use Rattle.c_rules.specs.Outcome.{Is};
 ghost use Rattle.c_scopes.specs.Tables.{scope_of, tables_of, around_of};
 ghost use Rattle.c_rules.specs.Units as rules;
-ghost use Rattle.c_scopes.specs.InitialiserView.{starts_of};
+ghost use Rattle.c_objects.specs.InitialiserView.{starts_of};
 ghost use Rattle.c_rules.specs.declared.meaning.Declared.TheVariants as declares;
 ghost use Rattle.c_rules.specs.declared.fault.Refusal.TheVariants as refusals;
 ghost use Rattle.c_rules.specs.declared.local.Naming.TheVariants.{Needed};
@@ -14,122 +14,16 @@ ghost use Rattle.c_rules.specs.Declarations.{parameters};
 ghost use Rattle.c_rules.specs.Scopes as scope_names;
 ghost use Rattle.c_rules.specs.Scopes.{open_scope};
 
-use crate::declarations::redeclared;
-use crate::initialisers::{Entry, cell, listed};
 use crate::scopes::{Scopes, is_in, is_out};
-use c_operands::{same_kind, same_type};
+use c_objects::{Starts, agrees_function, agrees_object, redeclared};
 use c_rules::{FunctionType, Meaning, Naming, ObjectType, Refusal, mismatch};
 use c_syntax::{Init, Item, Param};
-use c_tree::{Initial, ScalarType, VarRef};
-use std::alloc::Global;
-use word_base::{Items, NoMemory};
-
-/// The initialiser of an object of file scope.
-#[derive(Drop)]
-pub enum Starts {
-    Absent,
-    One(Entry),
-    Braced(Vec<Entry>),
-}
+use c_tree::{ScalarType, VarRef};
 
 fn is_port(name: &str) -> bool
     ensures { result ≡ (scope_names.is_in name.now || scope_names.is_out name.now) }
 {
     is_in(name) || is_out(name)
-}
-
-fn same_object(a: ObjectType, b: ObjectType) -> bool
-    ensures { result ≡ rules.same_object a b }
-{
-    match (a, b) {
-        (ObjectType::Single(a), ObjectType::Single(b)) => same_type(a, b),
-        (
-            ObjectType::Array {
-                kind: a,
-                length: first,
-            },
-            ObjectType::Array {
-                kind: b,
-                length: second,
-            },
-        ) => same_type(a, b) && first == second,
-        _ => false,
-    }
-}
-
-fn same_result(a: Option<ScalarType>, b: Option<ScalarType>) -> bool
-    ensures { result ≡ rules.same_result a b }
-{
-    match (a, b) {
-        (None, None) => true,
-        _ => same_kind(a, b),
-    }
-}
-
-fn same_types(a: &[ScalarType], b: &[ScalarType]) -> bool
-    ensures { result ≡ rules.same_types a.now b.now }
-{
-    if a.len() != b.len() {
-        return false;
-    }
-    for (n, kind) in a.iter().enumerate() {
-        if !same_type(*kind, b[n]) {
-            return false;
-        }
-    }
-    true
-}
-
-fn same_function(a: &FunctionType, b: &FunctionType) -> bool
-    ensures { result ≡ rules.same_function a.now b.now }
-{
-    same_result(a.result, b.result) && same_types(a.parameters.as_slice(), b.parameters.as_slice())
-}
-
-// Whether a name that stands for this may be declared as such an object.
-fn agrees_object(meaning: Option<&Meaning>, other: ObjectType) -> bool
-    ensures { result ≡ rules.agrees (option_copied meaning.entry) (declares.Object other) }
-{
-    match meaning {
-        None => true,
-        Some(Meaning::Object { object_type, .. }) => same_object(*object_type, other),
-        Some(Meaning::Function(_)) => false,
-    }
-}
-
-// Whether a name that stands for this may be declared as such a function.
-fn agrees_function(meaning: Option<&Meaning>, other: &FunctionType) -> bool
-    ensures { result ≡ rules.agrees (option_copied meaning.entry) (declares.Function other.now) }
-{
-    match meaning {
-        None => true,
-        Some(Meaning::Function(function)) => same_function(function, other),
-        Some(Meaning::Object { .. }) => false,
-    }
-}
-
-/// The list of an object of file scope.
-pub fn static_list(
-    alloc: Global,
-    object_type: ObjectType,
-    at: u32,
-    starts: Starts,
-) -> Result<Option<Items<Initial>>, Refusal>
-    ensures typed { IfOk result (λ list. rules.static_list object_type at (starts_of starts) ≡ Is list) }
-    ensures refused { IfErr result (Refuses (rules.static_list object_type at (starts_of starts))) }
-{
-    match (object_type, starts) {
-        (_, Starts::Absent) => Ok(None),
-        (ObjectType::Single(kind), Starts::One(entry)) => {
-            let mut list = Vec::new(alloc);
-            list.push(cell(alloc, kind, at, entry)?)?;
-            Ok(Some(Items::new(list)))
-        }
-        (ObjectType::Array { kind, length }, Starts::Braced(entries)) => {
-            Ok(Some(listed(alloc, kind, length, at, entries)?))
-        }
-        _ => Err(mismatch(at)),
-    }
 }
 
 impl<'a> Scopes<'a> {

@@ -1,6 +1,5 @@
 //! Initialisers: ISO 9899:1990 6.5.7, and the addresses that are known before the program runs: 6.4.
 ghost use Rattle.std.specs.Prelude.{◌≡◌, IfOk, IfErr, OnOk, Some, None, map};
-ghost use Rattle.c_tree.specs.Eval.{kind_of};
 ghost use Rattle.c_syntax.specs.SyntaxView.{expression_of, item_form_of, initial_of};
 ghost use Rattle.c_tree.specs.View.{expr_of};
 ghost use Rattle.c_rules.specs.Answers.{Refuses};
@@ -8,53 +7,14 @@ ghost use Rattle.c_rules.specs.Declarations as rules;
 ghost use Rattle.c_rules.specs.Outcome.{Is};
 ghost use Rattle.c_rules.specs.Statements as blocks;
 ghost use Rattle.c_scopes.specs.Tables.{scope_of};
-ghost use Rattle.c_operands.specs.OperandView.{operand_of};
-ghost use Rattle.c_scopes.specs.InitialiserView.{entry_of, initialiser_of, start_of};
+ghost use Rattle.c_objects.specs.InitialiserView.{entry_of, initialiser_of};
 
 use crate::scopes::Scopes;
-use crate::type_words::is_null;
-use c_operands::{Operand, constant, given};
-use c_rules::{Meaning, ObjectType, Refusal, Rule, mismatch, number_in};
+use c_objects::{Entry, Initialiser, initial_word, is_null};
+use c_operands::{Operand, constant};
+use c_rules::{Meaning, ObjectType, Refusal, Rule};
 use c_syntax::{BinaryOp, Expr, ExprKind, Init, ItemKind, PrefixOp};
-use c_tree::{ExprForm, Initial, ScalarType, Target, TargetForm, TypedExpr, TypedStmt, VarRef};
-use std::alloc::Global;
-use word_base::Items;
-
-/// A static initialiser: its operand, and what it stands for.
-#[derive(Drop)]
-pub struct Entry {
-    pub operand: Operand,
-    pub initial: Initial,
-}
-
-/// What an object of a block is initialised with.
-#[derive(Drop)]
-pub enum Initialiser {
-    Absent,
-    Value(Operand),
-    /// Static initialisers in braces.
-    Listed(Vec<Entry>),
-    /// Values in braces where none may be.
-    Misbraced,
-}
-
-/// How an object of a block gets its first value.
-#[derive(Drop)]
-pub struct Start {
-    /// The list of an initialised array.
-    pub values: Items<Initial>,
-    pub statement: Option<TypedStmt>,
-}
-
-// A word, or null where the type is a pointer's.
-fn initial_word(kind: Option<ScalarType>, word: u16) -> Initial
-    ensures { result ≡ rules.initial_word kind word }
-{
-    match kind {
-        Some(kind) if kind.stars > 0 => Initial::Null,
-        _ => Initial::Word(word),
-    }
-}
+use c_tree::{ExprForm, Initial, TypedExpr, VarRef};
 
 // The second operand of the sum that an index or a sum stands for.
 fn index_in(e: &Expr, sum: &TypedExpr) -> Option<u16>
@@ -214,133 +174,5 @@ impl<'a> Scopes<'a> {
                 Ok(Initialiser::Misbraced)
             }
         }
-    }
-}
-
-// An initial value as that of a cell of this type.
-fn cell_value(kind: ScalarType, initial: Initial) -> Initial
-    ensures { result ≡ rules.cell_value kind initial }
-{
-    match initial {
-        Initial::Word(word) => initial_word(Some(kind), word),
-        Initial::Address { .. } | Initial::Null => initial,
-    }
-}
-
-/// An entry as the value of a cell of this type.
-pub fn cell(alloc: Global, kind: ScalarType, at: u32, entry: Entry) -> Result<Initial, Refusal>
-    ensures typed { IfOk result (λ i. rules.cell kind at (entry_of entry) ≡ Is i) }
-    ensures refused { IfErr result (Refuses (rules.cell kind at (entry_of entry))) }
-{
-    given(alloc, kind, at, entry.operand)?;
-    Ok(cell_value(kind, entry.initial))
-}
-
-// The values of cells of this type.
-fn cells(
-    alloc: Global,
-    kind: ScalarType,
-    at: u32,
-    entries: Vec<Entry>,
-) -> Result<Vec<Initial>, Refusal>
-    ensures typed { IfOk result (λ is. rules.cells kind at (map entry_of entries.items) ≡ Is is.items) }
-    ensures refused { IfErr result (Refuses (rules.cells kind at (map entry_of entries.items))) }
-{
-    let mut values = Vec::with_capacity(alloc, entries.len())?;
-    for entry in entries {
-        values.push(cell(alloc, kind, at, entry)?)?;
-    }
-    Ok(values)
-}
-
-/// The list of an array.
-pub fn listed(
-    alloc: Global,
-    kind: ScalarType,
-    length: u16,
-    at: u32,
-    entries: Vec<Entry>,
-) -> Result<Items<Initial>, Refusal>
-    ensures typed { IfOk result (λ is. rules.listed kind length at (map entry_of entries.items) ≡ Is is) }
-    ensures refused { IfErr result (Refuses (rules.listed kind length at (map entry_of entries.items))) }
-{
-    if entries.len() > usize::from(length) {
-        return Err(mismatch(at));
-    }
-    let values = cells(alloc, kind, at, entries)?;
-    Ok(Items::new(values))
-}
-
-// The start of a scalar, which is assigned to.
-fn scalar_start(
-    alloc: Global,
-    reference: VarRef,
-    kind: ScalarType,
-    at: u32,
-    value: Operand,
-) -> Result<Start, Refusal>
-    ensures typed { IfOk result (λ s. blocks.started reference (ObjectType.Single kind) at (blocks.Value (operand_of value)) ≡ Is (start_of s)) }
-    ensures refused { IfErr result (Refuses (blocks.started reference (ObjectType.Single kind) at (blocks.Value (operand_of value)))) }
-{
-    let value = given(alloc, kind, at, value)?;
-    let form = ExprForm::Assign {
-        to: Target {
-            form: TargetForm::Named(reference),
-            at,
-        },
-        value: Box::new(alloc, value)?,
-    };
-    Ok(Start {
-        values: Items::new(Vec::new(alloc)),
-        statement: Some(TypedStmt::Expr(TypedExpr {
-            form,
-            kind: Some(kind),
-            at,
-        })),
-    })
-}
-
-// The start of an array, which is filled with its list.
-fn array_start(
-    alloc: Global,
-    reference: VarRef,
-    kind: ScalarType,
-    length: u16,
-    at: u32,
-    entries: Vec<Entry>,
-) -> Result<Start, Refusal>
-    ensures typed { IfOk result (λ s. blocks.started reference (ObjectType.Array kind length) at (blocks.Listed (map entry_of entries.items)) ≡ Is (start_of s)) }
-    ensures refused { IfErr result (Refuses (blocks.started reference (ObjectType.Array kind length) at (blocks.Listed (map entry_of entries.items)))) }
-{
-    let values = listed(alloc, kind, length, at, entries)?;
-    Ok(Start {
-        values,
-        statement: Some(TypedStmt::Fill(number_in(reference))),
-    })
-}
-
-/// The start of an object.
-pub fn started(
-    alloc: Global,
-    reference: VarRef,
-    object_type: ObjectType,
-    at: u32,
-    initialiser: Initialiser,
-) -> Result<Start, Refusal>
-    ensures typed { IfOk result (λ s. blocks.started reference object_type at (initialiser_of initialiser) ≡ Is (start_of s)) }
-    ensures refused { IfErr result (Refuses (blocks.started reference object_type at (initialiser_of initialiser))) }
-{
-    match (object_type, initialiser) {
-        (_, Initialiser::Absent) => Ok(Start {
-            values: Items::new(Vec::new(alloc)),
-            statement: None,
-        }),
-        (ObjectType::Single(kind), Initialiser::Value(value)) => {
-            scalar_start(alloc, reference, kind, at, value)
-        }
-        (ObjectType::Array { kind, length }, Initialiser::Listed(entries)) => {
-            array_start(alloc, reference, kind, length, at, entries)
-        }
-        _ => Err(mismatch(at)),
     }
 }

@@ -10,11 +10,6 @@ mod file_scope;
 mod initialisers;
 mod names;
 mod scopes;
-mod type_words;
 
 pub use call_arguments::word_at;
-pub use declarations::redeclared;
-pub use file_scope::{Starts, static_list};
-pub use initialisers::{Entry, Initialiser, Start, cell, listed, started};
 pub use scopes::{Scopes, is_in, is_out};
-pub use type_words::{plain, spelled};

@@ -41,7 +41,7 @@ use Rattle.c_scopes.specs.Tables.{names_of}
 use Rattle.c_types.specs.View.{static_tree_of}
 use Rattle.c_frames.specs.FunctionView.{typed_function_of}
 use Rattle.c_rules.specs.Units.{File, StaticTree, Starts, starts, agrees, may_declare, with_declared, static_number, is_initialised, is_twice, untyped_rule, item_as, declared_as, with_parameters, with_list, with_static, set_list, file_item, file_items, external, externals, is_among, bodies_behind, with_function, with_body, parameter_locals}
-use Rattle.c_scopes.proofs.FileScopeLemmas.{same_false, first_of}
+use Rattle.c_objects.proofs.AgreementLemmas.{same_false, first_of}
 
 -- the names of a set with one more name
 module _ (name : Bor (List ℕ)) where

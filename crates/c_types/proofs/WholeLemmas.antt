@@ -20,7 +20,7 @@ use Rattle.c_frames.specs.FunctionView.{typed_function_of}
 use Rattle.c_types.specs.View.{frame_lists}
 use Rattle.c_rules.specs.Whole.{uses_of, earlier, first_among, missing_body, case_counts, all_cases, first_above, passed, IsOver}
 use Rattle.c_rules.specs.Chains.{IsRecursion}
-use Rattle.c_scopes.proofs.FileScopeLemmas.{first_of}
+use Rattle.c_objects.proofs.AgreementLemmas.{first_of}
 
 -- the uses of each function, by its place
 pub uses_at : (fs : List memory.TypedFunction) (lists : List (Vec Use Global)) (n : ℕ) (f : memory.TypedFunction) (us : Vec Use Global)

@@ -4,7 +4,7 @@ use Rattle.std.specs.Global.{Global}
 use Rattle.c_tree.specs.declared.program.VarRef.{VarRef}
 use Rattle.c_tree.specs.TypedTree.{ProgramTree}
 use Rattle.c_frames.specs.declared.functions.TypedFunction as functions
-use Rattle.c_scopes.specs.declared.initialisers.Initialiser.TheVariants as initial
+use Rattle.c_objects.specs.declared.first_values.Initialiser.TheVariants as initial
 use Rattle.c_types.specs.declared.units.Static as statics
 use Rattle.c_types.specs.declared.units.File as files
 use Rattle.c_types.specs.declared.units.Contents.{Contents}

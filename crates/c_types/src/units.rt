@@ -13,9 +13,10 @@ ghost use Rattle.c_rules.specs.Declarations.{parameters};
 
 use c_bodies::Body;
 use c_frames::TypedFunction;
+use c_objects::{redeclared, spelled, static_list};
 use c_operands::starred;
 use c_rules::{Declared, FunctionType, Local, ObjectType, Refusal, mismatch};
-use c_scopes::{Scopes, redeclared, spelled, static_list};
+use c_scopes::Scopes;
 use c_syntax::{External, FunctionDef, Item, Param};
 use c_tree::{Base, Initial, ScalarType};
 use indexmap::IndexSet;

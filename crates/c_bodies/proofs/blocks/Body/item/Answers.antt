@@ -3,7 +3,7 @@ use Rattle.std.proofs.lemmas.List.{length-map}
 use Rattle.c_rules.specs.Answers.{Refuses}
 use Rattle.c_rules.specs.Outcome.{Is}
 use Rattle.c_scopes.specs.Tables.{scope_of}
-use Rattle.c_scopes.specs.InitialiserView.{initialiser_of}
+use Rattle.c_objects.specs.InitialiserView.{initialiser_of}
 use Rattle.c_rules.specs.LocalView.{local_tree_of}
 use Rattle.c_bodies.specs.BodyView.{opened_of}
 use Rattle.c_bodies.proofs.BlockLemmas.{function_refused, object_same}

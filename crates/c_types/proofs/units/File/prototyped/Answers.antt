@@ -7,7 +7,7 @@ use Rattle.c_rules.specs.Outcome.{Is, breaks}
 use Rattle.c_scopes.specs.Tables.{scope_of}
 use Rattle.c_rules.specs.Units.{item_as}
 use Rattle.c_types.specs.View.{file_of}
-use Rattle.c_scopes.specs.InitialiserView.{starts_of}
+use Rattle.c_objects.specs.InitialiserView.{starts_of}
 use Rattle.c_types.proofs.UnitLemmas.{starts_refused, redeclared_refused, declared_item, not_allowed, allowed_twice, allowed_once, declared_refused, initial_given, breaks_mismatch}
 use Rattle.c_types.proofs.units.File.prototyped.Goals.{then-not-allowed-via-then-not-allowed, then-not-allowed-via-else-not-allowed+then-is_twice}
 use Rattle.c_types.proofs.units.File.prototyped.Goals as goal

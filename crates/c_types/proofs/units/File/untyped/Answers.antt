@@ -1,6 +1,6 @@
 use Rattle.c_syntax.specs.SyntaxView.{item_of}
 use Rattle.c_types.specs.View.{file_of}
-use Rattle.c_scopes.specs.InitialiserView.{starts_of}
+use Rattle.c_objects.specs.InitialiserView.{starts_of}
 use Rattle.c_types.proofs.UnitLemmas.{untyped_refuses}
 use Rattle.c_types.proofs.units.File.untyped.Goals as goal
 

@@ -84,8 +84,8 @@ pub(crate) fn is_spelling(words: &[SpecWord]) -> bool
     names_type(words) && !clash(words) && !repeats(words)
 }
 
-/// The base of a type that these words spell.
-pub(crate) fn base_of(words: &[SpecWord]) -> Base
+// The base of a type that these words spell.
+fn base_of(words: &[SpecWord]) -> Base
     ensures { result ≡ rules.base_of words.now }
 {
     if has(SpecWord::Void, words) {
@@ -128,7 +128,7 @@ pub fn plain(specs: &Specs) -> Result<Base, Refusal>
 }
 
 /// The type that a cast or `sizeof` names.
-pub(crate) fn type_named(named: &TypeName) -> Result<Option<ScalarType>, Refusal>
+pub fn type_named(named: &TypeName) -> Result<Option<ScalarType>, Refusal>
     ensures typed { IfOk result (λ kind. rules.type_named (type_of named.now) ≡ Is kind) }
     ensures refused { IfErr result (Refuses (rules.type_named (type_of named.now))) }
 {
@@ -147,7 +147,7 @@ pub(crate) fn is_zero(e: &Expr) -> bool
 }
 
 /// Whether it is that of a null pointer: a number of value 0, or one that is cast to a void pointer.
-pub(crate) fn is_null(e: &Expr) -> bool
+pub fn is_null(e: &Expr) -> bool
     ensures { result ≡ rules.is_null (expression_of e.now) }
 {
     match &e.kind {

@@ -1,6 +1,6 @@
 use Rattle.std.proofs.Common.{rules}
-use Rattle.c_scopes.proofs.TypeWords.{repeats_counted}
-use Rattle.c_scopes.proofs.type_words.repeats.Goals as goal
+use Rattle.c_objects.proofs.TypeWords.{repeats_counted}
+use Rattle.c_objects.proofs.type_words.repeats.Goals as goal
 
 pub returns-then-stands_twice-6 : goal.returns-then-stands_twice-6
 returns-then-stands_twice-6 c = rw repeats_counted (search rules)

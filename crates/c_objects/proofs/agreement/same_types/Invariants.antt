@@ -1,6 +1,6 @@
 use Rattle.std.proofs.Common.{◌≡◌, drop}
 use Rattle.c_rules.specs.Units.{same_types}
-use Rattle.c_scopes.proofs.file_scope.same_types.Given as goal
+use Rattle.c_objects.proofs.agreement.same_types.Given as goal
 
 -- the types so far are the same
 abbrev pub invariant-loop-n : goal.invariant-loop-n

@@ -4,7 +4,7 @@ use Rattle.std.proofs.lemmas.Iterator.{YieldsList-from_slice}
 use Rattle.std.proofs.lemmas.Iterator.Search.{any_from_yields_List}
 use Rattle.std.proofs.lemmas.List.Recursion.{same_from_clauses}
 use Rattle.c_rules.specs.Typing as spec
-use Rattle.c_scopes.proofs.type_words.has.Goals as goal
+use Rattle.c_objects.proofs.type_words.has.Goals as goal
 
 pub returns : goal.returns
 returns c =

@@ -3,12 +3,12 @@ use Rattle.std.specs.Prelude.{List, [], ◌∷◌, map, Option, Some, None}
 use Rattle.c_tree.specs.declared.typed_statement.TypedStmt.{TypedStmt}
 use Rattle.c_tree.specs.TypedTree.{Stmt}
 use Rattle.c_tree.specs.View.{stmt_of}
-use Rattle.c_scopes.specs.declared.initialisers.Entry as listed
-use Rattle.c_scopes.specs.declared.initialisers.Initialiser as initialisers
-use Rattle.c_scopes.specs.declared.initialisers.Initialiser.TheVariants as initial
-use Rattle.c_scopes.specs.declared.initialisers.Start as starts
-use Rattle.c_scopes.specs.declared.file_scope.Starts as given
-use Rattle.c_scopes.specs.declared.file_scope.Starts.TheVariants as first
+use Rattle.c_objects.specs.declared.first_values.Entry as listed
+use Rattle.c_objects.specs.declared.first_values.Initialiser as initialisers
+use Rattle.c_objects.specs.declared.first_values.Initialiser.TheVariants as initial
+use Rattle.c_objects.specs.declared.first_values.Start as starts
+use Rattle.c_objects.specs.declared.first_values.Starts as given
+use Rattle.c_objects.specs.declared.first_values.Starts.TheVariants as first
 use Rattle.c_operands.specs.OperandView.{operand_of}
 use Rattle.c_rules.specs.Declarations.{Entry}
 use Rattle.c_rules.specs.Units.{Starts, NoStart, One, Braced}

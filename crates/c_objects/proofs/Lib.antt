@@ -1,0 +1,3 @@
+pub mod TypeWords
+pub mod AgreementLemmas
+pub mod CellsSoFar
