@@ -8,6 +8,7 @@ use Rattle.c_frames.specs.declared.frames.Frame.{Frame}
 use Rattle.c_frames.specs.declared.frames.Frame.TheVariants.{Known, TooMany}
 use Rattle.c_rules.specs.Statements.{LocalTree}
 use Rattle.c_rules.specs.Programs.{is_pointed, in_frame, frame_scalars}
+use Rattle.c_tree.specs.declared.limits.TheConstants.{MOST_FRAME_SCALARS}
 
 -- a mark for each of so many objects
 pub record Marks (us : List Use) (count : ℕ) (marks : List Bool) : Type 0 where
@@ -32,5 +33,5 @@ still known marks ls = known.references.items ++ numbered_by marks known.scalars
 
 -- what each object stands for, where a frame has room for the scalars
 abbrev pub IsFrame : List VarRef → Frame → Type 0
-IsFrame all (Known rs) = (rs.items ≡ all) × (frame_scalars all ≤ 64)
-IsFrame all (TooMany n) = (n ≡ frame_scalars all) × (64 < n)
+IsFrame all (Known rs) = (rs.items ≡ all) × (frame_scalars all ≤ MOST_FRAME_SCALARS)
+IsFrame all (TooMany n) = (n ≡ frame_scalars all) × (MOST_FRAME_SCALARS < n)

@@ -7,12 +7,12 @@ ghost use Rattle.c_rules.specs.Statements.{LocalTree};
 ghost use Rattle.c_rules.specs.LocalView.{local_tree_of};
 
 use c_rules::{Local, ObjectType};
-use c_tree::{Use, VarRef};
+use c_tree::{MOST_FRAME_SCALARS, Use, VarRef};
 use std::alloc::Global;
 use word_base::NoMemory;
 
 /// The largest number of scalars in a frame.
-const MOST_SCALARS: u32 = 64;
+const MOST_SCALARS: u32 = MOST_FRAME_SCALARS as u32;
 
 /// What each object of a function stands for.
 #[derive(Drop)]

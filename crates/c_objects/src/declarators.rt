@@ -8,14 +8,14 @@ ghost use Rattle.c_rules.specs.Declarations as rules;
 use c_operands::{pointer_to, starred};
 use c_rules::{Declared, Naming, ObjectType, Refusal, Rule};
 use c_syntax::{Init, Param};
-use c_tree::{Base, ScalarType};
+use c_tree::{Base, MOST_CELLS, ScalarType};
 use word_base::Text;
 
 /// A length of 1 to 32,767.
 pub fn length_within(word: u16) -> Option<u16>
     ensures { result ≡ rules.length_within word }
 {
-    if word == 0 || word > 32_767 {
+    if word == 0 || word > MOST_CELLS {
         None
     } else {
         Some(word)

@@ -26,10 +26,11 @@ use Rattle.c_rules.specs.Operands.{Operand, given, address_kind}
 use Rattle.c_rules.specs.Constants.{constant}
 use Rattle.c_rules.specs.Scopes.{Scope, open_scope, declare, is_taken}
 use Rattle.c_rules.specs.Typing.{plain, operand, place, constant_typing, word_at}
+use Rattle.c_tree.specs.declared.limits.TheConstants.{MOST_CELLS}
 
 -- a length of 1 to 32,767
 abbrev pub length_within : ℕ → Option ℕ
-length_within n = if n == 0 || nat_lt 32767 n then None else Some n
+length_within n = if n == 0 || nat_lt MOST_CELLS n then None else Some n
 
 -- a constant length, where it may be one
 abbrev pub typed_length : Scope → Expression → Outcome (Option ℕ)

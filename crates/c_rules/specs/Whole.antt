@@ -12,6 +12,7 @@ use Rattle.c_tree.specs.Uses.{statement_uses}
 pub use Rattle.c_tree.specs.Uses.{case_counts}
 use Rattle.c_rules.specs.Units.{TypedFunction}
 use Rattle.c_rules.specs.Programs.{frame_scalars, frame}
+use Rattle.c_tree.specs.declared.limits.TheConstants.{MOST_CASES, MOST_FRAME_SCALARS, MOST_FUNCTIONS, MOST_PARAMETERS}
 
 abbrev pub uses_of : TypedFunction → List Use
 uses_of f = statement_uses f.body
@@ -52,10 +53,10 @@ counts_of Scalars fs = map frame_size fs
 counts_of Cases fs = all_cases (map uses_of fs)
 
 abbrev pub greatest : LimitName → ℕ
-greatest Functions = 256
-greatest Parameters = 31
-greatest Scalars = 64
-greatest Cases = 256
+greatest Functions = MOST_FUNCTIONS
+greatest Parameters = MOST_PARAMETERS
+greatest Scalars = MOST_FRAME_SCALARS
+greatest Cases = MOST_CASES
 
 abbrev pub first_above : ℕ → List ℕ → Option ℕ
 first_above limit [] = None

@@ -21,6 +21,7 @@ use Rattle.c_types.specs.View.{frame_lists}
 use Rattle.c_rules.specs.Whole.{uses_of, earlier, first_among, missing_body, case_counts, all_cases, first_above, passed, IsOver}
 use Rattle.c_rules.specs.Chains.{IsRecursion}
 use Rattle.c_objects.proofs.AgreementLemmas.{first_of}
+use Rattle.c_tree.specs.declared.limits.TheConstants.{MOST_CASES}
 
 -- the uses of each function, by its place
 pub uses_at : (fs : List memory.TypedFunction) (lists : List (Vec Use Global)) (n : ℕ) (f : memory.TypedFunction) (us : Vec Use Global)
@@ -81,9 +82,9 @@ pub none_missing : (fs : List memory.TypedFunction) (lists : List (Vec Use Globa
 none_missing fs lists found same listed is none = sym (missing_is fs lists same listed) ∙ sym is ∙ none
 
 pub cases_is : (fs : List memory.TypedFunction) (lists : List (Vec Use Global)) {lent : List (Vec Use Global)} → lent ≡ lists
-    → map vec_items lists ≡ map (λ f. statement_uses (stmt_of f.body.value)) fs → first_above 256 (all_cases (map vec_items lent)) ≡ passed limit.Cases (map typed_function_of fs)
+    → map vec_items lists ≡ map (λ f. statement_uses (stmt_of f.body.value)) fs → first_above MOST_CASES (all_cases (map vec_items lent)) ≡ passed limit.Cases (map typed_function_of fs)
 cases_is fs lists same listed =
-    ap (λ l. first_above 256 (all_cases (map vec_items l))) same ∙ ap (λ l. first_above 256 (all_cases l)) (uses_of_trees fs listed)
+    ap (λ l. first_above MOST_CASES (all_cases (map vec_items l))) same ∙ ap (λ l. first_above MOST_CASES (all_cases l)) (uses_of_trees fs listed)
 
 -- counts
 pub above_behind : (limit : ℕ) (a b : List ℕ) → first_above limit a ≡ None → first_above limit (a ++ b) ≡ first_above limit b
@@ -130,17 +131,17 @@ over_further which limit a b f over = elim (over_is which (first_above limit a) 
 
 -- a turn of the loop over the uses of functions, whose cases are counted
 pub cases_further : {whole : Option ℕ} (lists : List (Vec Use Global)) (i : ℕ) (us : Vec Use Global) → us ≡ get_or lists i us → i < length lists
-    → first_above 256 (all_cases (map vec_items (drop i lists))) ≡ whole → first_above 256 (case_counts us.items) ≡ None
-    → first_above 256 (all_cases (map vec_items (drop (i + 1) lists))) ≡ whole
+    → first_above MOST_CASES (all_cases (map vec_items (drop i lists))) ≡ whole → first_above MOST_CASES (case_counts us.items) ≡ None
+    → first_above MOST_CASES (all_cases (map vec_items (drop (i + 1) lists))) ≡ whole
 cases_further lists i us is below so_far none =
-    sym (above_behind 256 (case_counts us.items) (all_cases (map vec_items (drop (i + 1) lists))) none)
-    ∙ ap (λ l. first_above 256 (all_cases (map vec_items l))) (sym (first_of lists i us is below)) ∙ so_far
+    sym (above_behind MOST_CASES (case_counts us.items) (all_cases (map vec_items (drop (i + 1) lists))) none)
+    ∙ ap (λ l. first_above MOST_CASES (all_cases (map vec_items l))) (sym (first_of lists i us is below)) ∙ so_far
 
 pub cases_over : {whole : Option ℕ} (lists : List (Vec Use Global)) (i : ℕ) (us : Vec Use Global) (f : TypeFault) → us ≡ get_or lists i us → i < length lists
-    → first_above 256 (all_cases (map vec_items (drop i lists))) ≡ whole → IsOver limit.Cases (first_above 256 (case_counts us.items)) f → IsOver limit.Cases whole f
+    → first_above MOST_CASES (all_cases (map vec_items (drop i lists))) ≡ whole → IsOver limit.Cases (first_above MOST_CASES (case_counts us.items)) f → IsOver limit.Cases whole f
 cases_over {whole = whole} lists i us f is below so_far over =
-    over_same limit.Cases _ whole f (ap (λ l. first_above 256 (all_cases (map vec_items l))) (sym (first_of lists i us is below)) ∙ so_far)
-    (over_further limit.Cases 256 (case_counts us.items) (all_cases (map vec_items (drop (i + 1) lists))) f over)
+    over_same limit.Cases _ whole f (ap (λ l. first_above MOST_CASES (all_cases (map vec_items l))) (sym (first_of lists i us is below)) ∙ so_far)
+    (over_further limit.Cases MOST_CASES (case_counts us.items) (all_cases (map vec_items (drop (i + 1) lists))) f over)
 
 -- what a fault says of the functions, by what was tested before
 module _ (fs : List TypedFunction) (main : has_main fs ≡ true) (bodies : missing_body fs ≡ None) where

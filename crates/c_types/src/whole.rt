@@ -17,19 +17,12 @@ ghost use Rattle.c_rules.specs.Whole.{IsOver, passed, frame_size, first_above};
 use c_frames::{Frame, TypedFunction, first_round, frame_of, names_of, temporaries_of, uses_of};
 use c_operands::{INT, same_kind};
 use c_rules::{LimitName, TypeFault};
-use c_tree::{Use, VarRef};
+use c_tree::{MOST_CASES, MOST_FRAME_SCALARS, MOST_FUNCTIONS, MOST_PARAMETERS, Use, VarRef};
 use std::alloc::Global;
 use word_base::NoMemory;
 
-/// The greatest number of functions with bodies.
-const MOST_FUNCTIONS: usize = 256;
-/// The greatest number of parameters of a function with a body.
-const MOST_PARAMETERS: usize = 31;
 /// The greatest number of frame scalars of a function, its temporaries counted.
-const MOST_SCALARS: u32 = 64;
-/// The greatest number of cases of a switch.
-const MOST_CASES: usize = 256;
-
+const MOST_SCALARS: u32 = MOST_FRAME_SCALARS as u32;
 /// What the objects of each function stand for, where what is wanted of the whole source holds.
 pub(crate) fn frames_of(
     alloc: Global,
@@ -194,8 +187,8 @@ fn small_frames(
 fn small_frame(alloc: Global, f: &TypedFunction, uses: &[Use]) -> Result<Vec<VarRef>, TypeFault>
     requires { uses.now ≡ statement_uses (stmt_of f.now.body.value) }
     ensures frame { IfOk result (λ references. references.items ≡ frame (typed_function_of f.now)) }
-    ensures small { IfOk result (λ _. frame_size (typed_function_of f.now) ≤ 64) }
-    ensures refused { IfErr result (IsOver limit.Scalars (first_above 64 (frame_size (typed_function_of f.now) ∷ []))) }
+    ensures small { IfOk result (λ _. frame_size (typed_function_of f.now) ≤ MOST_FRAME_SCALARS) }
+    ensures refused { IfErr result (IsOver limit.Scalars (first_above MOST_FRAME_SCALARS (frame_size (typed_function_of f.now) ∷ []))) }
 {
     let temporaries = temporaries_of(&f.body)?;
     match frame_of(alloc, uses, &f.locals)? {
@@ -218,7 +211,7 @@ fn sum(scalars: u32, temporaries: u32) -> Result<u32, NoMemory>
 
 // How many frame scalars there are among the objects of a function.
 fn scalars_among(references: &[VarRef]) -> u32
-    requires { frame_scalars references.now ≤ 64 }
+    requires { frame_scalars references.now ≤ MOST_FRAME_SCALARS }
     ensures { result ≡ frame_scalars references.now }
 {
     let mut count: u32 = 0;
@@ -231,8 +224,8 @@ fn scalars_among(references: &[VarRef]) -> u32
 }
 
 fn few_cases(uses: &[Vec<Use>]) -> Result<(), TypeFault>
-    ensures few { IfOk result (λ _. first_above 256 (wanted.all_cases (map vec_items uses.now)) ≡ None) }
-    ensures refused { IfErr result (IsOver limit.Cases (first_above 256 (wanted.all_cases (map vec_items uses.now)))) }
+    ensures few { IfOk result (λ _. first_above MOST_CASES (wanted.all_cases (map vec_items uses.now)) ≡ None) }
+    ensures refused { IfErr result (IsOver limit.Cases (first_above MOST_CASES (wanted.all_cases (map vec_items uses.now)))) }
 {
     for list in uses {
         few_cases_in(list)?;
@@ -241,8 +234,8 @@ fn few_cases(uses: &[Vec<Use>]) -> Result<(), TypeFault>
 }
 
 fn few_cases_in(uses: &[Use]) -> Result<(), TypeFault>
-    ensures few { IfOk result (λ _. first_above 256 (wanted.case_counts uses.now) ≡ None) }
-    ensures refused { IfErr result (IsOver limit.Cases (first_above 256 (wanted.case_counts uses.now))) }
+    ensures few { IfOk result (λ _. first_above MOST_CASES (wanted.case_counts uses.now) ≡ None) }
+    ensures refused { IfErr result (IsOver limit.Cases (first_above MOST_CASES (wanted.case_counts uses.now))) }
 {
     for found in uses {
         if let Use::Cases(count) = found {

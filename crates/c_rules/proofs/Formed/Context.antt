@@ -16,6 +16,7 @@ use Rattle.c_rules.specs.Statements.{LocalTree}
 use Rattle.c_rules.specs.Typing.{number_of}
 use Rattle.c_tree.specs.Kinds.{IsType, IsKind}
 use Rattle.c_tree.specs.WellFormed.{Shape, Signature, Names, IsAddressable, IsInitial}
+use Rattle.c_tree.specs.declared.limits.TheConstants.{MOST_CELLS}
 
 -- what is there where no rule is broken has this property
 abbrev Of : {A : Type 0} → (A → Type 0) → Outcome A → Type 0
@@ -82,7 +83,7 @@ numbers_from first (suc count) = refs.Local first ∷ numbers_from (suc first) c
 pub record IsStored (static : ℕ → Option Shape) (type : ObjectType) (values : List Initial) : Type 0 where
   pub is_type : IsType (cell_kind type)
   pub from_one : 1 ≤ cell_count type
-  pub most : cell_count type ≤ 32767
+  pub most : cell_count type ≤ MOST_CELLS
   pub within : length values ≤ cell_count type
   pub starts : All (IsInitial static (cell_kind type)) values
 

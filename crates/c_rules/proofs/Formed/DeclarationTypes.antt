@@ -25,11 +25,12 @@ use Rattle.c_tree.specs.Kinds.{IsType, IsKind}
 use Rattle.c_rules.proofs.Formed.OperandKinds.{starred_is_kind}
 use Rattle.c_rules.proofs.Formed.Context.{Gives, is, behind, unless, there}
 use Rattle.c_rules.proofs.Formed.GivesLemmas.{anything}
+use Rattle.c_tree.specs.declared.limits.TheConstants.{MOST_CELLS}
 
 pub record IsObjectType (count : ℕ) (kind : ScalarType) : Type 0 where
   pub is_type : IsType kind
   pub from_one : 1 ≤ count
-  pub most : count ≤ 32767
+  pub most : count ≤ MOST_CELLS
 
 abbrev pub IsDeclaredType : Declared → Type 0
 IsDeclaredType declares.Untyped = ⊤
@@ -45,19 +46,19 @@ pointed_type base.Unsigned stars = tt
 -- lengths
 abbrev IsLength : Option ℕ → Type 0
 IsLength None = ⊤
-IsLength (Some n) = (1 ≤ n) × (n ≤ 32767)
+IsLength (Some n) = (1 ≤ n) × (n ≤ MOST_CELLS)
 
 above_zero : (n : ℕ) → (n == 0) ≡ false → 1 ≤ n
 above_zero zero some = absurd (true≢false some)
 above_zero (suc n) some = omega arith
 
-length_as : (none over : Bool) (n : ℕ) → (none ≡ false → 1 ≤ n) → (over ≡ false → n ≤ 32767) → IsLength (if none || over then None else Some n)
+length_as : (none over : Bool) (n : ℕ) → (none ≡ false → 1 ≤ n) → (over ≡ false → n ≤ MOST_CELLS) → IsLength (if none || over then None else Some n)
 length_as true over n low high = tt
 length_as false true n low high = tt
 length_as false false n low high = (low refl, high refl)
 
 length_in : (n : ℕ) → IsLength (length_within n)
-length_in n = length_as (n == 0) (nat_lt 32767 n) n (above_zero n) (ltb-false 32767 n)
+length_in n = length_as (n == 0) (nat_lt MOST_CELLS n) n (above_zero n) (ltb-false MOST_CELLS n)
 
 length_typed : (s : Scope) (e : Expression) → Gives IsLength (typed_length s e)
 length_typed s e =

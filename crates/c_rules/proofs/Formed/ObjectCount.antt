@@ -31,6 +31,8 @@ use Rattle.c_rules.proofs.Formed.GivesLemmas.{anything, weaker}
 use Rattle.c_rules.proofs.Formed.CountedUses.{addresses, arrays, frame_objects_few}
 use Rattle.c_rules.proofs.Formed.CountedExpressions.{code}
 use Rattle.c_rules.proofs.Formed.CountedStatements.{body_few}
+use Rattle.c_tree.specs.declared.limits.TheConstants.{MOST_OBJECTS}
+use Rattle.c_syntax.specs.declared.limits.TheConstants.{MOST_NODES}
 
 -- the objects of a file so far, and those of its functions that may lie in memory
 abbrev function_objects : TypedFunction → ℕ
@@ -122,7 +124,7 @@ locals_few (f ∷ fs) =
       sum_by-cons function_objects f fs,
     )
 
-pub few_objects : (unit : UnitTree) (file : File) → typed_unit unit ≡ Is file → unit_count unit ≤ 400000 → object_count (program_tree file) ≤ 400000
+pub few_objects : (unit : UnitTree) (file : File) → typed_unit unit ≡ Is file → unit_count unit ≤ MOST_NODES → object_count (program_tree file) ≤ MOST_OBJECTS
 few_objects unit file same within =
     let few : file_objects file ≤ file_objects (empty_file unit) + unit_weight code unit = of_is (typed_unit unit) file (externals_few (empty_file unit) unit) same in
     omega (arith, few, within, locals_few file.functions, length-map file.statics static_object)

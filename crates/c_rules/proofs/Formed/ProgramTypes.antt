@@ -38,6 +38,7 @@ use Rattle.c_rules.proofs.Formed.RenumberedTypes.{kept_statement}
 use Rattle.c_rules.proofs.Formed.RenumberedUses.{statement_kept, counts_kept, same_calls}
 use Rattle.c_rules.proofs.Formed.RenumberedTemporaries.{statement_needs}
 use Rattle.c_rules.proofs.MissingBodies.{bodies_met}
+use Rattle.c_tree.specs.declared.limits.TheConstants.{MOST_CASES, MOST_FRAME_SCALARS, MOST_FUNCTIONS, MOST_OBJECTS, MOST_PARAMETERS}
 
 -- objects start with the same where the statics are the same
 same_initial : (s t : ℕ → Option Shape) → ((n : ℕ) → s n ≡ t n) → (kind : ScalarType) (i : Initial) → IsInitial s kind i → IsInitial t kind i
@@ -166,25 +167,25 @@ all_right limit [] ys all = all
 all_right limit (x ∷ xs) ys all = all_right limit xs ys (All-tail (λ n. n ≤ limit) x (xs ++ ys) all)
 
 abbrev HasFewParameters : FunctionTree → Type 0
-HasFewParameters f = length f.params ≤ 31
+HasFewParameters f = length f.params ≤ MOST_PARAMETERS
 
 abbrev HasFewScalars : FunctionTree → Type 0
-HasFewScalars f = length f.scalars + statement_temporaries f.body ≤ 64
+HasFewScalars f = length f.scalars + statement_temporaries f.body ≤ MOST_FRAME_SCALARS
 
 abbrev HasFewCases : FunctionTree → Type 0
-HasFewCases f = All (λ n. n ≤ 256) (case_counts (statement_uses f.body))
+HasFewCases f = All (λ n. n ≤ MOST_CASES) (case_counts (statement_uses f.body))
 
-cases_limited : (fs : List TypedFunction) → All (λ n. n ≤ 256) (all_cases (map uses_of fs)) → All HasFewCases (map function_tree fs)
+cases_limited : (fs : List TypedFunction) → All (λ n. n ≤ MOST_CASES) (all_cases (map uses_of fs)) → All HasFewCases (map function_tree fs)
 cases_limited [] all = All-nil HasFewCases
 cases_limited (f ∷ fs) all =
     All-cons HasFewCases (function_tree f) (map function_tree fs)
-    (subst (All (λ n. n ≤ 256)) (sym (counts_kept (frame f) f.body)) (all_left 256 (case_counts (uses_of f)) (all_cases (map uses_of fs)) all))
-    (cases_limited fs (all_right 256 (case_counts (uses_of f)) (all_cases (map uses_of fs)) all))
+    (subst (All (λ n. n ≤ MOST_CASES)) (sym (counts_kept (frame f) f.body)) (all_left MOST_CASES (case_counts (uses_of f)) (all_cases (map uses_of fs)) all))
+    (cases_limited fs (all_right MOST_CASES (case_counts (uses_of f)) (all_cases (map uses_of fs)) all))
 
-parameters_limited : (f : TypedFunction) → f.parameters ≤ 31 → HasFewParameters (function_tree f)
+parameters_limited : (f : TypedFunction) → f.parameters ≤ MOST_PARAMETERS → HasFewParameters (function_tree f)
 parameters_limited f few = let taken = length-take f.parameters (frame f) in omega (arith, few, taken)
 
-scalars_limited : (f : TypedFunction) → frame_size f ≤ 64 → HasFewScalars (function_tree f)
+scalars_limited : (f : TypedFunction) → frame_size f ≤ MOST_FRAME_SCALARS → HasFewScalars (function_tree f)
 scalars_limited f few =
     let scalars = scalar_count (frame f) f.locals (references_length (statement_uses f.body) f.locals)
     in let needs = statement_needs (frame f) f.body
@@ -193,15 +194,15 @@ scalars_limited f few =
 limits_hold : (fs : List TypedFunction) → AreWhole fs → IsLimited (map function_tree fs)
 limits_hold fs is = record {
   functions =
-      let count = All-head (λ n. n ≤ 256) (length fs) [] (none_above 256 (length fs ∷ []) (is.limits limit.Functions))
+      let count = All-head (λ n. n ≤ MOST_FUNCTIONS) (length fs) [] (none_above MOST_FUNCTIONS (length fs ∷ []) (is.limits limit.Functions))
       in omega (arith, count, length-map fs function_tree);
-  parameters = each_limited (λ f. f.parameters) 31 HasFewParameters parameters_limited fs (none_above 31 (map (λ f. f.parameters) fs) (is.limits limit.Parameters));
-  scalars = each_limited frame_size 64 HasFewScalars scalars_limited fs (none_above 64 (map frame_size fs) (is.limits limit.Scalars));
-  cases = cases_limited fs (none_above 256 (all_cases (map uses_of fs)) (is.limits limit.Cases));
+  parameters = each_limited (λ f. f.parameters) MOST_PARAMETERS HasFewParameters parameters_limited fs (none_above MOST_PARAMETERS (map (λ f. f.parameters) fs) (is.limits limit.Parameters));
+  scalars = each_limited frame_size MOST_FRAME_SCALARS HasFewScalars scalars_limited fs (none_above MOST_FRAME_SCALARS (map frame_size fs) (is.limits limit.Scalars));
+  cases = cases_limited fs (none_above MOST_CASES (all_cases (map uses_of fs)) (is.limits limit.Cases));
 }
 
 pub well_formed_program : (file : File) → IsTypedFile file → AreWhole file.functions → All IsName (map (λ f. f.name) file.functions)
-    → object_count (program_tree file) ≤ 400000 → IsProgram (program_tree file)
+    → object_count (program_tree file) ≤ MOST_OBJECTS → IsProgram (program_tree file)
 well_formed_program file typed is names few = record {
   statics = All-map (IsObject (program_tree file)) static_object file.statics (λ k d below. static_formed file (get_or file.statics k d) (typed.statics k d below));
   functions = All-map (IsFunction (program_tree file)) function_tree file.functions (λ k d below. function_formed file _ (typed.functions k d below));

@@ -19,6 +19,7 @@ use Rattle.c_rules.proofs.Formed.Context.{Gives, is, broken, behind, Fits, shape
 use Rattle.c_rules.proofs.Formed.GivesLemmas.{of_each}
 use Rattle.c_rules.proofs.Formed.ExpressionTypes.{IsEntry, typed_entry, typed_entries, entry_cell, typed_list}
 use Rattle.c_rules.proofs.Formed.StatementTypes.{IsObjectType}
+use Rattle.c_tree.specs.declared.limits.TheConstants.{MOST_CELLS}
 
 -- an initialiser
 abbrev pub IsStart : Names → Starts → Type 0
@@ -71,7 +72,7 @@ stored_alike static a b values alike right =
     record {
       is_type = subst IsType kinds right.is_type;
       from_one = subst (λ n. 1 ≤ n) counts right.from_one;
-      most = subst (λ n. n ≤ 32767) counts right.most;
+      most = subst (λ n. n ≤ MOST_CELLS) counts right.most;
       within = subst (λ n. length values ≤ n) counts right.within;
       starts = subst (λ k. All (IsInitial static k) values) kinds right.starts;
     }
