@@ -1,7 +1,6 @@
 -- The pure bodies and blocks that the checker's stand for, as far as they are typed.
 use Rattle.std.specs.Prelude.{List, map}
 use Rattle.c_tree.specs.View.{stmt_of}
-use Rattle.c_rules.specs.declared.local.Local as locals
 use Rattle.c_bodies.specs.declared.blocks.Body as bodies
 use Rattle.c_bodies.specs.declared.blocks.Opening as openings
 use Rattle.c_scopes.specs.Tables.{scope_of}
