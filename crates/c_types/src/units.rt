@@ -266,13 +266,14 @@ impl<'a> File<'a> {
             result: kind,
         };
         let tree = body.body(f.declarations.as_slice(), f.statements.as_slice())?;
+        let boxed = Box::new(alloc, tree)?;
         body.scopes.close();
         self.functions.push(TypedFunction {
             name,
             result: kind,
             parameters: kinds.len(),
             locals: body.locals,
-            body: tree,
+            body: boxed,
         })?;
         Ok(File {
             scopes: body.scopes,
