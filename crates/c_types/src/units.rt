@@ -21,6 +21,7 @@ use c_syntax::{External, FunctionDef, Item, Param};
 use c_tree::{Base, Initial, ScalarType};
 use indexmap::IndexSet;
 use std::alloc::Global;
+use std::mem;
 use word_base::{Items, NoMemory, Text};
 
 /// An object of file scope.
@@ -125,9 +126,9 @@ impl<'a> File<'a> {
     }
 
     // An item of a declaration.
-    fn item(mut self, base: Base, item: &'a Item) -> Result<Self, Refusal>
-        ensures typed { IfOk result (λ f. rules.file_item (file_of self.entry) base (item_of item.now) ≡ Is (file_of f)) }
-        ensures refused { IfErr result (Refuses (rules.file_item (file_of self.entry) base (item_of item.now))) }
+    fn item(&mut self, base: Base, item: &'a Item) -> Result<(), Refusal>
+        ensures typed { OnOk result (rules.file_item (file_of self.old) base (item_of item.now) ≡ Is (file_of self.new)) }
+        ensures refused { IfErr result (Refuses (rules.file_item (file_of self.old) base (item_of item.now))) }
     {
         match self.scopes.declarator(base, item)? {
             Declared::Untyped => Err(self.untyped(item)),
@@ -146,9 +147,9 @@ impl<'a> File<'a> {
         self.scopes.without_type(item)
     }
 
-    fn object(mut self, object_type: ObjectType, item: &'a Item) -> Result<Self, Refusal>
-        ensures typed { IfOk result (λ f. rules.item_as (file_of self.entry) (declares.Object object_type) (item_of item.now) ≡ Is (file_of f)) }
-        ensures refused { IfErr result (Refuses (rules.item_as (file_of self.entry) (declares.Object object_type) (item_of item.now))) }
+    fn object(&mut self, object_type: ObjectType, item: &'a Item) -> Result<(), Refusal>
+        ensures typed { OnOk result (rules.item_as (file_of self.old) (declares.Object object_type) (item_of item.now) ≡ Is (file_of self.new)) }
+        ensures refused { IfErr result (Refuses (rules.item_as (file_of self.old) (declares.Object object_type) (item_of item.now))) }
     {
         let name = item.name.as_str();
         let is_twice = self.is_twice(item);
@@ -160,8 +161,7 @@ impl<'a> File<'a> {
             return Err(redeclared(item.at));
         }
         let list = static_list(self.scopes.alloc, object_type, item.at, starts)?;
-        self.set_list(number, object_type, list, name)?;
-        Ok(self)
+        Ok(self.set_list(number, object_type, list, name)?)
     }
 
     // Gives an object its list, and is told its number where it is declared already.
@@ -193,9 +193,9 @@ impl<'a> File<'a> {
     }
 
     // The declaration of a function without its body.
-    fn prototyped(mut self, function: FunctionType, item: &'a Item) -> Result<Self, Refusal>
-        ensures typed { IfOk result (λ f. rules.item_as (file_of self.entry) (declares.Function function) (item_of item.now) ≡ Is (file_of f)) }
-        ensures refused { IfErr result (Refuses (rules.item_as (file_of self.entry) (declares.Function function) (item_of item.now))) }
+    fn prototyped(&mut self, function: FunctionType, item: &'a Item) -> Result<(), Refusal>
+        ensures typed { OnOk result (rules.item_as (file_of self.old) (declares.Function function) (item_of item.now) ≡ Is (file_of self.new)) }
+        ensures refused { IfErr result (Refuses (rules.item_as (file_of self.old) (declares.Function function) (item_of item.now))) }
     {
         let is_twice = self.is_twice(item);
         let allowed = self.scopes.declare_function(item.name.as_str(), function)?;
@@ -206,24 +206,23 @@ impl<'a> File<'a> {
         if item.init.is_some() {
             return Err(mismatch(item.at));
         }
-        Ok(self)
+        Ok(())
     }
 
-    fn items(self, base: Base, items: &'a [Item]) -> Result<Self, Refusal>
-        ensures typed { IfOk result (λ f. rules.file_items (file_of self.entry) base (map item_of items.now) ≡ Is (file_of f)) }
-        ensures refused { IfErr result (Refuses (rules.file_items (file_of self.entry) base (map item_of items.now))) }
+    fn items(&mut self, base: Base, items: &'a [Item]) -> Result<(), Refusal>
+        ensures typed { OnOk result (rules.file_items (file_of self.old) base (map item_of items.now) ≡ Is (file_of self.new)) }
+        ensures refused { IfErr result (Refuses (rules.file_items (file_of self.old) base (map item_of items.now))) }
     {
-        let mut file = self;
         for item in items {
-            file = file.item(base, item)?;
+            self.item(base, item)?;
         }
-        Ok(file)
+        Ok(())
     }
 
     // A function with its body.
-    fn function(mut self, f: &'a FunctionDef) -> Result<Self, Refusal>
-        ensures typed { IfOk result (λ g. rules.file_function (file_of self.entry) (function_of f.now) ≡ Is (file_of g)) }
-        ensures refused { IfErr result (Refuses (rules.file_function (file_of self.entry) (function_of f.now))) }
+    fn function(&mut self, f: &'a FunctionDef) -> Result<(), Refusal>
+        ensures typed { OnOk result (rules.file_function (file_of self.old) (function_of f.now) ≡ Is (file_of self.new)) }
+        ensures refused { IfErr result (Refuses (rules.file_function (file_of self.old) (function_of f.now))) }
     {
         let base = spelled(&f.specs)?;
         let name = f.name.as_str();
@@ -237,37 +236,40 @@ impl<'a> File<'a> {
         };
         let allowed = self.scopes.declare_function(name, function)?;
         let is_defined = self.scopes.number_of(name) < self.functions.len();
-        let typed = self.body(result, kinds, f)?;
+        self.body(result, &kinds, f)?;
         if !allowed || is_defined {
             return Err(redeclared(f.at));
         }
-        Ok(typed)
+        Ok(())
     }
 
-    // The body of a function behind its name, with parameters of these types.
+    // The body of a function behind its name, with parameters of these types. It has the names of the file while it is typed:
+    // where it is refused, nothing more is read of the file.
     fn body(
-        mut self,
+        &mut self,
         kind: Option<ScalarType>,
-        kinds: Vec<ScalarType>,
+        kinds: &[ScalarType],
         f: &'a FunctionDef,
-    ) -> Result<Self, Refusal>
-        ensures typed { IfOk result (λ g. rules.with_body (file_of self.entry) (function_of f.now) kind kinds.items ≡ Is (file_of g)) }
-        ensures refused { IfErr result (Refuses (rules.with_body (file_of self.entry) (function_of f.now) kind kinds.items)) }
+    ) -> Result<(), Refusal>
+        ensures typed { OnOk result (rules.with_body (file_of self.old) (function_of f.now) kind kinds.now ≡ Is (file_of self.new)) }
+        ensures refused { IfErr result (Refuses (rules.with_body (file_of self.old) (function_of f.now) kind kinds.now)) }
     {
         let alloc = self.scopes.alloc;
-        let name = Text::copy_of(alloc, f.name.as_str())?;
         let list = f.params.list.as_slice();
-        let locals = parameter_locals(alloc, list, &kinds)?;
         self.scopes.open()?;
-        self.scopes.declare_parameters(list, &kinds)?;
+        self.scopes.declare_parameters(list, kinds)?;
+        let locals = parameter_locals(alloc, list, kinds)?;
+        let name = Text::copy_of(alloc, f.name.as_str())?;
+        let none = Scopes::new(alloc, IndexSet::new(alloc));
         let mut body = Body {
-            scopes: self.scopes,
+            scopes: mem::replace(&mut self.scopes, none),
             locals,
             result: kind,
         };
         let tree = body.body(f.declarations.as_slice(), f.statements.as_slice())?;
         let boxed = Box::new(alloc, tree)?;
         body.scopes.close();
+        self.scopes = body.scopes;
         self.functions.push(TypedFunction {
             name,
             result: kind,
@@ -275,16 +277,12 @@ impl<'a> File<'a> {
             locals: body.locals,
             body: boxed,
         })?;
-        Ok(File {
-            scopes: body.scopes,
-            statics: self.statics,
-            functions: self.functions,
-        })
+        Ok(())
     }
 
-    fn external(self, external: &'a External) -> Result<Self, Refusal>
-        ensures typed { IfOk result (λ f. rules.external (file_of self.entry) (external_of external.now) ≡ Is (file_of f)) }
-        ensures refused { IfErr result (Refuses (rules.external (file_of self.entry) (external_of external.now))) }
+    fn external(&mut self, external: &'a External) -> Result<(), Refusal>
+        ensures typed { OnOk result (rules.external (file_of self.old) (external_of external.now) ≡ Is (file_of self.new)) }
+        ensures refused { IfErr result (Refuses (rules.external (file_of self.old) (external_of external.now))) }
     {
         match external {
             External::Function(f) => self.function(f),
@@ -316,7 +314,7 @@ impl<'a> File<'a> {
             functions: Vec::new(alloc),
         };
         for external in externals {
-            file = file.external(external)?;
+            file.external(external)?;
         }
         Ok(file)
     }

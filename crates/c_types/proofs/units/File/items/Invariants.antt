@@ -5,4 +5,4 @@ use Rattle.c_types.specs.View.{file_of}
 use Rattle.c_types.proofs.units.File.items.Given as goal
 
 abbrev pub invariant-loop-item : goal.invariant-loop-item
-invariant-loop-item l = file_items (file_of l.fn.self) l.base (map item_of l.items) ≡ file_items (file_of l.file) l.base (map item_of (drop l.item-index l.items))
+invariant-loop-item l = file_items (file_of l.initial.self) l.base (map item_of l.items) ≡ file_items (file_of l.self) l.base (map item_of (drop l.item-index l.items))

@@ -14,7 +14,7 @@ use Rattle.c_types.proofs.units.File.prototyped.Goals as goal
 
 pub returns-in_err-starts-clause-refused : goal.returns-in_err-starts-clause-refused
 returns-in_err-starts-clause-refused c =
-    let f = file_of c.args.self in
+    let f = file_of c.args.self.now in
     let h : Refuses (item_as f (declares.Function c.args.function) (item_of c.args.item.now)) c.in_err-starts.field-0.0 =
     starts_refused f (item_of c.args.item.now) (declares.Function c.args.function) (scope_of c.declare_function.new.self) c.as_str.result.now (length f.statics) c.in_ok-allowed.allowed c.is_twice-is_twice.result
     c.as_str.ensures refl c.in_ok-allowed.ensures.declared c.in_ok-allowed.ensures.allowed c.is_twice-is_twice.ensures
@@ -23,7 +23,7 @@ returns-in_err-starts-clause-refused c =
 
 pub returns-then-not-allowed-clause-refused : goal.returns-then-not-allowed-clause-refused
 returns-then-not-allowed-clause-refused c =
-    let f = file_of c.args.self in
+    let f = file_of c.args.self.now in
     let allowed = c.in_ok-allowed.allowed in
     let twice = c.is_twice-is_twice.result in
     let broken : (not allowed || twice) ≡ true = elim c.then-not-allowed.branch [
@@ -36,7 +36,7 @@ returns-then-not-allowed-clause-refused c =
 
 pub returns-then-is_some-clause-refused : goal.returns-then-is_some-clause-refused
 returns-then-is_some-clause-refused c =
-    let f = file_of c.args.self in
+    let f = file_of c.args.self.now in
     let allowed = c.in_ok-allowed.allowed in
     let twice = c.is_twice-is_twice.result in
     declared_refused f (item_of c.args.item.now) (declares.Function c.args.function) (scope_of c.declare_function.new.self) c.as_str.result.now (length f.statics) allowed twice
@@ -46,10 +46,10 @@ returns-then-is_some-clause-refused c =
 
 pub returns-clause-typed : goal.returns-clause-typed
 returns-clause-typed c =
-    let f = file_of c.args.self in
+    let f = file_of c.args.self.now in
     let allowed = c.in_ok-allowed.allowed in
     let twice = c.is_twice-is_twice.result in
     declared_item f (item_of c.args.item.now) (declares.Function c.args.function) (scope_of c.declare_function.new.self) c.as_str.result.now (length f.statics) allowed twice
     c.as_str.ensures refl c.in_ok-allowed.ensures.declared c.in_ok-allowed.ensures.allowed c.is_twice-is_twice.ensures
     (starts_of c.in_ok-starts.field-0) c.in_ok-starts.ensures.typed (allowed_once allowed twice c.if-not-allowed.false c.if-is_twice.false)
-    ∙ ap (λ b. breaks b Mismatch c.args.item.now.at (Is (file_of (record { scopes = c.declare_function.new.self; statics = c.args.self.statics; functions = c.args.self.functions })))) (initial_given c.args.item.now.init c.is_some.result c.is_some.ensures ∙ c.if-is_some.false)
+    ∙ ap (λ b. breaks b Mismatch c.args.item.now.at (Is (file_of (record { scopes = c.declare_function.new.self; statics = c.args.self.now.statics; functions = c.args.self.now.functions })))) (initial_given c.args.item.now.init c.is_some.result c.is_some.ensures ∙ c.if-is_some.false)
