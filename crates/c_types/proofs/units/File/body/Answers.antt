@@ -36,4 +36,4 @@ returns-clause-typed c =
     (function_pushed (file_of c.args.self) (scope_of c.close.new.self) c.args.self.functions.items c.push.new.self.items _ f.name c.args.kind c.args.kinds.items
     (record { tree = stmt_of c.in_ok-tree.tree; locals = map local_tree_of c.body.new.self.locals.items })
     kept refl c.in_ok-push.ensures.items
-    (λ i. record { name = (c.in_ok-name.ensures ∙ c.as_str.ensures) i; result = c.args.kind; parameters = (c.len.ensures ∙ c.args.kinds.ok.0) i; locals = map local_tree_of c.body.new.self.locals.items; body = ap stmt_of c.in_ok-boxed.ensures i }))
+    (λ i. record { name = (c.in_ok-name.ensures ∙ c.as_str.ensures) i; result = c.args.kind; parameters = (c.len.ensures ∙ c.args.kinds.ok.0) i; locals = map local_tree_of c.body.new.self.locals.items; body = ap stmt_of c.in_ok-boxed.ensures.ok i }))
