@@ -9,4 +9,3 @@ mod run;
 mod traps;
 
 pub use machine::Machine;
-

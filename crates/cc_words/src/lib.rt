@@ -7,4 +7,3 @@ mod plain;
 
 pub use asked::{Request, requested};
 pub use plain::plain_words;
-
