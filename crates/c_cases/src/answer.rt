@@ -129,7 +129,7 @@ fn push_tree_of(
 fn push_program_of(alloc: Global, out: &mut String, source: &[u8], base: u32) -> Result<(), Refusal>
     requires short { length source.now < 2 ^ 32 }
 {
-    let program = program(alloc, source)?;
+    let program = typed_program(alloc, source)?;
     Ok(push_program(alloc, out, &program, base)?)
 }
 
@@ -140,7 +140,7 @@ fn tree(alloc: Global, source: &[u8]) -> Result<Unit, Refusal>
     Ok(parse(alloc, &tokens)?)
 }
 
-fn program(alloc: Global, source: &[u8]) -> Result<Program, Refusal>
+fn typed_program(alloc: Global, source: &[u8]) -> Result<Program, Refusal>
     requires short { length source.now < 2 ^ 32 }
 {
     let tokens = lex(alloc, source)?;

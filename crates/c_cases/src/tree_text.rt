@@ -11,30 +11,35 @@ use word_base::NoMemory;
 
 const MOST_PIECES: u32 = 10_000_000;
 
-// What is yet to be written.
+// What is yet to be written, each behind a blank but for ends and bare expressions.
 #[derive(Clone, Copy, Drop)]
 enum Piece<'a> {
+    Nothing,
     Close,
     CloseBracket,
     Text(&'a str),
+    // The form of a node, whose parts and end are pieces of their own.
+    Open(&'static str, u32),
     Expr(&'a Expr),
+    Bare(&'a Expr),
     // A part of `for` that may be absent.
     Optional(&'a Option<Expr>),
+    Exprs(&'a [Expr]),
     Stmt(&'a Stmt),
-    Choice(&'a SwitchPart),
-    // `choices` and its place, before its parts.
-    Choices(u32),
-    Specs(&'a Specs),
-    Stars(u32, &'a str),
+    Stmts(&'a [Stmt]),
+    Choices(&'a [SwitchPart]),
+    // Words of a type with so many stars.
+    Type(&'a Specs, u32),
+    // A name behind so many stars.
+    Named(u32, &'a str),
     Params(&'a Params),
-    Param(&'a Param),
+    ParamList(&'a [Param]),
     Brackets(&'a Brackets),
-    Item(&'a Item),
+    Items(&'a [Item]),
     Init(&'a Init),
     Decl(&'a Decl),
-    // The block of a function's body, before its parts.
-    Block(u32),
-    External(&'a External),
+    Decls(&'a [Decl]),
+    Externals(&'a [External]),
 }
 
 // A writer of trees.
@@ -65,10 +70,7 @@ pub(crate) fn push_tree(
 impl<'a, 'b> Writer<'a, 'b> {
     fn unit(&mut self, externals: &'a [External]) -> Result<(), NoMemory> {
         self.line.push_str("(unit")?;
-        self.todo.push(Piece::Close)?;
-        for external in externals.iter().rev() {
-            self.todo.push(Piece::External(external))?;
-        }
+        self.pieces(&[Piece::Externals(externals), Piece::Close])?;
         // A tree of as many tokens as a source may have has fewer pieces.
         for _ in 0..MOST_PIECES {
             match self.todo.pop() {
@@ -76,38 +78,18 @@ impl<'a, 'b> Writer<'a, 'b> {
                 None => return Ok(()),
             }
         }
-        self.line.push_str(" too many pieces")?;
+        self.text(" too many pieces")
+    }
+
+    fn text(&mut self, text: &str) -> Result<(), NoMemory> {
+        self.line.push_str(text)?;
         Ok(())
     }
 
-    fn write(&mut self, piece: Piece<'a>) -> Result<(), NoMemory> {
-        match piece {
-            Piece::Close => self.line.push_str(")")?,
-            Piece::CloseBracket => self.line.push_str("]")?,
-            Piece::Text(text) => write!(self.line, " {text}")?,
-            Piece::Expr(expr) => {
-                self.line.push_str(" ")?;
-                self.expr(expr)?;
-            }
-            Piece::Optional(None) => self.line.push_str(" -")?,
-            Piece::Optional(Some(expr)) => {
-                self.line.push_str(" ")?;
-                self.expr(expr)?;
-            }
-            Piece::Stmt(stmt) => self.stmt(stmt)?,
-            Piece::Choice(choice) => self.choice(choice)?,
-            Piece::Choices(at) => self.open("choices", at)?,
-            Piece::Specs(specs) => self.specs(specs, 0)?,
-            Piece::Stars(stars, name) => self.named(stars, name)?,
-            Piece::Params(params) => self.params(params)?,
-            Piece::Param(param) => self.param(param)?,
-            Piece::Brackets(brackets) => self.brackets(brackets)?,
-            Piece::Item(item) => self.item(item)?,
-            Piece::Init(init) => self.init(init)?,
-            Piece::Decl(decl) => self.decl(decl)?,
-            Piece::Block(at) => self.open("block", at)?,
-            Piece::External(External::Declaration(decl)) => self.decl(decl)?,
-            Piece::External(External::Function(function)) => self.function(function)?,
+    // Has these pieces written next.
+    fn pieces(&mut self, pieces: &[Piece<'a>]) -> Result<(), NoMemory> {
+        for piece in pieces.iter().rev() {
+            self.todo.push(*piece)?;
         }
         Ok(())
     }
@@ -119,24 +101,77 @@ impl<'a, 'b> Writer<'a, 'b> {
         Ok(())
     }
 
-    // Opens a node.
-    fn open(&mut self, form: &str, at: u32) -> Result<(), NoMemory> {
-        write!(self.line, " ({form}")?;
+    // The form of a node, or a leaf, behind what stands before it.
+    fn open(&mut self, before: &str, form: &str, at: u32) -> Result<(), NoMemory> {
+        self.line.push_str(before)?;
+        self.line.push_str(form)?;
         self.place(at)
     }
 
-    // A node without parts.
-    fn leaf(&mut self, form: &str, at: u32) -> Result<(), NoMemory> {
-        write!(self.line, " {form}")?;
-        self.place(at)
-    }
-
-    // Opens the node of an expression, which a blank or a bracket stands before.
-    fn form(&mut self, form: &str, at: u32) -> Result<(), NoMemory> {
-        write!(self.line, "({form}")?;
-        self.place(at)?;
+    // A node with these parts.
+    fn node(
+        &mut self,
+        before: &str,
+        form: &str,
+        at: u32,
+        parts: &[Piece<'a>],
+    ) -> Result<(), NoMemory> {
+        self.open(before, form, at)?;
         self.todo.push(Piece::Close)?;
-        Ok(())
+        self.pieces(parts)
+    }
+
+    fn write(&mut self, piece: Piece<'a>) -> Result<(), NoMemory> {
+        match piece {
+            Piece::Nothing | Piece::Optional(None) => self.absent(piece),
+            Piece::Close => self.text(")"),
+            Piece::CloseBracket => self.text("]"),
+            Piece::Text(text) => self.named(0, text),
+            Piece::Named(stars, name) => self.named(stars, name),
+            Piece::Open(form, at) => self.open(" (", form, at),
+            Piece::Type(specs, stars) => self.specs(specs, stars),
+            Piece::Expr(expr) | Piece::Optional(Some(expr)) => self.expr(" ", expr),
+            Piece::Bare(expr) => self.expr("", expr),
+            Piece::Stmt(stmt) => self.stmt(stmt),
+            Piece::Brackets(brackets) => self.brackets(brackets),
+            Piece::Params(params) => self.params(params),
+            Piece::Init(init) => self.init(init),
+            Piece::Decl(decl) => self.decl(decl),
+            list => self.list(list),
+        }
+    }
+
+    fn absent(&mut self, piece: Piece<'a>) -> Result<(), NoMemory> {
+        match piece {
+            Piece::Optional(_) => self.text(" -"),
+            _ => Ok(()),
+        }
+    }
+
+    // The first of a list, and then the rest.
+    fn list(&mut self, list: Piece<'a>) -> Result<(), NoMemory> {
+        match list {
+            Piece::Exprs([first, rest @ ..]) => {
+                self.pieces(&[Piece::Expr(first), Piece::Exprs(rest)])
+            }
+            Piece::Stmts([first, rest @ ..]) => {
+                self.pieces(&[Piece::Stmt(first), Piece::Stmts(rest)])
+            }
+            Piece::Decls([first, rest @ ..]) => {
+                self.pieces(&[Piece::Decl(first), Piece::Decls(rest)])
+            }
+            Piece::Choices([first, rest @ ..]) => self.choice(first, rest),
+            Piece::ParamList([first, rest @ ..]) => self.param(first, rest),
+            Piece::Items([first, rest @ ..]) => self.item(first, rest),
+            Piece::Externals([first, rest @ ..]) => self.external(first, rest),
+            _ => Ok(()),
+        }
+    }
+
+    fn named(&mut self, stars: u32, name: &str) -> Result<(), NoMemory> {
+        self.line.push_str(" ")?;
+        self.stars(stars)?;
+        self.text(name)
     }
 
     fn stars(&mut self, stars: u32) -> Result<(), NoMemory> {
@@ -146,28 +181,101 @@ impl<'a, 'b> Writer<'a, 'b> {
         Ok(())
     }
 
-    fn named(&mut self, stars: u32, name: &str) -> Result<(), NoMemory> {
-        self.line.push_str(" ")?;
+    // A type, or words of a type without stars.
+    fn specs(&mut self, specs: &Specs, stars: u32) -> Result<(), NoMemory> {
+        self.spec_words(specs.words.as_slice())?;
         self.stars(stars)?;
-        self.line.push_str(name)?;
+        self.place(specs.at)?;
+        self.text(">")
+    }
+
+    fn spec_words(&mut self, words: &[SpecWord]) -> Result<(), NoMemory> {
+        let mut before = " <";
+        for word in words {
+            self.line.push_str(before)?;
+            self.line.push_str(spec_text(*word))?;
+            before = " ";
+        }
         Ok(())
     }
 
-    // A type, or words of a type without stars.
-    fn specs(&mut self, specs: &Specs, stars: u32) -> Result<(), NoMemory> {
-        self.line.push_str(" <")?;
-        let mut is_first = true;
-        for word in specs.words.as_slice() {
-            if !is_first {
-                self.line.push_str(" ")?;
+    fn expr(&mut self, before: &str, expr: &'a Expr) -> Result<(), NoMemory> {
+        match &expr.kind {
+            ExprKind::Name(_) | ExprKind::Number { .. } | ExprKind::Char(_) => {
+                self.leaf(before, expr)
             }
-            is_first = false;
-            self.line.push_str(spec_text(*word))?;
+            _ => {
+                self.line.push_str(before)?;
+                self.form(expr.at, &expr.kind)
+            }
         }
-        self.stars(stars)?;
-        self.place(specs.at)?;
-        self.line.push_str(">")?;
-        Ok(())
+    }
+
+    fn leaf(&mut self, before: &str, expr: &Expr) -> Result<(), NoMemory> {
+        match &expr.kind {
+            ExprKind::Name(name) => write!(self.line, "{before}{}", name.as_str())?,
+            ExprKind::Number {
+                value,
+                unsigned_mark,
+                decimal,
+            } => {
+                let other = if *decimal { "" } else { "#" };
+                let mark = if *unsigned_mark { "u" } else { "" };
+                write!(self.line, "{before}{other}{value}{mark}")?;
+            }
+            ExprKind::Char(value) => write!(self.line, "{before}'{value}")?,
+            _ => {}
+        }
+        self.place(expr.at)
+    }
+
+    // An expression that has parts.
+    fn form(&mut self, at: u32, kind: &'a ExprKind) -> Result<(), NoMemory> {
+        match kind {
+            ExprKind::Index { operand, index } => self.operands("[]", at, operand, index),
+            ExprKind::Call { name, arguments } => self.node(
+                "(",
+                "call",
+                at,
+                &[Piece::Text(name.as_str()), Piece::Exprs(arguments)],
+            ),
+            ExprKind::StepAfter { up: true, operand } => self.operand("_++", at, operand),
+            ExprKind::StepAfter { up: false, operand } => self.operand("_--", at, operand),
+            ExprKind::StepBefore { up: true, operand } => self.operand("++_", at, operand),
+            ExprKind::StepBefore { up: false, operand } => self.operand("--_", at, operand),
+            ExprKind::Prefix { op, operand } => self.operand(prefix_text(*op), at, operand),
+            ExprKind::SizeofValue(operand) => self.operand("sizeof", at, operand),
+            ExprKind::SizeofType(of) => {
+                self.node("(", "sizeof", at, &[Piece::Type(&of.specs, of.stars)])
+            }
+            ExprKind::Cast { to, operand } => self.node(
+                "(",
+                "cast",
+                at,
+                &[Piece::Type(&to.specs, to.stars), Piece::Expr(operand)],
+            ),
+            ExprKind::Binary { op, left, right } => {
+                self.operands(binary_text(*op), at, left, right)
+            }
+            ExprKind::AssignOp { op, left, right } => {
+                self.operands(assignment_text(*op), at, left, right)
+            }
+            ExprKind::And { left, right } => self.operands("&&", at, left, right),
+            ExprKind::Or { left, right } => self.operands("||", at, left, right),
+            ExprKind::Assign { left, right } => self.operands("=", at, left, right),
+            ExprKind::Comma { left, right } => self.operands(",", at, left, right),
+            ExprKind::Conditional { test, yes, no } => self.node(
+                "(",
+                "?",
+                at,
+                &[Piece::Expr(test), Piece::Expr(yes), Piece::Expr(no)],
+            ),
+            _ => Ok(()),
+        }
+    }
+
+    fn operand(&mut self, form: &str, at: u32, operand: &'a Expr) -> Result<(), NoMemory> {
+        self.node("(", form, at, &[Piece::Expr(operand)])
     }
 
     fn operands(
@@ -177,274 +285,199 @@ impl<'a, 'b> Writer<'a, 'b> {
         left: &'a Expr,
         right: &'a Expr,
     ) -> Result<(), NoMemory> {
-        self.form(form, at)?;
-        self.todo.push(Piece::Expr(right))?;
-        self.todo.push(Piece::Expr(left))?;
-        Ok(())
-    }
-
-    fn operand(&mut self, form: &str, at: u32, operand: &'a Expr) -> Result<(), NoMemory> {
-        self.form(form, at)?;
-        self.todo.push(Piece::Expr(operand))?;
-        Ok(())
-    }
-
-    fn expr(&mut self, expr: &'a Expr) -> Result<(), NoMemory> {
-        let at = expr.at;
-        match &expr.kind {
-            ExprKind::Name(name) => {
-                self.line.push_str(name.as_str())?;
-                self.place(at)
-            }
-            ExprKind::Number {
-                value,
-                unsigned_mark,
-                decimal,
-            } => {
-                let other = if *decimal { "" } else { "#" };
-                let mark = if *unsigned_mark { "u" } else { "" };
-                write!(self.line, "{other}{value}{mark}")?;
-                self.place(at)
-            }
-            ExprKind::Char(value) => {
-                write!(self.line, "'{value}")?;
-                self.place(at)
-            }
-            ExprKind::Index { operand, index } => self.operands("[]", at, operand, index),
-            ExprKind::Call { name, arguments } => {
-                self.form("call", at)?;
-                for argument in arguments.iter().rev() {
-                    self.todo.push(Piece::Expr(argument))?;
-                }
-                self.todo.push(Piece::Text(name.as_str()))?;
-                Ok(())
-            }
-            ExprKind::StepAfter { up, operand } => {
-                self.operand(if *up { "_++" } else { "_--" }, at, operand)
-            }
-            ExprKind::StepBefore { up, operand } => {
-                self.operand(if *up { "++_" } else { "--_" }, at, operand)
-            }
-            ExprKind::Prefix { op, operand } => self.operand(prefix_text(*op), at, operand),
-            ExprKind::SizeofValue(operand) => self.operand("sizeof", at, operand),
-            ExprKind::SizeofType(of) => {
-                self.form("sizeof", at)?;
-                self.specs(&of.specs, of.stars)
-            }
-            ExprKind::Cast { to, operand } => {
-                self.operand("cast", at, operand)?;
-                self.specs(&to.specs, to.stars)
-            }
-            ExprKind::Binary { op, left, right } => self.operands(
-                binary_text(*op),
-                at,
-                left,
-                right,
-            ),
-            ExprKind::And { left, right } => self.operands("&&", at, left, right),
-            ExprKind::Or { left, right } => self.operands("||", at, left, right),
-            ExprKind::Conditional { test, yes, no } => {
-                self.form("?", at)?;
-                self.todo.push(Piece::Expr(no))?;
-                self.todo.push(Piece::Expr(yes))?;
-                self.todo.push(Piece::Expr(test))?;
-                Ok(())
-            }
-            ExprKind::Assign { left, right } => self.operands("=", at, left, right),
-            ExprKind::AssignOp { op, left, right } => {
-                self.operands(assignment_text(*op), at, left, right)
-            }
-            ExprKind::Comma { left, right } => self.operands(",", at, left, right),
-        }
+        self.node("(", form, at, &[Piece::Expr(left), Piece::Expr(right)])
     }
 
     fn stmt(&mut self, stmt: &'a Stmt) -> Result<(), NoMemory> {
         let at = stmt.at;
         match &stmt.kind {
-            StmtKind::Empty => return self.leaf(";", at),
-            StmtKind::Break => return self.leaf("break", at),
-            StmtKind::Continue => return self.leaf("continue", at),
-            _ => self.todo.push(Piece::Close)?,
-        }
-        match &stmt.kind {
-            StmtKind::Empty | StmtKind::Break | StmtKind::Continue => {}
-            StmtKind::Evaluate(value) => {
-                self.open("eval", at)?;
-                self.todo.push(Piece::Expr(value))?;
-            }
+            StmtKind::Empty => self.open(" ", ";", at),
+            StmtKind::Break => self.open(" ", "break", at),
+            StmtKind::Continue => self.open(" ", "continue", at),
+            StmtKind::Evaluate(value) => self.node(" (", "eval", at, &[Piece::Expr(value)]),
             StmtKind::Block {
                 declarations,
                 statements,
-            } => {
-                self.open("block", at)?;
-                self.body(declarations, statements)?;
-            }
-            StmtKind::Return(value) => {
-                self.open("return", at)?;
-                if let Some(value) = value {
-                    self.todo.push(Piece::Expr(value))?;
-                }
-            }
-            StmtKind::Do { body, test } => {
-                self.open("do", at)?;
-                self.todo.push(Piece::Expr(test))?;
-                self.todo.push(Piece::Stmt(body))?;
-            }
+            } => self.node(
+                " (",
+                "block",
+                at,
+                &[Piece::Decls(declarations), Piece::Stmts(statements)],
+            ),
+            StmtKind::Return(None) => self.node(" (", "return", at, &[]),
+            StmtKind::Return(Some(value)) => self.node(" (", "return", at, &[Piece::Expr(value)]),
             StmtKind::If { test, yes } => {
-                self.open("if", at)?;
-                self.todo.push(Piece::Stmt(yes))?;
-                self.todo.push(Piece::Expr(test))?;
+                self.node(" (", "if", at, &[Piece::Expr(test), Piece::Stmt(yes)])
             }
-            StmtKind::IfElse { test, yes, no } => {
-                self.open("if-else", at)?;
-                self.todo.push(Piece::Stmt(no))?;
-                self.todo.push(Piece::Stmt(yes))?;
-                self.todo.push(Piece::Expr(test))?;
+            StmtKind::IfElse { test, yes, no } => self.node(
+                " (",
+                "if-else",
+                at,
+                &[Piece::Expr(test), Piece::Stmt(yes), Piece::Stmt(no)],
+            ),
+            _ => self.loop_or_switch(at, &stmt.kind),
+        }
+    }
+
+    fn loop_or_switch(&mut self, at: u32, kind: &'a StmtKind) -> Result<(), NoMemory> {
+        match kind {
+            StmtKind::Do { body, test } => {
+                self.node(" (", "do", at, &[Piece::Stmt(body), Piece::Expr(test)])
             }
             StmtKind::While { test, body } => {
-                self.open("while", at)?;
-                self.todo.push(Piece::Stmt(body))?;
-                self.todo.push(Piece::Expr(test))?;
+                self.node(" (", "while", at, &[Piece::Expr(test), Piece::Stmt(body)])
             }
             StmtKind::For {
                 first,
                 test,
                 third,
                 body,
-            } => {
-                self.open("for", at)?;
-                self.todo.push(Piece::Stmt(body))?;
-                self.todo.push(Piece::Optional(third))?;
-                self.todo.push(Piece::Optional(test))?;
-                self.todo.push(Piece::Optional(first))?;
-            }
+            } => self.node(
+                " (",
+                "for",
+                at,
+                &[
+                    Piece::Optional(first),
+                    Piece::Optional(test),
+                    Piece::Optional(third),
+                    Piece::Stmt(body),
+                ],
+            ),
             StmtKind::Switch {
                 value,
                 parts,
                 parts_at,
-            } => {
-                self.open("switch", at)?;
-                self.todo.push(Piece::Close)?;
-                for part in parts.iter().rev() {
-                    self.todo.push(Piece::Choice(part))?;
-                }
-                self.todo.push(Piece::Choices(*parts_at))?;
-                self.todo.push(Piece::Expr(value))?;
-            }
+            } => self.node(
+                " (",
+                "switch",
+                at,
+                &[
+                    Piece::Expr(value),
+                    Piece::Open("choices", *parts_at),
+                    Piece::Choices(parts),
+                    Piece::Close,
+                ],
+            ),
+            _ => Ok(()),
         }
-        Ok(())
     }
 
-    fn body(&mut self, declarations: &'a [Decl], statements: &'a [Stmt]) -> Result<(), NoMemory> {
-        for stmt in statements.iter().rev() {
-            self.todo.push(Piece::Stmt(stmt))?;
-        }
-        for decl in declarations.iter().rev() {
-            self.todo.push(Piece::Decl(decl))?;
-        }
-        Ok(())
-    }
-
-    fn choice(&mut self, choice: &'a SwitchPart) -> Result<(), NoMemory> {
+    fn choice(&mut self, choice: &'a SwitchPart, rest: &'a [SwitchPart]) -> Result<(), NoMemory> {
         match choice {
-            SwitchPart::Case(value) => {
-                self.line.push_str(" (case")?;
-                self.todo.push(Piece::Close)?;
-                self.todo.push(Piece::Expr(value))?;
-            }
-            SwitchPart::Default => self.line.push_str(" default")?,
-            SwitchPart::Body(stmt) => self.todo.push(Piece::Stmt(stmt))?,
+            SwitchPart::Case(value) => self.pieces(&[
+                Piece::Text("(case"),
+                Piece::Expr(value),
+                Piece::Close,
+                Piece::Choices(rest),
+            ]),
+            SwitchPart::Default => self.pieces(&[Piece::Text("default"), Piece::Choices(rest)]),
+            SwitchPart::Body(stmt) => self.pieces(&[Piece::Stmt(stmt), Piece::Choices(rest)]),
         }
-        Ok(())
     }
 
     fn brackets(&mut self, brackets: &'a Brackets) -> Result<(), NoMemory> {
-        self.line.push_str(" [")?;
-        self.todo.push(Piece::CloseBracket)?;
-        if let Brackets::Sized(length) = brackets {
-            self.expr(length)?;
+        match brackets {
+            Brackets::Unsized => self.text(" []"),
+            Brackets::Sized(length) => self.pieces(&[
+                Piece::Text("["),
+                Piece::Bare(length),
+                Piece::CloseBracket,
+            ]),
         }
-        Ok(())
     }
 
     fn params(&mut self, params: &'a Params) -> Result<(), NoMemory> {
-        self.open("params", params.at)?;
-        self.todo.push(Piece::Close)?;
-        for param in params.list.as_slice().iter().rev() {
-            self.todo.push(Piece::Param(param))?;
-        }
-        Ok(())
+        let list = params.list.as_slice();
+        self.node(" (", "params", params.at, &[Piece::ParamList(list)])
     }
 
-    fn param(&mut self, param: &'a Param) -> Result<(), NoMemory> {
-        self.open("param", param.at)?;
-        self.specs(&param.specs, 0)?;
-        match &param.name {
-            Some(name) => self.named(param.stars, name.as_str())?,
-            None if param.stars > 0 => self.named(param.stars, "")?,
-            None => {}
-        }
-        self.todo.push(Piece::Close)?;
-        if let Some(brackets) = &param.array {
-            self.todo.push(Piece::Brackets(brackets))?;
-        }
-        Ok(())
+    fn param(&mut self, param: &'a Param, rest: &'a [Param]) -> Result<(), NoMemory> {
+        self.todo.push(Piece::ParamList(rest))?;
+        let name = match &param.name {
+            Some(name) => Piece::Named(param.stars, name.as_str()),
+            None if param.stars > 0 => Piece::Named(param.stars, ""),
+            None => Piece::Nothing,
+        };
+        let brackets = optional_brackets(&param.array);
+        self.node(
+            " (",
+            "param",
+            param.at,
+            &[Piece::Type(&param.specs, 0), name, brackets],
+        )
     }
 
-    fn item(&mut self, item: &'a Item) -> Result<(), NoMemory> {
-        self.open("item", item.at)?;
-        self.named(item.stars, item.name.as_str())?;
-        self.todo.push(Piece::Close)?;
-        if let Some(init) = &item.init {
-            self.todo.push(Piece::Init(init))?;
-        }
-        match &item.kind {
-            ItemKind::Plain => {}
-            ItemKind::Function(params) => self.todo.push(Piece::Params(params))?,
-            ItemKind::Array(brackets) => self.todo.push(Piece::Brackets(brackets))?,
-        }
-        Ok(())
+    fn item(&mut self, item: &'a Item, rest: &'a [Item]) -> Result<(), NoMemory> {
+        self.todo.push(Piece::Items(rest))?;
+        let name = Piece::Named(item.stars, item.name.as_str());
+        let kind = match &item.kind {
+            ItemKind::Plain => Piece::Nothing,
+            ItemKind::Function(params) => Piece::Params(params),
+            ItemKind::Array(brackets) => Piece::Brackets(brackets),
+        };
+        let init = match &item.init {
+            Some(init) => Piece::Init(init),
+            None => Piece::Nothing,
+        };
+        self.node(" (", "item", item.at, &[name, kind, init])
     }
 
     fn init(&mut self, init: &'a Init) -> Result<(), NoMemory> {
-        self.line.push_str(" =")?;
         match init {
-            Init::One(value) => self.todo.push(Piece::Expr(value))?,
-            Init::Braced { values, at } => {
-                self.open("list", *at)?;
-                self.todo.push(Piece::Close)?;
-                for value in values.as_slice().iter().rev() {
-                    self.todo.push(Piece::Expr(value))?;
-                }
-            }
+            Init::One(value) => self.pieces(&[Piece::Text("="), Piece::Expr(value)]),
+            Init::Braced { values, at } => self.pieces(&[
+                Piece::Text("="),
+                Piece::Open("list", *at),
+                Piece::Exprs(values.as_slice()),
+                Piece::Close,
+            ]),
         }
-        Ok(())
     }
 
     fn decl(&mut self, decl: &'a Decl) -> Result<(), NoMemory> {
-        self.open("decl", decl.at)?;
-        self.specs(&decl.specs, 0)?;
-        self.todo.push(Piece::Close)?;
-        for item in decl.items.as_slice().iter().rev() {
-            self.todo.push(Piece::Item(item))?;
+        let items = decl.items.as_slice();
+        self.node(
+            " (",
+            "decl",
+            decl.at,
+            &[Piece::Type(&decl.specs, 0), Piece::Items(items)],
+        )
+    }
+
+    fn external(&mut self, external: &'a External, rest: &'a [External]) -> Result<(), NoMemory> {
+        match external {
+            External::Declaration(decl) => {
+                self.pieces(&[Piece::Decl(decl), Piece::Externals(rest)])
+            }
+            External::Function(function) => {
+                self.todo.push(Piece::Externals(rest))?;
+                self.function(function)
+            }
         }
-        Ok(())
     }
 
     fn function(&mut self, function: &'a FunctionDef) -> Result<(), NoMemory> {
-        self.open("function", function.at)?;
-        self.todo.push(Piece::Close)?;
-        self.todo.push(Piece::Close)?;
-        self.body(
-            function.declarations.as_slice(),
-            function.statements.as_slice(),
-        )?;
-        self.todo.push(Piece::Block(function.body_at))?;
-        self.todo.push(Piece::Params(&function.params))?;
-        self.todo
-            .push(Piece::Stars(function.stars, function.name.as_str()))?;
-        self.todo.push(Piece::Specs(&function.specs))?;
-        Ok(())
+        self.node(
+            " (",
+            "function",
+            function.at,
+            &[
+                Piece::Type(&function.specs, 0),
+                Piece::Named(function.stars, function.name.as_str()),
+                Piece::Params(&function.params),
+                Piece::Open("block", function.body_at),
+                Piece::Decls(function.declarations.as_slice()),
+                Piece::Stmts(function.statements.as_slice()),
+                Piece::Close,
+            ],
+        )
+    }
+}
+
+fn optional_brackets(brackets: &Option<Brackets>) -> Piece<'_> {
+    match brackets {
+        Some(brackets) => Piece::Brackets(brackets),
+        None => Piece::Nothing,
     }
 }
 

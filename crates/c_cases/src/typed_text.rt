@@ -18,10 +18,15 @@ enum Piece<'a> {
     // The end of a node, without a blank.
     Close,
     Expr(&'a TypedExpr),
+    Exprs(&'a [TypedExpr]),
     // A part of `for` that may be absent.
     Optional(&'a Option<TypedExpr>),
     Stmt(&'a TypedStmt),
-    Choice(&'a Choice),
+    Stmts(&'a [TypedStmt]),
+    Choices(&'a [Choice]),
+    Target(&'a Target),
+    // A letter and a number.
+    Number(&'static str, u32),
 }
 
 // A writer of programs.
@@ -82,8 +87,7 @@ impl<'a, 'b> Writer<'a, 'b> {
         self.kind(function.result)?;
         self.line.push_str(" (params")?;
         for param in function.params.as_slice() {
-            self.line.push_str(" ")?;
-            self.variable(*param)?;
+            self.variable(" ", *param)?;
         }
         self.line.push_str(") (scalars")?;
         self.types(function.scalars.as_slice())?;
@@ -123,26 +127,67 @@ impl<'a, 'b> Writer<'a, 'b> {
         Ok(())
     }
 
-    fn piece(&mut self, piece: Piece<'a>) -> Result<(), NoMemory> {
-        match piece {
-            Piece::Close => self.line.push_str(")")?,
-            Piece::Expr(expr) => self.expr(expr)?,
-            Piece::Optional(None) => self.line.push_str(" -")?,
-            Piece::Optional(Some(expr)) => self.expr(expr)?,
-            Piece::Stmt(stmt) => self.stmt(stmt)?,
-            Piece::Choice(Choice::Case(word)) => write!(self.line, " (case {word})")?,
-            Piece::Choice(Choice::Default) => self.line.push_str(" default")?,
-            Piece::Choice(Choice::Body(stmt)) => self.stmt(stmt)?,
+    // Has these pieces written next.
+    fn pieces(&mut self, pieces: &[Piece<'a>]) -> Result<(), NoMemory> {
+        for piece in pieces.iter().rev() {
+            self.todo.push(*piece)?;
         }
         Ok(())
     }
 
+    fn text(&mut self, text: &str) -> Result<(), NoMemory> {
+        self.line.push_str(text)?;
+        Ok(())
+    }
+
+    fn piece(&mut self, piece: Piece<'a>) -> Result<(), NoMemory> {
+        match piece {
+            Piece::Close => self.text(")"),
+            Piece::Optional(None) => self.text(" -"),
+            Piece::Expr(expr) | Piece::Optional(Some(expr)) => self.expr(expr),
+            Piece::Stmt(stmt) => self.stmt(stmt),
+            Piece::Target(target) => self.target(target),
+            Piece::Number(letter, number) => self.numbered(letter, number),
+            list => self.list(list),
+        }
+    }
+
+    // The first of a list, and then the rest.
+    fn list(&mut self, list: Piece<'a>) -> Result<(), NoMemory> {
+        match list {
+            Piece::Exprs([first, rest @ ..]) => {
+                self.pieces(&[Piece::Expr(first), Piece::Exprs(rest)])
+            }
+            Piece::Stmts([first, rest @ ..]) => {
+                self.pieces(&[Piece::Stmt(first), Piece::Stmts(rest)])
+            }
+            Piece::Choices([first, rest @ ..]) => self.choice(first, rest),
+            _ => Ok(()),
+        }
+    }
+
+    fn choice(&mut self, choice: &'a Choice, rest: &'a [Choice]) -> Result<(), NoMemory> {
+        match choice {
+            Choice::Case(word) => self.pieces(&[
+                Piece::Number("(case ", u32::from(*word)),
+                Piece::Close,
+                Piece::Choices(rest),
+            ]),
+            Choice::Default => {
+                self.line.push_str(" default")?;
+                self.pieces(&[Piece::Choices(rest)])
+            }
+            Choice::Body(stmt) => self.pieces(&[Piece::Stmt(stmt), Piece::Choices(rest)]),
+        }
+    }
+
+    fn numbered(&mut self, letter: &str, number: u32) -> Result<(), NoMemory> {
+        write!(self.line, " {letter}{number}")?;
+        Ok(())
+    }
+
     fn scalar_type(&mut self, of: ScalarType) -> Result<(), NoMemory> {
-        self.line.push_str(match of.base {
-            Base::Void => "void",
-            Base::Int => "int",
-            Base::Unsigned => "unsigned",
-        })?;
+        self.line.push_str(base_text(of.base))?;
         for _ in 0..of.stars {
             self.line.push_str("*")?;
         }
@@ -152,16 +197,13 @@ impl<'a, 'b> Writer<'a, 'b> {
     fn kind(&mut self, kind: Option<ScalarType>) -> Result<(), NoMemory> {
         match kind {
             Some(of) => self.scalar_type(of),
-            None => Ok(self.line.push_str("void")?),
+            None => self.text("void"),
         }
     }
 
-    fn variable(&mut self, variable: VarRef) -> Result<(), NoMemory> {
-        match variable {
-            VarRef::Scalar(number) => write!(self.line, "s{number}")?,
-            VarRef::Local(number) => write!(self.line, "l{number}")?,
-            VarRef::Static(number) => write!(self.line, "g{number}")?,
-        }
+    fn variable(&mut self, before: &str, variable: VarRef) -> Result<(), NoMemory> {
+        let (letter, number) = lettered(variable);
+        write!(self.line, "{before}{letter}{number}")?;
         Ok(())
     }
 
@@ -177,12 +219,12 @@ impl<'a, 'b> Writer<'a, 'b> {
         self.place(expr.at)
     }
 
-    // Opens the node of an expression.
-    fn open(&mut self, form: &str, expr: &TypedExpr) -> Result<(), NoMemory> {
+    // The node of an expression with these parts.
+    fn node(&mut self, form: &str, expr: &TypedExpr, parts: &[Piece<'a>]) -> Result<(), NoMemory> {
         write!(self.line, " ({form}")?;
         self.typed(expr)?;
         self.todo.push(Piece::Close)?;
-        Ok(())
+        self.pieces(parts)
     }
 
     fn operand(
@@ -191,9 +233,7 @@ impl<'a, 'b> Writer<'a, 'b> {
         expr: &TypedExpr,
         operand: &'a TypedExpr,
     ) -> Result<(), NoMemory> {
-        self.open(form, expr)?;
-        self.todo.push(Piece::Expr(operand))?;
-        Ok(())
+        self.node(form, expr, &[Piece::Expr(operand)])
     }
 
     fn operands(
@@ -203,28 +243,12 @@ impl<'a, 'b> Writer<'a, 'b> {
         left: &'a TypedExpr,
         right: &'a TypedExpr,
     ) -> Result<(), NoMemory> {
-        self.open(form, expr)?;
-        self.todo.push(Piece::Expr(right))?;
-        self.todo.push(Piece::Expr(left))?;
-        Ok(())
+        self.node(form, expr, &[Piece::Expr(left), Piece::Expr(right)])
     }
 
     fn expr(&mut self, expr: &'a TypedExpr) -> Result<(), NoMemory> {
         match &expr.form {
-            ExprForm::Const(word) => {
-                write!(self.line, " {word}")?;
-                self.typed(expr)
-            }
-            ExprForm::Read(variable) => {
-                self.line.push_str(" ")?;
-                self.variable(*variable)?;
-                self.typed(expr)
-            }
-            ExprForm::AddressOf(variable) => {
-                self.line.push_str(" &")?;
-                self.variable(*variable)?;
-                self.typed(expr)
-            }
+            ExprForm::Const(_) | ExprForm::Read(_) | ExprForm::AddressOf(_) => self.leaf(expr),
             ExprForm::Load(pointer) => self.operand("*_", expr, pointer),
             ExprForm::Unary { op, value } => self.operand(unary_text(*op), expr, value),
             ExprForm::Not(value) => self.operand("!_", expr, value),
@@ -239,106 +263,78 @@ impl<'a, 'b> Writer<'a, 'b> {
         }
     }
 
+    fn leaf(&mut self, expr: &TypedExpr) -> Result<(), NoMemory> {
+        match &expr.form {
+            ExprForm::Const(word) => self.numbered("", u32::from(*word))?,
+            ExprForm::Read(variable) => self.variable(" ", *variable)?,
+            ExprForm::AddressOf(variable) => self.variable(" &", *variable)?,
+            _ => {}
+        }
+        self.typed(expr)
+    }
+
     // An expression of a form that `expr` leaves.
     fn choice_or_effect(&mut self, expr: &'a TypedExpr) -> Result<(), NoMemory> {
         match &expr.form {
-            ExprForm::Pick { test, yes, no } => self.pick(expr, test, yes, no),
-            ExprForm::Assign { to, value } => self.write_to("=", expr, to, value),
-            ExprForm::AssignOp { op, to, value } => {
-                self.write_to(assignment_text(*op), expr, to, value)
+            ExprForm::Pick { test, yes, no } => self.node(
+                "?",
+                expr,
+                &[Piece::Expr(test), Piece::Expr(yes), Piece::Expr(no)],
+            ),
+            ExprForm::Assign { to, value } => {
+                self.node("=", expr, &[Piece::Target(to), Piece::Expr(value)])
             }
-            ExprForm::StepBefore { up, to } => {
-                self.open(if *up { "++_" } else { "--_" }, expr)?;
-                self.target(to)
+            ExprForm::AssignOp { op, to, value } => self.node(
+                assignment_text(*op),
+                expr,
+                &[Piece::Target(to), Piece::Expr(value)],
+            ),
+            ExprForm::StepBefore { up: true, to } => self.node("++_", expr, &[Piece::Target(to)]),
+            ExprForm::StepBefore { up: false, to } => self.node("--_", expr, &[Piece::Target(to)]),
+            ExprForm::StepAfter { up: true, to } => self.node("_++", expr, &[Piece::Target(to)]),
+            ExprForm::StepAfter { up: false, to } => self.node("_--", expr, &[Piece::Target(to)]),
+            ExprForm::Call { function, args } => {
+                let function = Piece::Number("f", u32::from(*function));
+                self.node("call", expr, &[function, Piece::Exprs(args)])
             }
-            ExprForm::StepAfter { up, to } => {
-                self.open(if *up { "_++" } else { "_--" }, expr)?;
-                self.target(to)
-            }
-            ExprForm::Call { function, args } => self.call(expr, *function, args),
             ExprForm::In { port } => {
-                self.open("in", expr)?;
-                write!(self.line, " {port}")?;
-                Ok(())
+                self.node("in", expr, &[Piece::Number("", u32::from(*port))])
             }
             ExprForm::Out { port, value } => {
-                self.operand("out", expr, value)?;
-                write!(self.line, " {port}")?;
-                Ok(())
+                let port = Piece::Number("", u32::from(*port));
+                self.node("out", expr, &[port, Piece::Expr(value)])
             }
-            _ => Ok(self.line.push_str(" no form")?),
+            _ => Ok(()),
         }
-    }
-
-    fn pick(
-        &mut self,
-        expr: &TypedExpr,
-        test: &'a TypedExpr,
-        yes: &'a TypedExpr,
-        no: &'a TypedExpr,
-    ) -> Result<(), NoMemory> {
-        self.operand("?", expr, no)?;
-        self.todo.push(Piece::Expr(yes))?;
-        self.todo.push(Piece::Expr(test))?;
-        Ok(())
-    }
-
-    fn call(
-        &mut self,
-        expr: &TypedExpr,
-        function: u16,
-        args: &'a [TypedExpr],
-    ) -> Result<(), NoMemory> {
-        self.open("call", expr)?;
-        write!(self.line, " f{function}")?;
-        for arg in args.iter().rev() {
-            self.todo.push(Piece::Expr(arg))?;
-        }
-        Ok(())
-    }
-
-    fn write_to(
-        &mut self,
-        form: &str,
-        expr: &TypedExpr,
-        to: &'a Target,
-        value: &'a TypedExpr,
-    ) -> Result<(), NoMemory> {
-        self.operand(form, expr, value)?;
-        self.target(to)
     }
 
     fn target(&mut self, target: &'a Target) -> Result<(), NoMemory> {
         match &target.form {
-            TargetForm::Named(variable) => {
-                self.line.push_str(" ")?;
-                self.variable(*variable)?;
-                self.place(target.at)
-            }
+            TargetForm::Named(variable) => self.variable(" ", *variable)?,
             TargetForm::At(pointer) => {
                 self.line.push_str(" (*")?;
-                self.place(target.at)?;
-                self.todo.push(Piece::Close)?;
-                self.todo.push(Piece::Expr(pointer))?;
-                Ok(())
+                self.pieces(&[Piece::Expr(pointer), Piece::Close])?;
             }
         }
+        self.place(target.at)
     }
 
     fn stmt(&mut self, stmt: &'a TypedStmt) -> Result<(), NoMemory> {
         match stmt {
-            TypedStmt::Break => self.line.push_str(" break")?,
-            TypedStmt::Continue => self.line.push_str(" continue")?,
-            TypedStmt::Fill(number) => write!(self.line, " (fill l{number})")?,
-            TypedStmt::Return(None) => self.line.push_str(" (return)")?,
-            TypedStmt::Return(Some(value)) => self.begin("return", &[Piece::Expr(value)])?,
-            TypedStmt::Expr(value) => self.begin("eval", &[Piece::Expr(value)])?,
-            TypedStmt::Block { declared, body } => self.block(declared, body)?,
+            TypedStmt::Break => self.text(" break"),
+            TypedStmt::Continue => self.text(" continue"),
+            TypedStmt::Fill(number) => {
+                self.pieces(&[Piece::Number("(fill l", *number), Piece::Close])
+            }
+            TypedStmt::Return(None) => self.text(" (return)"),
+            TypedStmt::Return(Some(value)) => self.begin("return", &[Piece::Expr(value)]),
+            TypedStmt::Expr(value) => self.begin("eval", &[Piece::Expr(value)]),
+            TypedStmt::Block { declared, body } => self.block(declared, body),
             TypedStmt::If {
                 test,
                 yes,
                 no: None,
-            } => self.begin("if", &[Piece::Expr(test), Piece::Stmt(yes)])?,
+            } => self.begin("if", &[Piece::Expr(test), Piece::Stmt(yes)]),
             TypedStmt::If {
                 test,
                 yes,
@@ -346,10 +342,9 @@ impl<'a, 'b> Writer<'a, 'b> {
             } => self.begin(
                 "if-else",
                 &[Piece::Expr(test), Piece::Stmt(yes), Piece::Stmt(no)],
-            )?,
-            _ => self.repeated_or_chosen(stmt)?,
+            ),
+            _ => self.repeated_or_chosen(stmt),
         }
-        Ok(())
     }
 
     // A loop or a switch.
@@ -375,52 +370,46 @@ impl<'a, 'b> Writer<'a, 'b> {
                     Piece::Stmt(body),
                 ],
             ),
-            TypedStmt::Switch { value, choices } => self.switch(value, choices),
-            _ => Ok(self.line.push_str(" no form")?),
+            TypedStmt::Switch { value, choices } => {
+                self.begin("switch", &[Piece::Expr(value), Piece::Choices(choices)])
+            }
+            _ => Ok(()),
         }
     }
 
-    // Opens the node of a statement that has these parts.
+    // The node of a statement that has these parts.
     fn begin(&mut self, form: &str, parts: &[Piece<'a>]) -> Result<(), NoMemory> {
         write!(self.line, " ({form}")?;
         self.todo.push(Piece::Close)?;
-        for part in parts.iter().rev() {
-            self.todo.push(*part)?;
-        }
-        Ok(())
+        self.pieces(parts)
     }
 
     fn block(&mut self, declared: &[VarRef], body: &'a [TypedStmt]) -> Result<(), NoMemory> {
         self.line.push_str(" (block [")?;
-        let mut is_first = true;
+        let mut before = "";
         for variable in declared {
-            if !is_first {
-                self.line.push_str(" ")?;
-            }
-            is_first = false;
-            self.variable(*variable)?;
+            self.variable(before, *variable)?;
+            before = " ";
         }
         self.line.push_str("]")?;
-        self.statements(body)
+        self.pieces(&[Piece::Stmts(body), Piece::Close])
     }
+}
 
-    // The statements of a block, and its end.
-    fn statements(&mut self, body: &'a [TypedStmt]) -> Result<(), NoMemory> {
-        self.todo.push(Piece::Close)?;
-        for stmt in body.iter().rev() {
-            self.todo.push(Piece::Stmt(stmt))?;
-        }
-        Ok(())
+fn base_text(base: Base) -> &'static str {
+    match base {
+        Base::Void => "void",
+        Base::Int => "int",
+        Base::Unsigned => "unsigned",
     }
+}
 
-    fn switch(&mut self, value: &'a TypedExpr, choices: &'a [Choice]) -> Result<(), NoMemory> {
-        self.line.push_str(" (switch")?;
-        self.todo.push(Piece::Close)?;
-        for choice in choices.iter().rev() {
-            self.todo.push(Piece::Choice(choice))?;
-        }
-        self.todo.push(Piece::Expr(value))?;
-        Ok(())
+// The letter and the number of a variable.
+fn lettered(variable: VarRef) -> (&'static str, u32) {
+    match variable {
+        VarRef::Scalar(number) => ("s", u32::from(number)),
+        VarRef::Local(number) => ("l", number),
+        VarRef::Static(number) => ("g", number),
     }
 }
 
