@@ -301,8 +301,8 @@ done < <(rows runs.txt)
 
 # The words of words.txt, each over the files that its request names: a source that is built, an image or a source that goes on for
 # ever, and no input. Nothing is left but these and what is built.
-mkdir words
-cd words || exit 1
+mkdir asked
+cd asked || exit 1
 : > ../no.file
 asks() {
     local request
