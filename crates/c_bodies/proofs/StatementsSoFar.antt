@@ -1,6 +1,6 @@
 -- Statements in memory, one behind another, and blocks of them.
 use Rattle.std.proofs.Common.{◌≡◌, ℕ, ◌+◌, ◌<◌, ◌≤◌, List, [], ◌∷◌, ◌++◌, map, drop, get_or, length, refl, ap, sym, ◌∙◌, Vec, Global, subst}
-use Rattle.std.specs.Prelude.{Result, IfOk, IfErr, Option}
+use Rattle.std.specs.Prelude.{Result, Option}
 use Rattle.std.proofs.Math.ListN.{drop_of_length-le}
 use Rattle.std.proofs.lemmas.List.{drop_more}
 use Rattle.c_syntax.specs.declared.decl.Decl.{Decl}
@@ -25,7 +25,7 @@ use Rattle.c_rules.specs.declared.fault.Rule.{Rule}
 use Rattle.c_rules.specs.declared.fault.Rule.TheVariants.{Mismatch}
 use Rattle.c_tree.specs.declared.enclosing.Enclosing.{Enclosing}
 use Rattle.c_tree.specs.declared.enclosing.Enclosing.TheVariants as around
-use Rattle.c_rules.specs.Answers.{Refuses}
+use Rattle.c_rules.specs.Answers.{Gives, Refuses}
 use Rattle.c_bodies.specs.Bodies.{behind, block_in, else_in, for_in, statement_in, statements_in, tested_in}
 use Rattle.c_bodies.specs.declared.statements.ForHead.{ForHead}
 use Rattle.c_rules.specs.Kinds.{is_void}
@@ -33,7 +33,7 @@ use Rattle.c_rules.specs.Outcome.{Outcome, Is, Broken, ◌>>=◌, breaks}
 use Rattle.c_rules.specs.Statements.{LocalTree, Opened, Typed, just, before, declarations, typed_statement, typed_statements, is_void_test, optional}
 use Rattle.c_scopes.specs.Tables.{scope_of, tables_of}
 use Rattle.c_rules.specs.Typing.{typing}
-use Rattle.c_bodies.specs.BodyView.{locals_of, opened_of}
+use Rattle.c_bodies.specs.BodyView.{locals_of, opened_of, typed_in}
 use Rattle.c_scopes.proofs.KeptScopes.{scope_kept}
 use Rattle.c_bodies.proofs.SyntaxRows.{block_of}
 
@@ -171,25 +171,14 @@ same_block : (s : Stmt) (ds : Vec Decl Global) (l : Vec Stmt Global) (dl : List 
     → tree.Block (map declaration_of dl) (body_of sl) s.at ≡ statement_of s.kind s.at
 same_block s ds l dl sl k p q = (λ i. tree.Block (map declaration_of (p i)) (body_of (q i)) s.at) ∙ sym (block_of ds l s.at) ∙ ap (λ x. statement_of x s.at) (sym k)
 
-pub block_is_typed : (b n : Body) (c : Enclosing) (r : Result TypedStmt Refusal) (s : Stmt) (ds : Vec Decl Global) (l : Vec Stmt Global) (dl : List Decl) (sl : List Stmt) → s.kind ≡ kind.Block ds l → dl ≡ ds.items → sl ≡ l.items
-    → IfOk r (λ t. statement_in b c (tree.Block (map declaration_of dl) (body_of sl) s.at) ≡ just (stmt_of t) (locals_of n)) → IfOk r (λ t. statement_in b c (statement_of s.kind s.at) ≡ just (stmt_of t) (locals_of n))
-block_is_typed b n c r s ds l dl sl k p q h =
-    let P : Statement → Type 0 = λ f. IfOk r (λ t. statement_in b c f ≡ just (stmt_of t) (locals_of n)) in
-    subst P (same_block s ds l dl sl k p q) h
-
-pub block_is_refused : (b : Body) (c : Enclosing) (r : Result TypedStmt Refusal) (s : Stmt) (ds : Vec Decl Global) (l : Vec Stmt Global) (dl : List Decl) (sl : List Stmt) → s.kind ≡ kind.Block ds l → dl ≡ ds.items → sl ≡ l.items
-    → IfErr r (Refuses (statement_in b c (tree.Block (map declaration_of dl) (body_of sl) s.at))) → IfErr r (Refuses (statement_in b c (statement_of s.kind s.at)))
-block_is_refused b c r s ds l dl sl k p q h =
-    let P : Statement → Type 0 = λ f. IfErr r (Refuses (statement_in b c f)) in
+pub block_gives : (b n : Body) (c : Enclosing) (r : Result TypedStmt Refusal) (s : Stmt) (ds : Vec Decl Global) (l : Vec Stmt Global) (dl : List Decl) (sl : List Stmt) → s.kind ≡ kind.Block ds l → dl ≡ ds.items → sl ≡ l.items
+    → Gives (λ t. typed_in n (stmt_of t)) (statement_in b c (tree.Block (map declaration_of dl) (body_of sl) s.at)) r → Gives (λ t. typed_in n (stmt_of t)) (statement_in b c (statement_of s.kind s.at)) r
+block_gives b n c r s ds l dl sl k p q h =
+    let P : Statement → Type 0 = λ f. Gives (λ t. typed_in n (stmt_of t)) (statement_in b c f) r in
     subst P (same_block s ds l dl sl k p q) h
 
 -- what is known of one outcome is known of the same
-pub same_typed : (o p : Outcome (Typed typed.Stmt)) (n : Body) (r : Result TypedStmt Refusal) → o ≡ p → IfOk r (λ t. o ≡ just (stmt_of t) (locals_of n)) → IfOk r (λ t. p ≡ just (stmt_of t) (locals_of n))
-same_typed o p n r e h =
-    let P : Outcome (Typed typed.Stmt) → Type 0 = λ x. IfOk r (λ t. x ≡ just (stmt_of t) (locals_of n)) in
-    subst P e h
-
-pub same_refused : (o p : Outcome (Typed typed.Stmt)) (r : Result TypedStmt Refusal) → o ≡ p → IfErr r (Refuses o) → IfErr r (Refuses p)
-same_refused o p r e h =
-    let P : Outcome (Typed typed.Stmt) → Type 0 = λ x. IfErr r (Refuses x) in
+pub same_gives : (o p : Outcome (Typed typed.Stmt)) (n : Body) (r : Result TypedStmt Refusal) → o ≡ p → Gives (λ t. typed_in n (stmt_of t)) o r → Gives (λ t. typed_in n (stmt_of t)) p r
+same_gives o p n r e h =
+    let P : Outcome (Typed typed.Stmt) → Type 0 = λ x. Gives (λ t. typed_in n (stmt_of t)) x r in
     subst P e h

@@ -1,6 +1,6 @@
 -- Switches, whose labels and statements are a list in memory.
 use Rattle.std.proofs.Common.{◌≡◌, ℕ, ◌+◌, ◌<◌, Bool, true, false, not, List, [], ◌∷◌, drop, get_or, length, refl, ap, sym, ◌∙◌, subst, Vec, Global}
-use Rattle.std.specs.Prelude.{Result, Ok, Err, IfOk, IfErr}
+use Rattle.std.specs.Prelude.{Result, Ok, Err}
 use Rattle.c_syntax.specs.declared.expr.Expr as syntax
 use Rattle.c_syntax.specs.declared.stmt.Stmt.{Stmt}
 use Rattle.c_syntax.specs.declared.stmt.StmtKind as kind
@@ -21,7 +21,7 @@ use Rattle.c_rules.specs.declared.fault.Refusal.{Refusal}
 use Rattle.c_rules.specs.declared.fault.Refusal.TheVariants as refusals
 use Rattle.c_rules.specs.declared.fault.Rule.TheVariants.{Mismatch, Redeclared}
 use Rattle.c_tree.specs.declared.enclosing.Enclosing.{Enclosing}
-use Rattle.c_rules.specs.Answers.{Refuses}
+use Rattle.c_rules.specs.Answers.{Gives, Refuses}
 use Rattle.c_bodies.specs.Bodies.{behind_choices, choices_in, parts_of, statement_in, switched}
 use Rattle.c_rules.specs.Kinds.{class_of}
 use Rattle.c_rules.specs.Operands.{is_integer}
@@ -29,7 +29,7 @@ use Rattle.c_rules.specs.Outcome.{Outcome, Is, ◌>>=◌, breaks}
 use Rattle.c_rules.specs.Statements.{LocalTree, Labelled, Typed, just, behind_case, behind_body, in_switch, repeats_label, typed_choices}
 use Rattle.c_scopes.specs.Tables.{scope_of, tables_of}
 use Rattle.c_rules.specs.Typing.{typing, constant_typing, word_at}
-use Rattle.c_bodies.specs.BodyView.{locals_of}
+use Rattle.c_bodies.specs.BodyView.{locals_of, typed_in}
 use Rattle.c_bodies.proofs.ChoicesSoFar.{choices_kept, from_here}
 use Rattle.c_bodies.proofs.SyntaxRows.{switch_of}
 
@@ -38,16 +38,10 @@ same_switch : (s : Stmt) (e : syntax.Expr) (l : Vec SwitchPart Global) (place : 
     → tree.Switch (expression_of e) (parts_of pl) place s.at ≡ statement_of s.kind s.at
 same_switch s e l place pl k p = (λ i. tree.Switch (expression_of e) (parts_of (p i)) place s.at) ∙ sym (switch_of e l place s.at) ∙ ap (λ x. statement_of x s.at) (sym k)
 
-pub switch_is_typed : (b n : Body) (c : Enclosing) (r : Result TypedStmt Refusal) (s : Stmt) (e : syntax.Expr) (l : Vec SwitchPart Global) (place : ℕ) (pl : List SwitchPart) → s.kind ≡ kind.Switch e l place → pl ≡ l.items
-    → IfOk r (λ t. statement_in b c (tree.Switch (expression_of e) (parts_of pl) place s.at) ≡ just (stmt_of t) (locals_of n)) → IfOk r (λ t. statement_in b c (statement_of s.kind s.at) ≡ just (stmt_of t) (locals_of n))
-switch_is_typed b n c r s e l place pl k p h =
-    let P : Statement → Type 0 = λ f. IfOk r (λ t. statement_in b c f ≡ just (stmt_of t) (locals_of n)) in
-    subst P (same_switch s e l place pl k p) h
-
-pub switch_is_refused : (b : Body) (c : Enclosing) (r : Result TypedStmt Refusal) (s : Stmt) (e : syntax.Expr) (l : Vec SwitchPart Global) (place : ℕ) (pl : List SwitchPart) → s.kind ≡ kind.Switch e l place → pl ≡ l.items
-    → IfErr r (Refuses (statement_in b c (tree.Switch (expression_of e) (parts_of pl) place s.at))) → IfErr r (Refuses (statement_in b c (statement_of s.kind s.at)))
-switch_is_refused b c r s e l place pl k p h =
-    let P : Statement → Type 0 = λ f. IfErr r (Refuses (statement_in b c f)) in
+pub switch_gives : (b n : Body) (c : Enclosing) (r : Result TypedStmt Refusal) (s : Stmt) (e : syntax.Expr) (l : Vec SwitchPart Global) (place : ℕ) (pl : List SwitchPart) → s.kind ≡ kind.Switch e l place → pl ≡ l.items
+    → Gives (λ t. typed_in n (stmt_of t)) (statement_in b c (tree.Switch (expression_of e) (parts_of pl) place s.at)) r → Gives (λ t. typed_in n (stmt_of t)) (statement_in b c (statement_of s.kind s.at)) r
+switch_gives b n c r s e l place pl k p h =
+    let P : Statement → Type 0 = λ f. Gives (λ t. typed_in n (stmt_of t)) (statement_in b c f) r in
     subst P (same_switch s e l place pl k p) h
 
 -- a choice that is refused
@@ -94,11 +88,7 @@ switch_rest b n c e cs place at x l valued listed = sym
     ∙ ap (λ o. o >>= λ r. breaks (repeats_label r.tree.choices) Redeclared place (breaks r.tree.pointer Mismatch place (breaks (not (is_integer (class_of (kind_of x)))) Mismatch at (just (Switch x r.tree.choices) r.locals)))) listed
     ∙ beside (repeats_label l.choices) l.pointer (not (is_integer (class_of (kind_of x)))) place at (Switch x l.choices) (locals_of n))
 
-pub with_locals_typed : (w : Outcome typed.Stmt) (n : Body) (o : Outcome (Typed typed.Stmt)) (r : Result TypedStmt Refusal) → (w >>= λ t. just t (locals_of n)) ≡ o → IfOk r (λ t. w ≡ Is (stmt_of t)) → IfOk r (λ t. o ≡ just (stmt_of t) (locals_of n))
-with_locals_typed w n o (Ok t) e h = sym e ∙ ap (λ x. x >>= λ s. just s (locals_of n)) h
-with_locals_typed w n o (Err f) e h = tt {0}
-
-pub with_locals_refused : (w : Outcome typed.Stmt) (n : Body) (o : Outcome (Typed typed.Stmt)) (r : Result TypedStmt Refusal) → (w >>= λ t. just t (locals_of n)) ≡ o → IfErr r (Refuses w) → IfErr r (Refuses o)
-with_locals_refused w n o (Ok t) e h = tt {0}
-with_locals_refused w n o (Err refusals.NoMemory) e h = tt {0}
-with_locals_refused w n o (Err (refusals.Broken rule at)) e h = sym e ∙ ap (λ x. x >>= λ s. just s (locals_of n)) h
+pub with_locals_give : (w : Outcome typed.Stmt) (n : Body) (o : Outcome (Typed typed.Stmt)) (r : Result TypedStmt Refusal) → (w >>= λ t. just t (locals_of n)) ≡ o → Gives stmt_of w r → Gives (λ t. typed_in n (stmt_of t)) o r
+with_locals_give w n o (Ok t) e h = sym e ∙ ap (λ x. x >>= λ s. just s (locals_of n)) h
+with_locals_give w n o (Err refusals.NoMemory) e h = tt {0}
+with_locals_give w n o (Err (refusals.Broken rule at)) e h = sym e ∙ ap (λ x. x >>= λ s. just s (locals_of n)) h

@@ -4,7 +4,7 @@ use Rattle.c_tree.specs.View.{stmt_of}
 use Rattle.c_bodies.specs.declared.blocks.Body as bodies
 use Rattle.c_bodies.specs.declared.blocks.Opening as openings
 use Rattle.c_scopes.specs.Tables.{scope_of}
-use Rattle.c_rules.specs.Statements.{LocalTree, Opened}
+use Rattle.c_rules.specs.Statements.{LocalTree, Opened, Typed}
 use Rattle.c_rules.specs.LocalView.{local_tree_of}
 
 -- the objects of a function so far
@@ -19,3 +19,7 @@ opened_of b o = record {
   declared = o.declared.items;
   statements = map stmt_of o.statements.items;
 }
+
+-- a tree, with the objects of a function behind it
+abbrev pub typed_in : {A : Type 0} → bodies.Body → A → Typed A
+typed_in b tree = record { tree = tree; locals = locals_of b }

@@ -1,9 +1,9 @@
 //! The declarations of blocks: ISO 9899:1990 6.5.4 and 6.6.2. The objects of a function are numbered in order of declaration.
-ghost use Rattle.std.specs.Prelude.{◌≡◌, IfOk, IfErr, OnOk, map, is_some};
+ghost use Rattle.std.specs.Prelude.{◌≡◌, OnOk, map, is_some};
 ghost use Rattle.c_syntax.specs.SyntaxView.{item_of, declaration_of};
 ghost use Rattle.c_rules.specs.declared.fault.Rule.TheVariants as rule;
-ghost use Rattle.c_rules.specs.Answers.{Refuses};
-ghost use Rattle.c_rules.specs.Outcome.{Is, Broken, breaks};
+ghost use Rattle.c_rules.specs.Answers.{Gives, Refuses};
+ghost use Rattle.c_rules.specs.Outcome.{Broken, breaks};
 ghost use Rattle.c_rules.specs.Statements as rules;
 ghost use Rattle.c_scopes.specs.Tables.{scope_of, around_of};
 ghost use Rattle.c_objects.specs.InitialiserView.{initialiser_of};
@@ -53,8 +53,7 @@ impl<'a> Body<'a> {
         base: Base,
         item: &'a Item,
     ) -> Result<Opening, Refusal>
-        ensures typed { IfOk result (λ o. rules.block_item (opened_of self.old opening) base (item_of item.now) ≡ Is (opened_of self.new o)) }
-        ensures refused { IfErr result (Refuses (rules.block_item (opened_of self.old opening) base (item_of item.now))) }
+        ensures gives { Gives (opened_of self.new) (rules.block_item (opened_of self.old opening) base (item_of item.now)) result }
         ensures around { OnOk result (around_of self.new.scopes ≡ around_of self.old.scopes) }
         ensures bodies { self.new.scopes.bodies ≡ self.old.scopes.bodies }
         ensures returned { self.new.result ≡ self.old.result }
@@ -90,8 +89,7 @@ impl<'a> Body<'a> {
         object_type: ObjectType,
         initialiser: Initialiser,
     ) -> Result<Opening, Refusal>
-        ensures typed { IfOk result (λ o. rules.declared_as (opened_of self.old opening) (scope_of self.old.scopes) reference (Declared.Object object_type) (item_of item.now) (initialiser_of initialiser) ≡ Is (opened_of self.new o)) }
-        ensures refused { IfErr result (Refuses (rules.declared_as (opened_of self.old opening) (scope_of self.old.scopes) reference (Declared.Object object_type) (item_of item.now) (initialiser_of initialiser))) }
+        ensures gives { Gives (opened_of self.new) (rules.declared_as (opened_of self.old opening) (scope_of self.old.scopes) reference (Declared.Object object_type) (item_of item.now) (initialiser_of initialiser)) result }
         ensures scopes { self.new.scopes ≡ self.old.scopes }
         ensures returned { self.new.result ≡ self.old.result }
     {
@@ -116,8 +114,7 @@ impl<'a> Body<'a> {
         base: Base,
         list: &'a [Item],
     ) -> Result<Opening, Refusal>
-        ensures typed { IfOk result (λ o. rules.block_items (opened_of self.old opening) base (map item_of list.now) ≡ Is (opened_of self.new o)) }
-        ensures refused { IfErr result (Refuses (rules.block_items (opened_of self.old opening) base (map item_of list.now))) }
+        ensures gives { Gives (opened_of self.new) (rules.block_items (opened_of self.old opening) base (map item_of list.now)) result }
         ensures around { OnOk result (around_of self.new.scopes ≡ around_of self.old.scopes) }
         ensures bodies { self.new.scopes.bodies ≡ self.old.scopes.bodies }
         ensures returned { self.new.result ≡ self.old.result }
@@ -134,8 +131,7 @@ impl<'a> Body<'a> {
         mut opening: Opening,
         list: &'a [Decl],
     ) -> Result<Opening, Refusal>
-        ensures typed { IfOk result (λ o. rules.declarations (opened_of self.old opening) (map declaration_of list.now) ≡ Is (opened_of self.new o)) }
-        ensures refused { IfErr result (Refuses (rules.declarations (opened_of self.old opening) (map declaration_of list.now))) }
+        ensures gives { Gives (opened_of self.new) (rules.declarations (opened_of self.old opening) (map declaration_of list.now)) result }
         ensures around { OnOk result (around_of self.new.scopes ≡ around_of self.old.scopes) }
         ensures bodies { self.new.scopes.bodies ≡ self.old.scopes.bodies }
         ensures returned { self.new.result ≡ self.old.result }

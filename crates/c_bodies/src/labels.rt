@@ -1,10 +1,9 @@
 //! The labels of a switch: ISO 9899:1990 6.6.4.2.
+ghost use Rattle.c_rules.specs.Answers.{Gives};
 ghost use Rattle.std.specs.Prelude.{◌≡◌, IfOk, IfErr};
 ghost use Rattle.c_tree.specs.View.{choice_list, expr_of, stmt_of};
 ghost use Rattle.c_rules.specs.declared.fault.Refusal.TheVariants as refusals;
-ghost use Rattle.c_rules.specs.Answers.{Refuses};
 ghost use Rattle.c_bodies.specs.Bodies.{labelled_of, switched};
-ghost use Rattle.c_rules.specs.Outcome.{Is};
 ghost use Rattle.c_rules.specs.Statements as rules;
 
 use c_operands::class_of;
@@ -29,8 +28,7 @@ pub(crate) fn switched(
     value: TypedExpr,
     labelled: Labelled,
 ) -> Result<TypedStmt, Refusal>
-    ensures typed { IfOk result (λ t. switched place at (expr_of value) (labelled_of labelled) ≡ Is (stmt_of t)) }
-    ensures refused { IfErr result (Refuses (switched place at (expr_of value) (labelled_of labelled))) }
+    ensures gives { Gives stmt_of (switched place at (expr_of value) (labelled_of labelled)) result }
 {
     if repeats_label(alloc, &labelled.choices)? {
         return Err(Refusal::Broken {

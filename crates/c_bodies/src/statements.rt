@@ -9,15 +9,14 @@ ghost use Rattle.c_tree.specs.View.{expr_of, option_expr_of, statement_list, stm
 ghost use Rattle.c_rules.specs.declared.fault.Refusal.TheVariants as refusals;
 ghost use Rattle.c_rules.specs.declared.fault.Rule.TheVariants as rule;
 ghost use Rattle.c_tree.specs.declared.enclosing.Enclosing.TheVariants as enclosings;
-ghost use Rattle.c_rules.specs.Answers.{Refuses};
+ghost use Rattle.c_rules.specs.Answers.{Gives, Refuses};
 ghost use Rattle.c_bodies.specs.Bodies.{behind, behind_choices, block_in, choices_in, else_in, for_in, labelled_of, parts_of, statement_in, statements_in, test_in, tested_in};
 ghost use Rattle.c_rules.specs.Kinds.{is_void};
-ghost use Rattle.c_rules.specs.Outcome.{Is};
 ghost use Rattle.c_rules.specs.Statements as rules;
 ghost use Rattle.c_rules.specs.Statements.{just};
 ghost use Rattle.c_scopes.specs.Tables.{around_of, scope_of, tables_of};
 ghost use Rattle.c_operands.specs.OperandView.{operand_of};
-ghost use Rattle.c_bodies.specs.BodyView.{locals_of};
+ghost use Rattle.c_bodies.specs.BodyView.{locals_of, typed_in};
 
 use crate::blocks::{Body, Opening};
 use crate::labels::{Labelled, switched};
@@ -52,8 +51,7 @@ impl<'a> Body<'a> {
         s: &'a Stmt,
         enclosing: Enclosing,
     ) -> Result<TypedStmt, Refusal>
-        ensures typed { IfOk result (λ t. statement_in self.old enclosing (statement_of s.now.kind s.now.at) ≡ just (stmt_of t) (locals_of self.new)) }
-        ensures refused { IfErr result (Refuses (statement_in self.old enclosing (statement_of s.now.kind s.now.at))) }
+        ensures gives { Gives (λ t. typed_in self.new (stmt_of t)) (statement_in self.old enclosing (statement_of s.now.kind s.now.at)) result }
         ensures tables { OnOk result (tables_of self.new.scopes ≡ tables_of self.old.scopes) }
         ensures bodies { self.new.scopes.bodies ≡ self.old.scopes.bodies }
         ensures returned { self.new.result ≡ self.old.result }
@@ -91,8 +89,7 @@ impl<'a> Body<'a> {
     // A statement within another. It is kept in its box while the rest of the other is typed.
     #[cycle(statements)]
     fn inner(&mut self, s: &'a Stmt, enclosing: Enclosing) -> Result<Box<TypedStmt>, Refusal>
-        ensures typed { IfOk result (λ t. statement_in self.old enclosing (statement_of s.now.kind s.now.at) ≡ just (stmt_of t.value) (locals_of self.new)) }
-        ensures refused { IfErr result (Refuses (statement_in self.old enclosing (statement_of s.now.kind s.now.at))) }
+        ensures gives { Gives (λ t. typed_in self.new (stmt_of t.value)) (statement_in self.old enclosing (statement_of s.now.kind s.now.at)) result }
         ensures tables { OnOk result (tables_of self.new.scopes ≡ tables_of self.old.scopes) }
         ensures bodies { self.new.scopes.bodies ≡ self.old.scopes.bodies }
         ensures returned { self.new.result ≡ self.old.result }
@@ -110,8 +107,7 @@ impl<'a> Body<'a> {
         enclosing: Enclosing,
         at: u32,
     ) -> Result<TypedStmt, Refusal>
-        ensures typed { IfOk result (λ t. statement_in self.old enclosing (tree.Block (map declaration_of declarations.now) (body_of statements.now) at) ≡ just (stmt_of t) (locals_of self.new)) }
-        ensures refused { IfErr result (Refuses (statement_in self.old enclosing (tree.Block (map declaration_of declarations.now) (body_of statements.now) at))) }
+        ensures gives { Gives (λ t. typed_in self.new (stmt_of t)) (statement_in self.old enclosing (tree.Block (map declaration_of declarations.now) (body_of statements.now) at)) result }
         ensures tables { OnOk result (tables_of self.new.scopes ≡ tables_of self.old.scopes) }
         ensures bodies { self.new.scopes.bodies ≡ self.old.scopes.bodies }
         ensures returned { self.new.result ≡ self.old.result }
@@ -128,8 +124,7 @@ impl<'a> Body<'a> {
         declarations: &'a [Decl],
         statements: &'a [Stmt],
     ) -> Result<TypedStmt, Refusal>
-        ensures typed { IfOk result (λ t. rules.typed_body self.old.result (scope_of self.old.scopes) (locals_of self.old) (map declaration_of declarations.now) (body_of statements.now) ≡ just (stmt_of t) (locals_of self.new)) }
-        ensures refused { IfErr result (Refuses (rules.typed_body self.old.result (scope_of self.old.scopes) (locals_of self.old) (map declaration_of declarations.now) (body_of statements.now))) }
+        ensures gives { Gives (λ t. typed_in self.new (stmt_of t)) (rules.typed_body self.old.result (scope_of self.old.scopes) (locals_of self.old) (map declaration_of declarations.now) (body_of statements.now)) result }
         ensures around { OnOk result (around_of self.new.scopes ≡ around_of self.old.scopes) }
         ensures bodies { self.new.scopes.bodies ≡ self.old.scopes.bodies }
     {
@@ -144,8 +139,7 @@ impl<'a> Body<'a> {
         statements: &'a [Stmt],
         enclosing: Enclosing,
     ) -> Result<TypedStmt, Refusal>
-        ensures typed { IfOk result (λ t. block_in self.old enclosing (map declaration_of declarations.now) (body_of statements.now) ≡ just (stmt_of t) (locals_of self.new)) }
-        ensures refused { IfErr result (Refuses (block_in self.old enclosing (map declaration_of declarations.now) (body_of statements.now))) }
+        ensures gives { Gives (λ t. typed_in self.new (stmt_of t)) (block_in self.old enclosing (map declaration_of declarations.now) (body_of statements.now)) result }
         ensures around { OnOk result (around_of self.new.scopes ≡ around_of self.old.scopes) }
         ensures bodies { self.new.scopes.bodies ≡ self.old.scopes.bodies }
         ensures returned { self.new.result ≡ self.old.result }
@@ -185,8 +179,7 @@ impl<'a> Body<'a> {
 
     // A return without a value: 6.6.6.4.
     fn empty_return(&self, at: u32) -> Result<TypedStmt, Refusal>
-        ensures typed { IfOk result (λ t. statement_in self.now enclosings.Body (tree.Return None at) ≡ just (stmt_of t) (locals_of self.now)) }
-        ensures refused { IfErr result (Refuses (statement_in self.now enclosings.Body (tree.Return None at))) }
+        ensures gives { Gives (λ t. typed_in self.now (stmt_of t)) (statement_in self.now enclosings.Body (tree.Return None at)) result }
     {
         match self.result {
             None => Ok(TypedStmt::Return(None)),
@@ -196,8 +189,7 @@ impl<'a> Body<'a> {
 
     // A return with a value.
     fn value_return(&self, value: &Expr, at: u32) -> Result<TypedStmt, Refusal>
-        ensures typed { IfOk result (λ t. statement_in self.now enclosings.Body (tree.Return (Some (expression_of value.now)) at) ≡ just (stmt_of t) (locals_of self.now)) }
-        ensures refused { IfErr result (Refuses (statement_in self.now enclosings.Body (tree.Return (Some (expression_of value.now)) at))) }
+        ensures gives { Gives (λ t. typed_in self.now (stmt_of t)) (statement_in self.now enclosings.Body (tree.Return (Some (expression_of value.now)) at)) result }
     {
         let value = self.scopes.operand(value)?;
         let value = returned(self.scopes.alloc, self.result, at, value)?;
@@ -213,8 +205,7 @@ impl<'a> Body<'a> {
         enclosing: Enclosing,
         at: u32,
     ) -> Result<TypedStmt, Refusal>
-        ensures typed { IfOk result (λ t. statement_in self.old enclosing (tree.If (expression_of test.now) (statement_of yes.now.kind yes.now.at) at) ≡ just (stmt_of t) (locals_of self.new)) }
-        ensures refused { IfErr result (Refuses (statement_in self.old enclosing (tree.If (expression_of test.now) (statement_of yes.now.kind yes.now.at) at))) }
+        ensures gives { Gives (λ t. typed_in self.new (stmt_of t)) (statement_in self.old enclosing (tree.If (expression_of test.now) (statement_of yes.now.kind yes.now.at) at)) result }
         ensures tables { OnOk result (tables_of self.new.scopes ≡ tables_of self.old.scopes) }
         ensures bodies { self.new.scopes.bodies ≡ self.old.scopes.bodies }
         ensures returned { self.new.result ≡ self.old.result }
@@ -226,8 +217,7 @@ impl<'a> Body<'a> {
 
     // An if over its test and its only arm.
     fn one_armed(&self, test: TypedExpr, yes: Box<TypedStmt>, at: u32) -> Result<TypedStmt, Refusal>
-        ensures typed { IfOk result (λ t. tested_in self.now at (expr_of test) (If (expr_of test) (stmt_of yes.value) (Block [] done)) ≡ just (stmt_of t) (locals_of self.now)) }
-        ensures refused { IfErr result (Refuses (tested_in self.now at (expr_of test) (If (expr_of test) (stmt_of yes.value) (Block [] done)))) }
+        ensures gives { Gives (λ t. typed_in self.now (stmt_of t)) (tested_in self.now at (expr_of test) (If (expr_of test) (stmt_of yes.value) (Block [] done))) result }
     {
         not_void(&test, at)?;
         Ok(TypedStmt::If {
@@ -247,8 +237,7 @@ impl<'a> Body<'a> {
         enclosing: Enclosing,
         at: u32,
     ) -> Result<TypedStmt, Refusal>
-        ensures typed { IfOk result (λ t. statement_in self.old enclosing (tree.IfElse (expression_of test.now) (statement_of yes.now.kind yes.now.at) (statement_of no.now.kind no.now.at) at) ≡ just (stmt_of t) (locals_of self.new)) }
-        ensures refused { IfErr result (Refuses (statement_in self.old enclosing (tree.IfElse (expression_of test.now) (statement_of yes.now.kind yes.now.at) (statement_of no.now.kind no.now.at) at))) }
+        ensures gives { Gives (λ t. typed_in self.new (stmt_of t)) (statement_in self.old enclosing (tree.IfElse (expression_of test.now) (statement_of yes.now.kind yes.now.at) (statement_of no.now.kind no.now.at) at)) result }
         ensures tables { OnOk result (tables_of self.new.scopes ≡ tables_of self.old.scopes) }
         ensures bodies { self.new.scopes.bodies ≡ self.old.scopes.bodies }
         ensures returned { self.new.result ≡ self.old.result }
@@ -268,8 +257,7 @@ impl<'a> Body<'a> {
         enclosing: Enclosing,
         at: u32,
     ) -> Result<TypedStmt, Refusal>
-        ensures typed { IfOk result (λ t. else_in self.old enclosing at (expr_of test) (stmt_of yes.value) (statement_of no.now.kind no.now.at) ≡ just (stmt_of t) (locals_of self.new)) }
-        ensures refused { IfErr result (Refuses (else_in self.old enclosing at (expr_of test) (stmt_of yes.value) (statement_of no.now.kind no.now.at))) }
+        ensures gives { Gives (λ t. typed_in self.new (stmt_of t)) (else_in self.old enclosing at (expr_of test) (stmt_of yes.value) (statement_of no.now.kind no.now.at)) result }
         ensures tables { OnOk result (tables_of self.new.scopes ≡ tables_of self.old.scopes) }
         ensures bodies { self.new.scopes.bodies ≡ self.old.scopes.bodies }
         ensures returned { self.new.result ≡ self.old.result }
@@ -286,8 +274,7 @@ impl<'a> Body<'a> {
         no: Box<TypedStmt>,
         at: u32,
     ) -> Result<TypedStmt, Refusal>
-        ensures typed { IfOk result (λ t. tested_in self.now at (expr_of test) (If (expr_of test) (stmt_of yes.value) (stmt_of no.value)) ≡ just (stmt_of t) (locals_of self.now)) }
-        ensures refused { IfErr result (Refuses (tested_in self.now at (expr_of test) (If (expr_of test) (stmt_of yes.value) (stmt_of no.value)))) }
+        ensures gives { Gives (λ t. typed_in self.now (stmt_of t)) (tested_in self.now at (expr_of test) (If (expr_of test) (stmt_of yes.value) (stmt_of no.value))) result }
     {
         not_void(&test, at)?;
         Ok(TypedStmt::If {
@@ -307,8 +294,7 @@ impl<'a> Body<'a> {
         enclosing: Enclosing,
         at: u32,
     ) -> Result<TypedStmt, Refusal>
-        ensures typed { IfOk result (λ t. statement_in self.old enclosing (tree.Switch (expression_of value.now) (parts_of parts.now) place at) ≡ just (stmt_of t) (locals_of self.new)) }
-        ensures refused { IfErr result (Refuses (statement_in self.old enclosing (tree.Switch (expression_of value.now) (parts_of parts.now) place at))) }
+        ensures gives { Gives (λ t. typed_in self.new (stmt_of t)) (statement_in self.old enclosing (tree.Switch (expression_of value.now) (parts_of parts.now) place at)) result }
         ensures tables { OnOk result (tables_of self.new.scopes ≡ tables_of self.old.scopes) }
         ensures bodies { self.new.scopes.bodies ≡ self.old.scopes.bodies }
         ensures returned { self.new.result ≡ self.old.result }
@@ -325,8 +311,7 @@ impl<'a> Body<'a> {
         parts: &'a [SwitchPart],
         enclosing: Enclosing,
     ) -> Result<Labelled, Refusal>
-        ensures typed { IfOk result (λ l. choices_in self.old enclosing (parts_of parts.now) ≡ just (labelled_of l) (locals_of self.new)) }
-        ensures refused { IfErr result (Refuses (choices_in self.old enclosing (parts_of parts.now))) }
+        ensures gives { Gives (λ l. typed_in self.new (labelled_of l)) (choices_in self.old enclosing (parts_of parts.now)) result }
         ensures tables { OnOk result (tables_of self.new.scopes ≡ tables_of self.old.scopes) }
         ensures bodies { self.new.scopes.bodies ≡ self.old.scopes.bodies }
         ensures returned { self.new.result ≡ self.old.result }
@@ -379,8 +364,7 @@ impl<'a> Body<'a> {
     // 6.6.5.1.
     #[cycle(statements)]
     fn while_loop(&mut self, test: &Expr, body: &'a Stmt, at: u32) -> Result<TypedStmt, Refusal>
-        ensures typed { IfOk result (λ t. statement_in self.old enclosings.Loop (tree.While (expression_of test.now) (statement_of body.now.kind body.now.at) at) ≡ just (stmt_of t) (locals_of self.new)) }
-        ensures refused { IfErr result (Refuses (statement_in self.old enclosings.Loop (tree.While (expression_of test.now) (statement_of body.now.kind body.now.at) at))) }
+        ensures gives { Gives (λ t. typed_in self.new (stmt_of t)) (statement_in self.old enclosings.Loop (tree.While (expression_of test.now) (statement_of body.now.kind body.now.at) at)) result }
         ensures tables { OnOk result (tables_of self.new.scopes ≡ tables_of self.old.scopes) }
         ensures bodies { self.new.scopes.bodies ≡ self.old.scopes.bodies }
         ensures returned { self.new.result ≡ self.old.result }
@@ -397,8 +381,7 @@ impl<'a> Body<'a> {
         body: Box<TypedStmt>,
         at: u32,
     ) -> Result<TypedStmt, Refusal>
-        ensures typed { IfOk result (λ t. tested_in self.now at (expr_of test) (While (expr_of test) (stmt_of body.value)) ≡ just (stmt_of t) (locals_of self.now)) }
-        ensures refused { IfErr result (Refuses (tested_in self.now at (expr_of test) (While (expr_of test) (stmt_of body.value)))) }
+        ensures gives { Gives (λ t. typed_in self.now (stmt_of t)) (tested_in self.now at (expr_of test) (While (expr_of test) (stmt_of body.value))) result }
     {
         not_void(&test, at)?;
         Ok(TypedStmt::While { test, body })
@@ -407,8 +390,7 @@ impl<'a> Body<'a> {
     // 6.6.5.2.
     #[cycle(statements)]
     fn do_loop(&mut self, body: &'a Stmt, test: &Expr, at: u32) -> Result<TypedStmt, Refusal>
-        ensures typed { IfOk result (λ t. statement_in self.old enclosings.Loop (tree.DoWhile (statement_of body.now.kind body.now.at) (expression_of test.now) at) ≡ just (stmt_of t) (locals_of self.new)) }
-        ensures refused { IfErr result (Refuses (statement_in self.old enclosings.Loop (tree.DoWhile (statement_of body.now.kind body.now.at) (expression_of test.now) at))) }
+        ensures gives { Gives (λ t. typed_in self.new (stmt_of t)) (statement_in self.old enclosings.Loop (tree.DoWhile (statement_of body.now.kind body.now.at) (expression_of test.now) at)) result }
         ensures tables { OnOk result (tables_of self.new.scopes ≡ tables_of self.old.scopes) }
         ensures bodies { self.new.scopes.bodies ≡ self.old.scopes.bodies }
         ensures returned { self.new.result ≡ self.old.result }
@@ -419,8 +401,7 @@ impl<'a> Body<'a> {
 
     // The test behind the body of a do.
     fn do_test(&self, body: Box<TypedStmt>, test: &Expr, at: u32) -> Result<TypedStmt, Refusal>
-        ensures typed { IfOk result (λ t. test_in self.now at (stmt_of body.value) (expression_of test.now) ≡ just (stmt_of t) (locals_of self.now)) }
-        ensures refused { IfErr result (Refuses (test_in self.now at (stmt_of body.value) (expression_of test.now))) }
+        ensures gives { Gives (λ t. typed_in self.now (stmt_of t)) (test_in self.now at (stmt_of body.value) (expression_of test.now)) result }
     {
         let test = self.scopes.expression(test)?;
         not_void(&test, at)?;
@@ -437,8 +418,7 @@ impl<'a> Body<'a> {
         body: &'a Stmt,
         at: u32,
     ) -> Result<TypedStmt, Refusal>
-        ensures typed { IfOk result (λ t. statement_in self.old enclosings.Loop (tree.For (optional_of first.now) (optional_of test.now) (optional_of third.now) (statement_of body.now.kind body.now.at) at) ≡ just (stmt_of t) (locals_of self.new)) }
-        ensures refused { IfErr result (Refuses (statement_in self.old enclosings.Loop (tree.For (optional_of first.now) (optional_of test.now) (optional_of third.now) (statement_of body.now.kind body.now.at) at))) }
+        ensures gives { Gives (λ t. typed_in self.new (stmt_of t)) (statement_in self.old enclosings.Loop (tree.For (optional_of first.now) (optional_of test.now) (optional_of third.now) (statement_of body.now.kind body.now.at) at)) result }
         ensures tables { OnOk result (tables_of self.new.scopes ≡ tables_of self.old.scopes) }
         ensures bodies { self.new.scopes.bodies ≡ self.old.scopes.bodies }
         ensures returned { self.new.result ≡ self.old.result }
@@ -453,8 +433,7 @@ impl<'a> Body<'a> {
 
     // A for over what stands between its parentheses and its body.
     fn for_over(&self, head: ForHead, body: Box<TypedStmt>, at: u32) -> Result<TypedStmt, Refusal>
-        ensures typed { IfOk result (λ t. for_in self.now at head (stmt_of body.value) ≡ just (stmt_of t) (locals_of self.now)) }
-        ensures refused { IfErr result (Refuses (for_in self.now at head (stmt_of body.value))) }
+        ensures gives { Gives (λ t. typed_in self.now (stmt_of t)) (for_in self.now at head (stmt_of body.value)) result }
     {
         test_not_void(&head.test, at)?;
         Ok(TypedStmt::For {
@@ -467,8 +446,7 @@ impl<'a> Body<'a> {
 
     // An expression that may be absent.
     fn optional(&self, e: &Option<Expr>) -> Result<Option<TypedExpr>, Refusal>
-        ensures typed { IfOk result (λ x. rules.optional (scope_of self.now.scopes) (optional_of e.now) ≡ Is (option_expr_of x)) }
-        ensures refused { IfErr result (Refuses (rules.optional (scope_of self.now.scopes) (optional_of e.now))) }
+        ensures gives { Gives option_expr_of (rules.optional (scope_of self.now.scopes) (optional_of e.now)) result }
     {
         match e {
             None => Ok(None),
@@ -530,8 +508,7 @@ fn returned(
     at: u32,
     value: Operand,
 ) -> Result<TypedExpr, Refusal>
-    ensures typed { IfOk result (λ v. rules.returned kind at (operand_of value) ≡ Is (expr_of v)) }
-    ensures refused { IfErr result (Refuses (rules.returned kind at (operand_of value))) }
+    ensures gives { Gives expr_of (rules.returned kind at (operand_of value)) result }
 {
     let Some(kind) = kind else {
         return Err(mismatch(at));

@@ -1,8 +1,7 @@
 //! The first values of objects: ISO 9899:1990 6.5.7.
-ghost use Rattle.std.specs.Prelude.{◌≡◌, IfOk, IfErr, Some, None, map};
-ghost use Rattle.c_rules.specs.Answers.{Refuses};
+ghost use Rattle.c_rules.specs.Answers.{Gives};
+ghost use Rattle.std.specs.Prelude.{◌≡◌, Some, None, map};
 ghost use Rattle.c_rules.specs.Declarations as rules;
-ghost use Rattle.c_rules.specs.Outcome.{Is};
 ghost use Rattle.c_rules.specs.Statements as blocks;
 ghost use Rattle.c_operands.specs.OperandView.{operand_of};
 ghost use Rattle.c_objects.specs.InitialiserView.{entry_of, initialiser_of, start_of, starts_of};
@@ -62,8 +61,7 @@ fn cell_value(kind: ScalarType, initial: Initial) -> Initial
 
 // An entry as the value of a cell of this type.
 fn cell(alloc: Global, kind: ScalarType, at: u32, entry: Entry) -> Result<Initial, Refusal>
-    ensures typed { IfOk result (λ i. rules.cell kind at (entry_of entry) ≡ Is i) }
-    ensures refused { IfErr result (Refuses (rules.cell kind at (entry_of entry))) }
+    ensures gives { Gives (λ i. i) (rules.cell kind at (entry_of entry)) result }
 {
     given(alloc, kind, at, entry.operand)?;
     Ok(cell_value(kind, entry.initial))
@@ -76,8 +74,7 @@ fn cells(
     at: u32,
     entries: Vec<Entry>,
 ) -> Result<Vec<Initial>, Refusal>
-    ensures typed { IfOk result (λ is. rules.cells kind at (map entry_of entries.items) ≡ Is is.items) }
-    ensures refused { IfErr result (Refuses (rules.cells kind at (map entry_of entries.items))) }
+    ensures gives { Gives (λ is. is.items) (rules.cells kind at (map entry_of entries.items)) result }
 {
     let mut values = Vec::with_capacity(alloc, entries.len())?;
     for entry in entries {
@@ -94,8 +91,7 @@ fn listed(
     at: u32,
     entries: Vec<Entry>,
 ) -> Result<Items<Initial>, Refusal>
-    ensures typed { IfOk result (λ is. rules.listed kind length at (map entry_of entries.items) ≡ Is is) }
-    ensures refused { IfErr result (Refuses (rules.listed kind length at (map entry_of entries.items))) }
+    ensures gives { Gives (λ is. is) (rules.listed kind length at (map entry_of entries.items)) result }
 {
     if entries.len() > usize::from(length) {
         return Err(mismatch(at));
@@ -112,8 +108,7 @@ fn scalar_start(
     at: u32,
     value: Operand,
 ) -> Result<Start, Refusal>
-    ensures typed { IfOk result (λ s. blocks.started reference (ObjectType.Single kind) at (blocks.Value (operand_of value)) ≡ Is (start_of s)) }
-    ensures refused { IfErr result (Refuses (blocks.started reference (ObjectType.Single kind) at (blocks.Value (operand_of value)))) }
+    ensures gives { Gives start_of (blocks.started reference (ObjectType.Single kind) at (blocks.Value (operand_of value))) result }
 {
     let value = given(alloc, kind, at, value)?;
     let form = ExprForm::Assign {
@@ -142,8 +137,7 @@ fn array_start(
     at: u32,
     entries: Vec<Entry>,
 ) -> Result<Start, Refusal>
-    ensures typed { IfOk result (λ s. blocks.started reference (ObjectType.Array kind length) at (blocks.Listed (map entry_of entries.items)) ≡ Is (start_of s)) }
-    ensures refused { IfErr result (Refuses (blocks.started reference (ObjectType.Array kind length) at (blocks.Listed (map entry_of entries.items)))) }
+    ensures gives { Gives start_of (blocks.started reference (ObjectType.Array kind length) at (blocks.Listed (map entry_of entries.items))) result }
 {
     let values = listed(alloc, kind, length, at, entries)?;
     Ok(Start {
@@ -160,8 +154,7 @@ pub fn started(
     at: u32,
     initialiser: Initialiser,
 ) -> Result<Start, Refusal>
-    ensures typed { IfOk result (λ s. blocks.started reference object_type at (initialiser_of initialiser) ≡ Is (start_of s)) }
-    ensures refused { IfErr result (Refuses (blocks.started reference object_type at (initialiser_of initialiser))) }
+    ensures gives { Gives start_of (blocks.started reference object_type at (initialiser_of initialiser)) result }
 {
     match (object_type, initialiser) {
         (_, Initialiser::Absent) => Ok(Start {
@@ -193,8 +186,7 @@ pub fn static_list(
     at: u32,
     starts: Starts,
 ) -> Result<Option<Items<Initial>>, Refusal>
-    ensures typed { IfOk result (λ list. units.static_list object_type at (starts_of starts) ≡ Is list) }
-    ensures refused { IfErr result (Refuses (units.static_list object_type at (starts_of starts))) }
+    ensures gives { Gives (λ list. list) (units.static_list object_type at (starts_of starts)) result }
 {
     match (object_type, starts) {
         (_, Starts::Absent) => Ok(None),

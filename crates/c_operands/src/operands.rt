@@ -1,4 +1,5 @@
 //! What each operator makes of typed operands: ISO 9899:1990 6.1.3.2, and 6.3.3 to 6.3.17.
+ghost use Rattle.c_rules.specs.Answers.{Gives};
 ghost use Rattle.std.specs.Prelude.{◌≡◌, Some, IfOk, IfErr};
 ghost use Rattle.c_tree.specs.Eval.{kind_of};
 ghost use Rattle.c_tree.specs.View.{expr_of};
@@ -6,8 +7,6 @@ ghost use Rattle.c_rules.specs.declared.fault.Refusal.TheVariants as refusals;
 ghost use Rattle.c_tree.specs.TypedTree.{Node, Const, Unary, Binary, And, Or, Not, Pick, Comma};
 ghost use Rattle.c_rules.specs.declared.fault.Rule.TheVariants as rule;
 ghost use Rattle.c_rules.specs.Kinds.{class_of};
-ghost use Rattle.c_rules.specs.Outcome.{Is};
-ghost use Rattle.c_rules.specs.Answers.{Refuses};
 ghost use Rattle.c_rules.specs.Operands as rules;
 ghost use Rattle.c_operands.specs.OperandView.{operand_of, pair_of};
 
@@ -74,8 +73,7 @@ pub(crate) fn sum(
     left: TypedExpr,
     right: TypedExpr,
 ) -> Result<TypedExpr, Refusal>
-    ensures typed { IfOk result (λ e. rules.sum at (expr_of left) (expr_of right) ≡ Is (expr_of e)) }
-    ensures refused { IfErr result (Refuses (rules.sum at (expr_of left) (expr_of right))) }
+    ensures gives { Gives expr_of (rules.sum at (expr_of left) (expr_of right)) result }
 {
     match (class_of(left.kind), class_of(right.kind)) {
         (Class::Integer, Class::Integer) => calculated(alloc, BinaryOp::Add, at, left, right),
@@ -98,8 +96,7 @@ fn difference(
     left: TypedExpr,
     right: TypedExpr,
 ) -> Result<TypedExpr, Refusal>
-    ensures typed { IfOk result (λ e. rules.difference_as (class_of (kind_of (expr_of left))) (class_of (kind_of (expr_of right))) at (expr_of left) (expr_of right) ≡ Is (expr_of e)) }
-    ensures refused { IfErr result (Refuses (rules.difference_as (class_of (kind_of (expr_of left))) (class_of (kind_of (expr_of right))) at (expr_of left) (expr_of right))) }
+    ensures gives { Gives expr_of (rules.difference_as (class_of (kind_of (expr_of left))) (class_of (kind_of (expr_of right))) at (expr_of left) (expr_of right)) result }
 {
     match (class_of(left.kind), class_of(right.kind)) {
         (Class::Integer, Class::Integer) => calculated(alloc, BinaryOp::Sub, at, left, right),
@@ -120,8 +117,7 @@ fn pointers(
     left: TypedExpr,
     right: TypedExpr,
 ) -> Result<TypedExpr, Refusal>
-    ensures typed { IfOk result (λ e. rules.pointers op at (expr_of left) (expr_of right) ≡ Is (expr_of e)) }
-    ensures refused { IfErr result (Refuses (rules.pointers op at (expr_of left) (expr_of right))) }
+    ensures gives { Gives expr_of (rules.pointers op at (expr_of left) (expr_of right)) result }
 {
     if same_kind(left.kind, right.kind) {
         return binary_node(alloc, op, at, Some(INT), left, right);
@@ -137,8 +133,7 @@ fn product(
     left: TypedExpr,
     right: TypedExpr,
 ) -> Result<TypedExpr, Refusal>
-    ensures typed { IfOk result (λ e. rules.product_as (class_of (kind_of (expr_of left))) (class_of (kind_of (expr_of right))) op at (expr_of left) (expr_of right) ≡ Is (expr_of e)) }
-    ensures refused { IfErr result (Refuses (rules.product_as (class_of (kind_of (expr_of left))) (class_of (kind_of (expr_of right))) op at (expr_of left) (expr_of right))) }
+    ensures gives { Gives expr_of (rules.product_as (class_of (kind_of (expr_of left))) (class_of (kind_of (expr_of right))) op at (expr_of left) (expr_of right)) result }
 {
     match (class_of(left.kind), class_of(right.kind)) {
         (Class::Integer, Class::Integer) => calculated(alloc, op, at, left, right),
@@ -154,8 +149,7 @@ fn shift(
     left: TypedExpr,
     right: TypedExpr,
 ) -> Result<TypedExpr, Refusal>
-    ensures typed { IfOk result (λ e. rules.shift_as (class_of (kind_of (expr_of left))) (class_of (kind_of (expr_of right))) op at (expr_of left) (expr_of right) ≡ Is (expr_of e)) }
-    ensures refused { IfErr result (Refuses (rules.shift_as (class_of (kind_of (expr_of left))) (class_of (kind_of (expr_of right))) op at (expr_of left) (expr_of right))) }
+    ensures gives { Gives expr_of (rules.shift_as (class_of (kind_of (expr_of left))) (class_of (kind_of (expr_of right))) op at (expr_of left) (expr_of right)) result }
 {
     match (class_of(left.kind), class_of(right.kind)) {
         (Class::Integer, Class::Integer) => {
@@ -174,8 +168,7 @@ fn order(
     left: TypedExpr,
     right: TypedExpr,
 ) -> Result<TypedExpr, Refusal>
-    ensures typed { IfOk result (λ e. rules.order_as (class_of (kind_of (expr_of left))) (class_of (kind_of (expr_of right))) op at (expr_of left) (expr_of right) ≡ Is (expr_of e)) }
-    ensures refused { IfErr result (Refuses (rules.order_as (class_of (kind_of (expr_of left))) (class_of (kind_of (expr_of right))) op at (expr_of left) (expr_of right))) }
+    ensures gives { Gives expr_of (rules.order_as (class_of (kind_of (expr_of left))) (class_of (kind_of (expr_of right))) op at (expr_of left) (expr_of right)) result }
 {
     match (class_of(left.kind), class_of(right.kind)) {
         (Class::Integer, Class::Integer) => {
@@ -195,8 +188,7 @@ fn equality(
     left: Operand,
     right: Operand,
 ) -> Result<TypedExpr, Refusal>
-    ensures typed { IfOk result (λ e. rules.equality op at (operand_of left) (operand_of right) ≡ Is (expr_of e)) }
-    ensures refused { IfErr result (Refuses (rules.equality op at (operand_of left) (operand_of right))) }
+    ensures gives { Gives expr_of (rules.equality op at (operand_of left) (operand_of right)) result }
 {
     let pair = met(alloc, at, left, right)?;
     binary_node(alloc, op, at, Some(INT), pair.left, pair.right)
@@ -210,8 +202,7 @@ pub fn binary(
     left: Operand,
     right: Operand,
 ) -> Result<TypedExpr, Refusal>
-    ensures typed { IfOk result (λ e. rules.binary op at (operand_of left) (operand_of right) ≡ Is (expr_of e)) }
-    ensures refused { IfErr result (Refuses (rules.binary op at (operand_of left) (operand_of right))) }
+    ensures gives { Gives expr_of (rules.binary op at (operand_of left) (operand_of right)) result }
 {
     match op {
         BinaryOp::Add => sum(alloc, at, left.value, right.value),
@@ -232,8 +223,7 @@ pub fn binary(
 
 /// `+ - ~` before an integer: 6.3.3.3.
 pub fn unary(alloc: Global, op: UnaryOp, at: u32, value: TypedExpr) -> Result<TypedExpr, Refusal>
-    ensures typed { IfOk result (λ e. rules.unary op at (expr_of value) ≡ Is (expr_of e)) }
-    ensures refused { IfErr result (Refuses (rules.unary op at (expr_of value))) }
+    ensures gives { Gives expr_of (rules.unary op at (expr_of value)) result }
 {
     let kind = value.kind;
     if class_of(kind) != Class::Integer {
@@ -248,8 +238,7 @@ pub fn unary(alloc: Global, op: UnaryOp, at: u32, value: TypedExpr) -> Result<Ty
 
 /// `!`: 6.3.3.3.
 pub fn negated(alloc: Global, at: u32, value: TypedExpr) -> Result<TypedExpr, Refusal>
-    ensures typed { IfOk result (λ e. rules.negated at (expr_of value) ≡ Is (expr_of e)) }
-    ensures refused { IfErr result (Refuses (rules.negated at (expr_of value))) }
+    ensures gives { Gives expr_of (rules.negated at (expr_of value)) result }
 {
     if value.kind.is_none() {
         return Err(mismatch(at));
@@ -268,8 +257,7 @@ pub fn both_true(
     left: TypedExpr,
     right: TypedExpr,
 ) -> Result<TypedExpr, Refusal>
-    ensures typed { IfOk result (λ e. rules.both_true at (expr_of left) (expr_of right) ≡ Is (expr_of e)) }
-    ensures refused { IfErr result (Refuses (rules.both_true at (expr_of left) (expr_of right))) }
+    ensures gives { Gives expr_of (rules.both_true at (expr_of left) (expr_of right)) result }
 {
     if left.kind.is_none() || right.kind.is_none() {
         return Err(mismatch(at));
@@ -292,8 +280,7 @@ pub fn either_true(
     left: TypedExpr,
     right: TypedExpr,
 ) -> Result<TypedExpr, Refusal>
-    ensures typed { IfOk result (λ e. rules.either_true at (expr_of left) (expr_of right) ≡ Is (expr_of e)) }
-    ensures refused { IfErr result (Refuses (rules.either_true at (expr_of left) (expr_of right))) }
+    ensures gives { Gives expr_of (rules.either_true at (expr_of left) (expr_of right)) result }
 {
     if left.kind.is_none() || right.kind.is_none() {
         return Err(mismatch(at));
@@ -317,8 +304,7 @@ pub fn picked(
     yes: Operand,
     no: Operand,
 ) -> Result<TypedExpr, Refusal>
-    ensures typed { IfOk result (λ e. rules.picked at (expr_of test) (operand_of yes) (operand_of no) ≡ Is (expr_of e)) }
-    ensures refused { IfErr result (Refuses (rules.picked at (expr_of test) (operand_of yes) (operand_of no))) }
+    ensures gives { Gives expr_of (rules.picked at (expr_of test) (operand_of yes) (operand_of no)) result }
 {
     if test.kind.is_none() {
         return Err(mismatch(at));
@@ -334,8 +320,7 @@ pub fn picked(
 }
 
 fn arms(alloc: Global, at: u32, yes: Operand, no: Operand) -> Result<Pair, Refusal>
-    ensures typed { IfOk result (λ p. rules.arms_as (rules.class_at (operand_of yes)) (rules.class_at (operand_of no)) at (operand_of yes) (operand_of no) ≡ Is (pair_of p)) }
-    ensures refused { IfErr result (Refuses (rules.arms_as (rules.class_at (operand_of yes)) (rules.class_at (operand_of no)) at (operand_of yes) (operand_of no))) }
+    ensures gives { Gives pair_of (rules.arms_as (rules.class_at (operand_of yes)) (rules.class_at (operand_of no)) at (operand_of yes) (operand_of no)) result }
 {
     if yes.value.kind.is_none() && no.value.kind.is_none() {
         return Ok(Pair {
@@ -366,8 +351,7 @@ pub fn behind(
 
 /// `sizeof` a value, which is the length of an array, or one word: 6.3.3.4.
 pub fn sized(length: Option<u16>, at: u32, value: &TypedExpr) -> Result<TypedExpr, Refusal>
-    ensures typed { IfOk result (λ e. rules.sized length at (expr_of value.now) ≡ Is (expr_of e)) }
-    ensures refused { IfErr result (Refuses (rules.sized length at (expr_of value.now))) }
+    ensures gives { Gives expr_of (rules.sized length at (expr_of value.now)) result }
 {
     match length {
         Some(length) => Ok(word(length, UNSIGNED, at)),
@@ -378,8 +362,7 @@ pub fn sized(length: Option<u16>, at: u32, value: &TypedExpr) -> Result<TypedExp
 
 /// A constant: 6.1.3.2. One that isn't marked as unsigned is an int where it fits, and a decimal one has to fit.
 pub fn number(value: u32, marked: bool, decimal: bool, at: u32) -> Result<TypedExpr, Refusal>
-    ensures typed { IfOk result (λ e. rules.number value marked decimal at ≡ Is (expr_of e)) }
-    ensures refused { IfErr result (Refuses (rules.number value marked decimal at)) }
+    ensures gives { Gives expr_of (rules.number value marked decimal at) result }
 {
     let Ok(value) = u16::try_from(value) else {
         return Err(long_constant(at));

@@ -1,11 +1,11 @@
 //! Calls, whose arguments are typed first, and expressions that have to be constant: ISO 9899:1990 6.3.2.2 and 6.4.
-ghost use Rattle.std.specs.Prelude.{◌≡◌, IfOk, IfErr, map};
+ghost use Rattle.std.specs.Prelude.{◌≡◌, map};
 ghost use Rattle.c_tree.specs.View.{expr_of};
 ghost use Rattle.c_tree.specs.TypedTree as typed;
 ghost use Rattle.c_syntax.specs.SyntaxTree as tree;
 ghost use Rattle.c_syntax.specs.SyntaxView.{expression_of, trees_of};
-ghost use Rattle.c_rules.specs.Outcome.{Outcome, Is};
-ghost use Rattle.c_rules.specs.Answers.{Refuses};
+ghost use Rattle.c_rules.specs.Outcome.{Outcome};
+ghost use Rattle.c_rules.specs.Answers.{Gives, Refuses};
 ghost use Rattle.c_scopes.specs.Tables.{scope_of};
 ghost use Rattle.c_rules.specs.Typing as rules;
 ghost use Rattle.c_operands.specs.OperandView.{operand_of};
@@ -36,8 +36,7 @@ impl<'a> Scopes<'a> {
     /// The typed tree of a call.
     #[cycle(expressions)]
     pub(crate) fn call(&self, name: &str, at: u32, list: &[Expr]) -> Result<TypedExpr, Refusal>
-        ensures typed { IfOk result (λ x. rules.typing_form (scope_of self.now) (tree.Call name.now (trees_of list.now)) at ≡ Is (expr_of x)) }
-        ensures refused { IfErr result (Refuses (rules.typing_form (scope_of self.now) (tree.Call name.now (trees_of list.now)) at)) }
+        ensures gives { Gives expr_of (rules.typing_form (scope_of self.now) (tree.Call name.now (trees_of list.now)) at) result }
     {
         let arguments = self.arguments(name, list)?;
         self.call_of(name, at, arguments)
@@ -46,8 +45,7 @@ impl<'a> Scopes<'a> {
     // What stands between the parentheses of a call.
     #[cycle(expressions)]
     fn arguments(&self, name: &str, list: &[Expr]) -> Result<Arguments, Refusal>
-        ensures typed { IfOk result (λ a. rules.arguments (scope_of self.now) name.now (trees_of list.now) ≡ Is (arguments_of a)) }
-        ensures refused { IfErr result (Refuses (rules.arguments (scope_of self.now) name.now (trees_of list.now))) }
+        ensures gives { Gives arguments_of (rules.arguments (scope_of self.now) name.now (trees_of list.now)) result }
     {
         if is_in(name) || is_out(name) {
             return self.port_arguments(list);
@@ -58,8 +56,7 @@ impl<'a> Scopes<'a> {
     // The number of a port, which has to be constant, and the operands behind it.
     #[cycle(expressions)]
     fn port_arguments(&self, list: &[Expr]) -> Result<Arguments, Refusal>
-        ensures typed { IfOk result (λ a. rules.port_arguments (scope_of self.now) (trees_of list.now) ≡ Is (arguments_of a)) }
-        ensures refused { IfErr result (Refuses (rules.port_arguments (scope_of self.now) (trees_of list.now))) }
+        ensures gives { Gives arguments_of (rules.port_arguments (scope_of self.now) (trees_of list.now)) result }
     {
         let Some((first, rest)) = list.split_first() else {
             return Ok(Arguments::NoPort);
@@ -76,8 +73,7 @@ impl<'a> Scopes<'a> {
     /// Arguments, from left to right.
     #[cycle(expressions)]
     pub(crate) fn operands(&self, list: &[Expr]) -> Result<Vec<Operand>, Refusal>
-        ensures typed { IfOk result (λ xs. rules.operands (scope_of self.now) (trees_of list.now) ≡ Is (map operand_of xs.items)) }
-        ensures refused { IfErr result (Refuses (rules.operands (scope_of self.now) (trees_of list.now))) }
+        ensures gives { Gives (λ xs. map operand_of xs.items) (rules.operands (scope_of self.now) (trees_of list.now)) result }
     {
         let mut operands = Vec::new(self.alloc);
         for e in list {
@@ -89,8 +85,7 @@ impl<'a> Scopes<'a> {
     /// The typed tree of an expression that has to be constant.
     #[cycle(expressions)]
     pub fn constant_tree(&self, e: &Expr) -> Result<TypedExpr, Refusal>
-        ensures typed { IfOk result (λ x. rules.constant_typing (scope_of self.now) (expression_of e.now) ≡ Is (expr_of x)) }
-        ensures refused { IfErr result (Refuses (rules.constant_typing (scope_of self.now) (expression_of e.now))) }
+        ensures gives { Gives expr_of (rules.constant_typing (scope_of self.now) (expression_of e.now)) result }
     {
         match &e.kind {
             ExprKind::Call { name, arguments } => {
@@ -103,8 +98,7 @@ impl<'a> Scopes<'a> {
     // The typed tree of a call that has to be constant.
     #[cycle(expressions)]
     fn constant_call(&self, name: &str, at: u32, list: &[Expr]) -> Result<TypedExpr, Refusal>
-        ensures typed { IfOk result (λ x. rules.constant_typing (scope_of self.now) (tree.Node (tree.Call name.now (trees_of list.now)) at) ≡ Is (expr_of x)) }
-        ensures refused { IfErr result (Refuses (rules.constant_typing (scope_of self.now) (tree.Node (tree.Call name.now (trees_of list.now)) at))) }
+        ensures gives { Gives expr_of (rules.constant_typing (scope_of self.now) (tree.Node (tree.Call name.now (trees_of list.now)) at)) result }
     {
         let arguments = self.arguments(name, list)?;
         self.constant_call_of(name, at, arguments)
@@ -112,8 +106,7 @@ impl<'a> Scopes<'a> {
 
     // A call with these arguments.
     fn call_of(&self, name: &str, at: u32, arguments: Arguments) -> Result<TypedExpr, Refusal>
-        ensures typed { IfOk result (λ x. rules.call_of (scope_of self.now) name.now at (arguments_of arguments) ≡ Is (expr_of x)) }
-        ensures refused { IfErr result (Refuses (rules.call_of (scope_of self.now) name.now at (arguments_of arguments))) }
+        ensures gives { Gives expr_of (rules.call_of (scope_of self.now) name.now at (arguments_of arguments)) result }
     {
         match arguments {
             Arguments::Operands(operands) => self.called(name, at, operands),
@@ -138,8 +131,7 @@ impl<'a> Scopes<'a> {
         at: u32,
         arguments: Arguments,
     ) -> Result<TypedExpr, Refusal>
-        ensures typed { IfOk result (λ x. rules.no_constant (rules.call_of (scope_of self.now) name.now at (arguments_of arguments)) ≡ Is (expr_of x)) }
-        ensures refused { IfErr result (Refuses (rules.no_constant (rules.call_of (scope_of self.now) name.now at (arguments_of arguments)))) }
+        ensures gives { Gives expr_of (rules.no_constant (rules.call_of (scope_of self.now) name.now at (arguments_of arguments))) result }
     {
         match self.call_of(name, at, arguments) {
             Ok(value) => Ok(value),
@@ -182,8 +174,7 @@ fn is_of_calls(rule: Rule) -> bool
 
 /// The word of an expression that has to be constant, which is typed as this.
 pub fn word_at(e: &Expr, x: &TypedExpr) -> Result<u16, Refusal>
-    ensures word { IfOk result (λ w. rules.word_at (expression_of e.now) (expr_of x.now) ≡ Is w) }
-    ensures refused { IfErr result (Refuses (rules.word_at (expression_of e.now) (expr_of x.now))) }
+    ensures gives { Gives (λ w. w) (rules.word_at (expression_of e.now) (expr_of x.now)) result }
 {
     constant(e, x).ok_or(Refusal::Broken {
         rule: Rule::NotConstant,

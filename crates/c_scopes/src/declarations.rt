@@ -1,10 +1,9 @@
 //! Declarators and parameters: ISO 9899:1990 6.5.4 and 6.7.1.
-ghost use Rattle.std.specs.Prelude.{◌≡◌, IfOk, IfErr, OnOk, map};
+ghost use Rattle.c_rules.specs.Answers.{Gives};
+ghost use Rattle.std.specs.Prelude.{◌≡◌, IfErr, OnOk, map};
 ghost use Rattle.c_syntax.specs.SyntaxView.{expression_of, array_of, parameter_of, parameters_of, item_form_of, initial_of};
 ghost use Rattle.c_rules.specs.declared.fault.Refusal.TheVariants as refusals;
-ghost use Rattle.c_rules.specs.Answers.{Refuses};
 ghost use Rattle.c_rules.specs.Declarations as rules;
-ghost use Rattle.c_rules.specs.Outcome.{Is};
 ghost use Rattle.c_rules.specs.Statements.{with_object};
 ghost use Rattle.c_scopes.specs.Tables.{scope_of, tables_of, around_of};
 
@@ -22,8 +21,7 @@ use word_base::{Items, Text};
 impl<'a> Scopes<'a> {
     /// A constant length, where it may be one.
     pub(crate) fn length(&self, e: &Expr) -> Result<Option<u16>, Refusal>
-        ensures typed { IfOk result (λ n. rules.typed_length (scope_of self.now) (expression_of e.now) ≡ Is n) }
-        ensures refused { IfErr result (Refuses (rules.typed_length (scope_of self.now) (expression_of e.now))) }
+        ensures gives { Gives (λ n. n) (rules.typed_length (scope_of self.now) (expression_of e.now)) result }
     {
         let value = self.constant_tree(e)?;
         let word = word_at(e, &value)?;
@@ -32,8 +30,7 @@ impl<'a> Scopes<'a> {
 
     // Whether the length of a parameter that is an array can't be one.
     fn is_bad_length(&self, array: &Option<Brackets>) -> Result<bool, Refusal>
-        ensures typed { IfOk result (λ bad. rules.is_bad_length (scope_of self.now) (array_of array.now) ≡ Is bad) }
-        ensures refused { IfErr result (Refuses (rules.is_bad_length (scope_of self.now) (array_of array.now))) }
+        ensures gives { Gives (λ bad. bad) (rules.is_bad_length (scope_of self.now) (array_of array.now)) result }
     {
         match array {
             Some(Brackets::Sized(e)) => {
@@ -55,8 +52,7 @@ impl<'a> Scopes<'a> {
 
     // The type of a parameter, whose length is only looked at.
     fn parameter(&self, naming: Naming, parameter: &Param) -> Result<ScalarType, Refusal>
-        ensures typed { IfOk result (λ kind. rules.parameter (scope_of self.now) naming (parameter_of parameter.now) ≡ Is kind) }
-        ensures refused { IfErr result (Refuses (rules.parameter (scope_of self.now) naming (parameter_of parameter.now))) }
+        ensures gives { Gives (λ kind. kind) (rules.parameter (scope_of self.now) naming (parameter_of parameter.now)) result }
     {
         let base = plain(&parameter.specs)?;
         let is_bad = self.is_bad_length(&parameter.array)?;
@@ -101,8 +97,7 @@ impl<'a> Scopes<'a> {
         naming: Naming,
         list: &'a [Param],
     ) -> Result<Vec<ScalarType>, Refusal>
-        ensures typed { IfOk result (λ kinds. rules.parameters (scope_of self.old) naming (map parameter_of list.now) ≡ Is kinds.items) }
-        ensures refused { IfErr result (Refuses (rules.parameters (scope_of self.old) naming (map parameter_of list.now))) }
+        ensures gives { Gives (λ kinds. kinds.items) (rules.parameters (scope_of self.old) naming (map parameter_of list.now)) result }
         ensures around { around_of self.new ≡ around_of self.old }
         ensures bodies { self.new.bodies ≡ self.old.bodies }
     {
@@ -122,8 +117,7 @@ impl<'a> Scopes<'a> {
         result_kind: Option<ScalarType>,
         parameters: &'a Params,
     ) -> Result<Declared, Refusal>
-        ensures typed { IfOk result (λ d. rules.prototype (scope_of self.old) result_kind (parameters_of parameters.now) ≡ Is d) }
-        ensures refused { IfErr result (Refuses (rules.prototype (scope_of self.old) result_kind (parameters_of parameters.now))) }
+        ensures gives { Gives (λ d. d) (rules.prototype (scope_of self.old) result_kind (parameters_of parameters.now)) result }
         ensures tables { OnOk result (tables_of self.new ≡ tables_of self.old) }
         ensures scope { OnOk result (scope_of self.new ≡ scope_of self.old) }
         ensures around { OnOk result (around_of self.new ≡ around_of self.old) }
@@ -140,8 +134,7 @@ impl<'a> Scopes<'a> {
 
     /// What an item of a declaration declares.
     pub fn declarator(&mut self, base: Base, item: &'a Item) -> Result<Declared, Refusal>
-        ensures typed { IfOk result (λ d. rules.declarator (scope_of self.old) base (item_form_of item.now.kind) item.now.stars (initial_of item.now.init) ≡ Is d) }
-        ensures refused { IfErr result (Refuses (rules.declarator (scope_of self.old) base (item_form_of item.now.kind) item.now.stars (initial_of item.now.init))) }
+        ensures gives { Gives (λ d. d) (rules.declarator (scope_of self.old) base (item_form_of item.now.kind) item.now.stars (initial_of item.now.init)) result }
         ensures tables { OnOk result (tables_of self.new ≡ tables_of self.old) }
         ensures scope { OnOk result (scope_of self.new ≡ scope_of self.old) }
         ensures around { OnOk result (around_of self.new ≡ around_of self.old) }

@@ -1,12 +1,12 @@
 //! The typed tree of an expression: ISO 9899:1990 6.3.
-ghost use Rattle.std.specs.Prelude.{◌≡◌, IfOk, IfErr, Some};
+ghost use Rattle.std.specs.Prelude.{◌≡◌, IfOk, Some};
 ghost use Rattle.c_tree.specs.View.{expr_of};
 ghost use Rattle.c_tree.specs.TypedTree.{Node, Const};
 ghost use Rattle.c_syntax.specs.SyntaxTree as tree;
 ghost use Rattle.c_syntax.specs.SyntaxView.{expression_of, type_of};
 ghost use Rattle.c_rules.specs.declared.fault.Rule.TheVariants as rule;
 ghost use Rattle.c_rules.specs.Outcome.{Is, breaks};
-ghost use Rattle.c_rules.specs.Answers.{Refuses};
+ghost use Rattle.c_rules.specs.Answers.{Gives};
 ghost use Rattle.c_rules.specs.Kinds.{int, is_void, unsigned};
 ghost use Rattle.c_scopes.specs.Tables.{scope_of};
 ghost use Rattle.c_rules.specs.Typing as rules;
@@ -27,8 +27,7 @@ impl<'a> Scopes<'a> {
     /// The typed tree of an expression.
     #[cycle(expressions)]
     pub fn expression(&self, e: &Expr) -> Result<TypedExpr, Refusal>
-        ensures typed { IfOk result (λ x. rules.typing (scope_of self.now) (expression_of e.now) ≡ Is (expr_of x)) }
-        ensures refused { IfErr result (Refuses (rules.typing (scope_of self.now) (expression_of e.now))) }
+        ensures gives { Gives expr_of (rules.typing (scope_of self.now) (expression_of e.now)) result }
     {
         let at = e.at;
         match &e.kind {
@@ -60,9 +59,8 @@ impl<'a> Scopes<'a> {
     /// A value, and whether its text is that of a null pointer.
     #[cycle(expressions)]
     pub fn operand(&self, e: &Expr) -> Result<Operand, Refusal>
-        ensures typed { IfOk result (λ x. rules.typing (scope_of self.now) (expression_of e.now) ≡ Is (expr_of x.value)) }
+        ensures gives { Gives (λ x. expr_of x.value) (rules.typing (scope_of self.now) (expression_of e.now)) result }
         ensures null { IfOk result (λ x. x.null ≡ rules.is_null (expression_of e.now)) }
-        ensures refused { IfErr result (Refuses (rules.typing (scope_of self.now) (expression_of e.now))) }
     {
         let value = self.expression(e)?;
         let null = is_null(e);
@@ -71,8 +69,7 @@ impl<'a> Scopes<'a> {
 
     #[cycle(expressions)]
     fn index(&self, at: u32, operand: &Expr, index: &Expr) -> Result<TypedExpr, Refusal>
-        ensures typed { IfOk result (λ x. rules.typing_form (scope_of self.now) (tree.Index (expression_of operand.now) (expression_of index.now)) at ≡ Is (expr_of x)) }
-        ensures refused { IfErr result (Refuses (rules.typing_form (scope_of self.now) (tree.Index (expression_of operand.now) (expression_of index.now)) at)) }
+        ensures gives { Gives expr_of (rules.typing_form (scope_of self.now) (tree.Index (expression_of operand.now) (expression_of index.now)) at) result }
     {
         let left = self.expression(operand)?;
         let right = self.expression(index)?;
@@ -81,8 +78,7 @@ impl<'a> Scopes<'a> {
 
     #[cycle(expressions)]
     fn step_after(&self, up: bool, at: u32, operand: &Expr) -> Result<TypedExpr, Refusal>
-        ensures typed { IfOk result (λ x. rules.typing_form (scope_of self.now) (tree.StepAfter up (expression_of operand.now)) at ≡ Is (expr_of x)) }
-        ensures refused { IfErr result (Refuses (rules.typing_form (scope_of self.now) (tree.StepAfter up (expression_of operand.now)) at)) }
+        ensures gives { Gives expr_of (rules.typing_form (scope_of self.now) (tree.StepAfter up (expression_of operand.now)) at) result }
     {
         let stepped = stepped_after(up, at, self.expression(operand)?)?;
         of_object(is_address(operand), at, stepped)
@@ -90,8 +86,7 @@ impl<'a> Scopes<'a> {
 
     #[cycle(expressions)]
     fn step_before(&self, up: bool, at: u32, operand: &Expr) -> Result<TypedExpr, Refusal>
-        ensures typed { IfOk result (λ x. rules.typing_form (scope_of self.now) (tree.StepBefore up (expression_of operand.now)) at ≡ Is (expr_of x)) }
-        ensures refused { IfErr result (Refuses (rules.typing_form (scope_of self.now) (tree.StepBefore up (expression_of operand.now)) at)) }
+        ensures gives { Gives expr_of (rules.typing_form (scope_of self.now) (tree.StepBefore up (expression_of operand.now)) at) result }
     {
         let stepped = stepped_before(up, at, self.expression(operand)?)?;
         of_object(is_address(operand), at, stepped)
@@ -99,8 +94,7 @@ impl<'a> Scopes<'a> {
 
     #[cycle(expressions)]
     fn prefix(&self, op: PrefixOp, at: u32, operand: &Expr) -> Result<TypedExpr, Refusal>
-        ensures typed { IfOk result (λ x. rules.typing_form (scope_of self.now) (tree.Prefix op (expression_of operand.now)) at ≡ Is (expr_of x)) }
-        ensures refused { IfErr result (Refuses (rules.typing_form (scope_of self.now) (tree.Prefix op (expression_of operand.now)) at)) }
+        ensures gives { Gives expr_of (rules.typing_form (scope_of self.now) (tree.Prefix op (expression_of operand.now)) at) result }
     {
         let value = self.expression(operand)?;
         let is_array = self.array_length(operand).is_some();
@@ -110,8 +104,7 @@ impl<'a> Scopes<'a> {
 
     #[cycle(expressions)]
     fn size(&self, at: u32, operand: &Expr) -> Result<TypedExpr, Refusal>
-        ensures typed { IfOk result (λ x. rules.typing_form (scope_of self.now) (tree.SizeofValue (expression_of operand.now)) at ≡ Is (expr_of x)) }
-        ensures refused { IfErr result (Refuses (rules.typing_form (scope_of self.now) (tree.SizeofValue (expression_of operand.now)) at)) }
+        ensures gives { Gives expr_of (rules.typing_form (scope_of self.now) (tree.SizeofValue (expression_of operand.now)) at) result }
     {
         let value = self.expression(operand)?;
         sized(self.array_length(operand), at, &value)
@@ -119,8 +112,7 @@ impl<'a> Scopes<'a> {
 
     #[cycle(expressions)]
     fn cast(&self, to: &TypeName, at: u32, operand: &Expr) -> Result<TypedExpr, Refusal>
-        ensures typed { IfOk result (λ x. rules.typing_form (scope_of self.now) (tree.Cast (type_of to.now) (expression_of operand.now)) at ≡ Is (expr_of x)) }
-        ensures refused { IfErr result (Refuses (rules.typing_form (scope_of self.now) (tree.Cast (type_of to.now) (expression_of operand.now)) at)) }
+        ensures gives { Gives expr_of (rules.typing_form (scope_of self.now) (tree.Cast (type_of to.now) (expression_of operand.now)) at) result }
     {
         let kind = type_named(to)?;
         let operand = self.operand(operand)?;
@@ -129,8 +121,7 @@ impl<'a> Scopes<'a> {
 
     #[cycle(expressions)]
     fn binary(&self, op: BinaryOp, at: u32, left: &Expr, right: &Expr) -> Result<TypedExpr, Refusal>
-        ensures typed { IfOk result (λ x. rules.typing_form (scope_of self.now) (tree.Binary op (expression_of left.now) (expression_of right.now)) at ≡ Is (expr_of x)) }
-        ensures refused { IfErr result (Refuses (rules.typing_form (scope_of self.now) (tree.Binary op (expression_of left.now) (expression_of right.now)) at)) }
+        ensures gives { Gives expr_of (rules.typing_form (scope_of self.now) (tree.Binary op (expression_of left.now) (expression_of right.now)) at) result }
     {
         let left = self.operand(left)?;
         let right = self.operand(right)?;
@@ -139,8 +130,7 @@ impl<'a> Scopes<'a> {
 
     #[cycle(expressions)]
     fn both(&self, at: u32, left: &Expr, right: &Expr) -> Result<TypedExpr, Refusal>
-        ensures typed { IfOk result (λ x. rules.typing_form (scope_of self.now) (tree.And (expression_of left.now) (expression_of right.now)) at ≡ Is (expr_of x)) }
-        ensures refused { IfErr result (Refuses (rules.typing_form (scope_of self.now) (tree.And (expression_of left.now) (expression_of right.now)) at)) }
+        ensures gives { Gives expr_of (rules.typing_form (scope_of self.now) (tree.And (expression_of left.now) (expression_of right.now)) at) result }
     {
         let left = self.expression(left)?;
         let right = self.expression(right)?;
@@ -149,8 +139,7 @@ impl<'a> Scopes<'a> {
 
     #[cycle(expressions)]
     fn either(&self, at: u32, left: &Expr, right: &Expr) -> Result<TypedExpr, Refusal>
-        ensures typed { IfOk result (λ x. rules.typing_form (scope_of self.now) (tree.Or (expression_of left.now) (expression_of right.now)) at ≡ Is (expr_of x)) }
-        ensures refused { IfErr result (Refuses (rules.typing_form (scope_of self.now) (tree.Or (expression_of left.now) (expression_of right.now)) at)) }
+        ensures gives { Gives expr_of (rules.typing_form (scope_of self.now) (tree.Or (expression_of left.now) (expression_of right.now)) at) result }
     {
         let left = self.expression(left)?;
         let right = self.expression(right)?;
@@ -159,8 +148,7 @@ impl<'a> Scopes<'a> {
 
     #[cycle(expressions)]
     fn conditional(&self, at: u32, test: &Expr, yes: &Expr, no: &Expr) -> Result<TypedExpr, Refusal>
-        ensures typed { IfOk result (λ x. rules.typing_form (scope_of self.now) (tree.Conditional (expression_of test.now) (expression_of yes.now) (expression_of no.now)) at ≡ Is (expr_of x)) }
-        ensures refused { IfErr result (Refuses (rules.typing_form (scope_of self.now) (tree.Conditional (expression_of test.now) (expression_of yes.now) (expression_of no.now)) at)) }
+        ensures gives { Gives expr_of (rules.typing_form (scope_of self.now) (tree.Conditional (expression_of test.now) (expression_of yes.now) (expression_of no.now)) at) result }
     {
         let test = self.expression(test)?;
         let yes = self.operand(yes)?;
@@ -170,8 +158,7 @@ impl<'a> Scopes<'a> {
 
     #[cycle(expressions)]
     fn assignment(&self, at: u32, left: &Expr, right: &Expr) -> Result<TypedExpr, Refusal>
-        ensures typed { IfOk result (λ x. rules.typing_form (scope_of self.now) (tree.Assign (expression_of left.now) (expression_of right.now)) at ≡ Is (expr_of x)) }
-        ensures refused { IfErr result (Refuses (rules.typing_form (scope_of self.now) (tree.Assign (expression_of left.now) (expression_of right.now)) at)) }
+        ensures gives { Gives expr_of (rules.typing_form (scope_of self.now) (tree.Assign (expression_of left.now) (expression_of right.now)) at) result }
     {
         let to = self.expression(left)?;
         let value = self.operand(right)?;
@@ -187,8 +174,7 @@ impl<'a> Scopes<'a> {
         left: &Expr,
         right: &Expr,
     ) -> Result<TypedExpr, Refusal>
-        ensures typed { IfOk result (λ x. rules.typing_form (scope_of self.now) (tree.AssignOp op (expression_of left.now) (expression_of right.now)) at ≡ Is (expr_of x)) }
-        ensures refused { IfErr result (Refuses (rules.typing_form (scope_of self.now) (tree.AssignOp op (expression_of left.now) (expression_of right.now)) at)) }
+        ensures gives { Gives expr_of (rules.typing_form (scope_of self.now) (tree.AssignOp op (expression_of left.now) (expression_of right.now)) at) result }
     {
         let to = self.expression(left)?;
         let value = self.expression(right)?;
@@ -198,8 +184,7 @@ impl<'a> Scopes<'a> {
 
     #[cycle(expressions)]
     fn comma(&self, at: u32, left: &Expr, right: &Expr) -> Result<TypedExpr, Refusal>
-        ensures typed { IfOk result (λ x. rules.typing_form (scope_of self.now) (tree.Comma (expression_of left.now) (expression_of right.now)) at ≡ Is (expr_of x)) }
-        ensures refused { IfErr result (Refuses (rules.typing_form (scope_of self.now) (tree.Comma (expression_of left.now) (expression_of right.now)) at)) }
+        ensures gives { Gives expr_of (rules.typing_form (scope_of self.now) (tree.Comma (expression_of left.now) (expression_of right.now)) at) result }
     {
         let left = self.expression(left)?;
         let right = self.expression(right)?;
@@ -226,8 +211,7 @@ fn prefixed(
     at: u32,
     value: TypedExpr,
 ) -> Result<TypedExpr, Refusal>
-    ensures typed { IfOk result (λ x. rules.prefixed op is_array at (expr_of value) ≡ Is (expr_of x)) }
-    ensures refused { IfErr result (Refuses (rules.prefixed op is_array at (expr_of value))) }
+    ensures gives { Gives expr_of (rules.prefixed op is_array at (expr_of value)) result }
 {
     match op {
         PrefixOp::Address => address(is_array, at, value),
@@ -241,8 +225,7 @@ fn prefixed(
 
 // `sizeof` of a type whose words stand at this place: one word.
 fn size_of_type(kind: Option<ScalarType>, words_at: u32, at: u32) -> Result<TypedExpr, Refusal>
-    ensures typed { IfOk result (λ x. breaks (is_void kind) rule.Mismatch words_at (Is (Node (Const 1) (Some unsigned) at)) ≡ Is (expr_of x)) }
-    ensures refused { IfErr result (Refuses (breaks (is_void kind) rule.Mismatch words_at (Is (Node (Const 1) (Some unsigned) at)))) }
+    ensures gives { Gives expr_of (breaks (is_void kind) rule.Mismatch words_at (Is (Node (Const 1) (Some unsigned) at))) result }
 {
     if kind.is_none() {
         return Err(Refusal::Broken {
@@ -282,8 +265,7 @@ fn takes_address(op: PrefixOp) -> bool
 
 // What writes to an operand or takes its address, unless the operand is no object by its text: the tree of `&*e` is that of `e`.
 fn of_object(no_object: bool, at: u32, typed: TypedExpr) -> Result<TypedExpr, Refusal>
-    ensures typed { IfOk result (λ x. rules.of_object no_object at (expr_of typed) ≡ Is (expr_of x)) }
-    ensures refused { IfErr result (Refuses (rules.of_object no_object at (expr_of typed))) }
+    ensures gives { Gives expr_of (rules.of_object no_object at (expr_of typed)) result }
 {
     if no_object {
         return Err(not_lvalue(at));

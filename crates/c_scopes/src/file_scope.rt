@@ -1,9 +1,8 @@
 //! The names of file scope, and what gives its objects their values: ISO 9899:1990 6.7.
+ghost use Rattle.c_rules.specs.Answers.{Gives};
 ghost use Rattle.std.specs.Prelude.{◌≡◌, ◌&&◌, ◌||◌, map, IfOk, IfErr, OnOk};
 ghost use Rattle.c_tree.specs.declared.program.VarRef.{VarRef};
 ghost use Rattle.c_syntax.specs.SyntaxView.{initial_of, parameter_of};
-ghost use Rattle.c_rules.specs.Answers.{Refuses};
-ghost use Rattle.c_rules.specs.Outcome.{Is};
 ghost use Rattle.c_scopes.specs.Tables.{scope_of, tables_of, around_of};
 ghost use Rattle.c_rules.specs.Units as rules;
 ghost use Rattle.c_objects.specs.InitialiserView.{starts_of};
@@ -95,8 +94,7 @@ impl<'a> Scopes<'a> {
 
     /// The types of the parameters of a function with a body, in a scope of their own.
     pub fn defined_parameters(&mut self, list: &'a [Param]) -> Result<Vec<ScalarType>, Refusal>
-        ensures typed { IfOk result (λ kinds. parameters (open_scope (scope_of self.old)) Needed (map parameter_of list.now) ≡ Is kinds.items) }
-        ensures refused { IfErr result (Refuses (parameters (open_scope (scope_of self.old)) Needed (map parameter_of list.now))) }
+        ensures gives { Gives (λ kinds. kinds.items) (parameters (open_scope (scope_of self.old)) Needed (map parameter_of list.now)) result }
         ensures same { OnOk result (scope_of self.new ≡ scope_of self.old) }
         ensures tables { OnOk result (tables_of self.new ≡ tables_of self.old) }
     {
@@ -133,8 +131,7 @@ impl<'a> Scopes<'a> {
 
     /// The initialiser of an object of file scope, where it has one.
     pub fn starts(&self, initial: &Option<Init>) -> Result<Starts, Refusal>
-        ensures typed { IfOk result (λ i. rules.starts (scope_of self.now) (initial_of initial.now) ≡ Is (starts_of i)) }
-        ensures refused { IfErr result (Refuses (rules.starts (scope_of self.now) (initial_of initial.now))) }
+        ensures gives { Gives starts_of (rules.starts (scope_of self.now) (initial_of initial.now)) result }
     {
         match initial {
             None => Ok(Starts::Absent),

@@ -1,10 +1,9 @@
 //! Initialisers: ISO 9899:1990 6.5.7, and the addresses that are known before the program runs: 6.4.
-ghost use Rattle.std.specs.Prelude.{◌≡◌, IfOk, IfErr, OnOk, Some, None, map};
+ghost use Rattle.std.specs.Prelude.{◌≡◌, Some, None, map};
 ghost use Rattle.c_syntax.specs.SyntaxView.{expression_of, item_form_of, initial_of};
 ghost use Rattle.c_tree.specs.View.{expr_of};
-ghost use Rattle.c_rules.specs.Answers.{Refuses};
+ghost use Rattle.c_rules.specs.Answers.{Gives};
 ghost use Rattle.c_rules.specs.Declarations as rules;
-ghost use Rattle.c_rules.specs.Outcome.{Is};
 ghost use Rattle.c_rules.specs.Statements as blocks;
 ghost use Rattle.c_scopes.specs.Tables.{scope_of};
 ghost use Rattle.c_objects.specs.InitialiserView.{entry_of, initialiser_of};
@@ -116,8 +115,7 @@ impl<'a> Scopes<'a> {
 
     /// A static initialiser.
     pub(crate) fn entry(&self, e: &Expr) -> Result<Entry, Refusal>
-        ensures typed { IfOk result (λ x. rules.entry (scope_of self.now) (expression_of e.now) ≡ Is (entry_of x)) }
-        ensures refused { IfErr result (Refuses (rules.entry (scope_of self.now) (expression_of e.now))) }
+        ensures gives { Gives entry_of (rules.entry (scope_of self.now) (expression_of e.now)) result }
     {
         let value = self.constant_tree(e)?;
         let initial = self.static_value(e, &value).ok_or(Refusal::Broken {
@@ -133,8 +131,7 @@ impl<'a> Scopes<'a> {
 
     /// Static initialisers, in order.
     pub(crate) fn entries(&self, list: &[Expr]) -> Result<Vec<Entry>, Refusal>
-        ensures typed { IfOk result (λ xs. rules.entries (scope_of self.now) (map expression_of list.now) ≡ Is (map entry_of xs.items)) }
-        ensures refused { IfErr result (Refuses (rules.entries (scope_of self.now) (map expression_of list.now))) }
+        ensures gives { Gives (λ xs. map entry_of xs.items) (rules.entries (scope_of self.now) (map expression_of list.now)) result }
     {
         let mut entries = Vec::with_capacity(self.alloc, list.len())?;
         for e in list {
@@ -145,8 +142,7 @@ impl<'a> Scopes<'a> {
 
     // Types the values in braces of what is no array.
     fn all_typed(&self, list: &[Expr]) -> Result<(), Refusal>
-        ensures typed { OnOk result (blocks.all_typed (scope_of self.now) (map expression_of list.now) ≡ Is blocks.Misbraced) }
-        ensures refused { IfErr result (Refuses (blocks.all_typed (scope_of self.now) (map expression_of list.now))) }
+        ensures gives { Gives (λ _. blocks.Misbraced) (blocks.all_typed (scope_of self.now) (map expression_of list.now)) result }
     {
         for e in list {
             self.expression(e)?;
@@ -156,8 +152,7 @@ impl<'a> Scopes<'a> {
 
     /// The initialiser of an object of a block. The list of an array is known before the program runs.
     pub fn initialiser(&self, kind: &ItemKind, init: &Option<Init>) -> Result<Initialiser, Refusal>
-        ensures typed { IfOk result (λ i. blocks.initialiser (scope_of self.now) (blocks.is_array (item_form_of kind.now)) (initial_of init.now) ≡ Is (initialiser_of i)) }
-        ensures refused { IfErr result (Refuses (blocks.initialiser (scope_of self.now) (blocks.is_array (item_form_of kind.now)) (initial_of init.now))) }
+        ensures gives { Gives initialiser_of (blocks.initialiser (scope_of self.now) (blocks.is_array (item_form_of kind.now)) (initial_of init.now)) result }
     {
         match (init, kind) {
             (None, _) => Ok(Initialiser::Absent),

@@ -5,29 +5,25 @@ use Rattle.std.specs.Prelude.{map}
 use Rattle.c_tree.specs.declared.enclosing.Enclosing.TheVariants as around
 use Rattle.c_rules.specs.Answers.{Refuses}
 use Rattle.c_bodies.specs.Bodies.{behind, behind_choices, choices_in, labelled_of, parts_of, statements_in}
-use Rattle.c_bodies.proofs.StatementsSoFar.{turn, ended, refused_here, block_typed, block_is_typed, block_is_refused, do_rest, else_rest, if_rest, arms_rest, while_rest, for_rest, same_typed, same_refused}
+use Rattle.c_bodies.proofs.StatementsSoFar.{turn, ended, refused_here, block_typed, block_gives, do_rest, else_rest, if_rest, arms_rest, while_rest, for_rest, same_gives}
 use Rattle.c_bodies.proofs.ChoicesSoFar.{none_behind, turn as choice_turn, ended as choices_ended}
-use Rattle.c_bodies.proofs.SwitchLemmas.{label_typed, switch_is_typed, switch_is_refused, refused_here as choice_refused, switch_rest, with_locals_typed, with_locals_refused}
+use Rattle.c_bodies.proofs.SwitchLemmas.{label_typed, switch_gives, refused_here as choice_refused, switch_rest, with_locals_give}
 use Rattle.c_bodies.proofs.blocks.Body.+statements.Goals as goal
 
-pub block_here-returns-clause-typed : goal.block_here-returns-clause-typed
-block_here-returns-clause-typed t c =
+pub block_here-returns-clause-gives : goal.block_here-returns-clause-gives
+block_here-returns-clause-gives t c =
     block_typed c.args.self.now c.declarations.new.self c.statements.new.self (record { declared = c.new.result; statements = c.new-2.result }) c.in_ok-opening.opening c.in_ok-body.body c.args.enclosing (map declaration_of c.args.declarations.now) (body_of c.args.statements.now)
-    c.new.ensures.items c.new-2.ensures.items c.in_ok-opening.ensures.returned c.in_ok-opening.ensures.typed c.in_ok-body.ensures.typed
+    c.new.ensures.items c.new-2.ensures.items c.in_ok-opening.ensures.returned c.in_ok-opening.ensures.gives c.in_ok-body.ensures.typed
 
-pub statement-returns-in-Block-clause-typed : goal.statement-returns-in-Block-clause-typed
-statement-returns-in-Block-clause-typed t c =
-    block_is_typed c.args.self.now c.block.new.self c.args.enclosing c.block.result c.args.s.now c.in-Block.declarations c.in-Block.statements c.deref.result.now c.deref-in-Block.result.now (search rules) (search rules) (search rules) c.block.ensures.typed
-
-pub statement-returns-in-Block-clause-refused : goal.statement-returns-in-Block-clause-refused
-statement-returns-in-Block-clause-refused t c =
-    block_is_refused c.args.self.now c.args.enclosing c.block.result c.args.s.now c.in-Block.declarations c.in-Block.statements c.deref.result.now c.deref-in-Block.result.now (search rules) (search rules) (search rules) c.block.ensures.refused
+pub statement-returns-in-Block-clause-gives : goal.statement-returns-in-Block-clause-gives
+statement-returns-in-Block-clause-gives t c =
+    block_gives c.args.self.now c.block.new.self c.args.enclosing c.block.result c.args.s.now c.in-Block.declarations c.in-Block.statements c.deref.result.now c.deref-in-Block.result.now (search rules) (search rules) (search rules) c.block.ensures.gives
 
 pub statements-loop-s-preserved : goal.statements-loop-s-preserved
 statements-loop-s-preserved t c = record {
   typed = c.loop-s.invariant.typed
       ∙ turn c.loop-s.self c.statement.new.self c.in_ok-statement.ensures.tables c.in_ok-statement.ensures.bodies c.in_ok-statement.ensures.returned
-      c.args.enclosing c.args.list.now c.loop-s.s-index c.s-item.result c.loop-s.into.items c.in_ok-statement.field-0 c.s-item.is c.loop-s-test.true c.in_ok-statement.ensures.typed
+      c.args.enclosing c.args.list.now c.loop-s.s-index c.s-item.result c.loop-s.into.items c.in_ok-statement.field-0 c.s-item.is c.loop-s-test.true c.in_ok-statement.ensures.gives
       ∙ ap (λ l. behind l (statements_in c.statement.new.self c.args.enclosing (body_of (drop (c.loop-s.s-index + 1) c.args.list.now)))) (sym c.in_ok-push.ensures.items);
   tables = c.in_ok-statement.ensures.tables ∙ c.loop-s.invariant.tables;
   bodies = c.in_ok-statement.ensures.bodies ∙ c.loop-s.invariant.bodies;
@@ -41,88 +37,48 @@ statements-returns-clause-typed t c =
 pub statements-returns-in_err-statement-clause-refused : goal.statements-returns-in_err-statement-clause-refused
 statements-returns-in_err-statement-clause-refused t c =
     let h : Refuses (statements_in c.args.self.now c.args.enclosing (body_of c.args.list.now)) c.in_err-statement.field-0.0 =
-    refused_here (statements_in c.args.self.now c.args.enclosing (body_of c.args.list.now)) c.loop-s.self c.args.enclosing c.args.list.now c.loop-s.s-index c.s-item.result c.args.into.items c.loop-s.into.items c.in_err-statement.field-0.0 c.s-item.is c.loop-s-test.true c.loop-s.invariant.typed c.in_err-statement.ensures.refused in
+    refused_here (statements_in c.args.self.now c.args.enclosing (body_of c.args.list.now)) c.loop-s.self c.args.enclosing c.args.list.now c.loop-s.s-index c.s-item.result c.args.into.items c.loop-s.into.items c.in_err-statement.field-0.0 c.s-item.is c.loop-s-test.true c.loop-s.invariant.typed c.in_err-statement.ensures.gives in
     search (rules, h)
 
-pub do_loop-returns-clause-typed : goal.do_loop-returns-clause-typed
-do_loop-returns-clause-typed t c =
-    same_typed _ _ c.inner.new.self c.do_test.result
-    (do_rest c.args.self.now c.inner.new.self c.in_ok-body.ensures.tables c.in_ok-body.ensures.bodies around.Loop (statement_of c.args.body.now.kind c.args.body.now.at) (expression_of c.args.test.now) c.args.at (stmt_of c.in_ok-body.body.value) c.in_ok-body.ensures.typed)
-    c.do_test.ensures.typed
+pub do_loop-returns-clause-gives : goal.do_loop-returns-clause-gives
+do_loop-returns-clause-gives t c =
+    same_gives _ _ c.inner.new.self c.do_test.result
+    (do_rest c.args.self.now c.inner.new.self c.in_ok-body.ensures.tables c.in_ok-body.ensures.bodies around.Loop (statement_of c.args.body.now.kind c.args.body.now.at) (expression_of c.args.test.now) c.args.at (stmt_of c.in_ok-body.body.value) c.in_ok-body.ensures.gives)
+    c.do_test.ensures.gives
 
-pub do_loop-returns-clause-refused : goal.do_loop-returns-clause-refused
-do_loop-returns-clause-refused t c =
-    same_refused _ _ c.do_test.result
-    (do_rest c.args.self.now c.inner.new.self c.in_ok-body.ensures.tables c.in_ok-body.ensures.bodies around.Loop (statement_of c.args.body.now.kind c.args.body.now.at) (expression_of c.args.test.now) c.args.at (stmt_of c.in_ok-body.body.value) c.in_ok-body.ensures.typed)
-    c.do_test.ensures.refused
+pub either-returns-clause-gives : goal.either-returns-clause-gives
+either-returns-clause-gives t c =
+    same_gives _ _ c.otherwise.new.self c.otherwise.result
+    (else_rest c.args.self.now c.inner.new.self c.in_ok-yes.ensures.tables c.in_ok-yes.ensures.bodies c.in_ok-yes.ensures.returned c.args.enclosing (expression_of c.args.test.now) (statement_of c.args.yes.now.kind c.args.yes.now.at) (statement_of c.args.no.now.kind c.args.no.now.at) c.args.at (expr_of c.in_ok-test.test) (stmt_of c.in_ok-yes.yes.value) c.in_ok-test.ensures.gives c.in_ok-yes.ensures.gives)
+    c.otherwise.ensures.gives
 
-pub either-returns-clause-typed : goal.either-returns-clause-typed
-either-returns-clause-typed t c =
-    same_typed _ _ c.otherwise.new.self c.otherwise.result
-    (else_rest c.args.self.now c.inner.new.self c.in_ok-yes.ensures.tables c.in_ok-yes.ensures.bodies c.in_ok-yes.ensures.returned c.args.enclosing (expression_of c.args.test.now) (statement_of c.args.yes.now.kind c.args.yes.now.at) (statement_of c.args.no.now.kind c.args.no.now.at) c.args.at (expr_of c.in_ok-test.test) (stmt_of c.in_ok-yes.yes.value) c.in_ok-test.ensures.typed c.in_ok-yes.ensures.typed)
-    c.otherwise.ensures.typed
+pub choice-returns-clause-gives : goal.choice-returns-clause-gives
+choice-returns-clause-gives t c =
+    same_gives _ _ c.inner.new.self c.one_armed.result
+    (if_rest c.args.self.now c.inner.new.self c.args.enclosing (expression_of c.args.test.now) (statement_of c.args.yes.now.kind c.args.yes.now.at) c.args.at (expr_of c.in_ok-test.test) (stmt_of c.in_ok-yes.yes.value) c.in_ok-test.ensures.gives c.in_ok-yes.ensures.gives)
+    c.one_armed.ensures.gives
 
-pub either-returns-clause-refused : goal.either-returns-clause-refused
-either-returns-clause-refused t c =
-    same_refused _ _ c.otherwise.result
-    (else_rest c.args.self.now c.inner.new.self c.in_ok-yes.ensures.tables c.in_ok-yes.ensures.bodies c.in_ok-yes.ensures.returned c.args.enclosing (expression_of c.args.test.now) (statement_of c.args.yes.now.kind c.args.yes.now.at) (statement_of c.args.no.now.kind c.args.no.now.at) c.args.at (expr_of c.in_ok-test.test) (stmt_of c.in_ok-yes.yes.value) c.in_ok-test.ensures.typed c.in_ok-yes.ensures.typed)
-    c.otherwise.ensures.refused
+pub otherwise-returns-clause-gives : goal.otherwise-returns-clause-gives
+otherwise-returns-clause-gives t c =
+    same_gives _ _ c.inner.new.self c.two_armed.result
+    (arms_rest c.args.self.now c.inner.new.self c.args.enclosing (statement_of c.args.no.now.kind c.args.no.now.at) c.args.at (expr_of c.args.test) (stmt_of c.args.yes.value) (stmt_of c.in_ok-no.no.value) c.in_ok-no.ensures.gives)
+    c.two_armed.ensures.gives
 
-pub choice-returns-clause-typed : goal.choice-returns-clause-typed
-choice-returns-clause-typed t c =
-    same_typed _ _ c.inner.new.self c.one_armed.result
-    (if_rest c.args.self.now c.inner.new.self c.args.enclosing (expression_of c.args.test.now) (statement_of c.args.yes.now.kind c.args.yes.now.at) c.args.at (expr_of c.in_ok-test.test) (stmt_of c.in_ok-yes.yes.value) c.in_ok-test.ensures.typed c.in_ok-yes.ensures.typed)
-    c.one_armed.ensures.typed
+pub while_loop-returns-clause-gives : goal.while_loop-returns-clause-gives
+while_loop-returns-clause-gives t c =
+    same_gives _ _ c.inner.new.self c.while_over.result
+    (while_rest c.args.self.now c.inner.new.self around.Loop (expression_of c.args.test.now) (statement_of c.args.body.now.kind c.args.body.now.at) c.args.at (expr_of c.in_ok-test.test) (stmt_of c.in_ok-body.body.value) c.in_ok-test.ensures.gives c.in_ok-body.ensures.gives)
+    c.while_over.ensures.gives
 
-pub choice-returns-clause-refused : goal.choice-returns-clause-refused
-choice-returns-clause-refused t c =
-    same_refused _ _ c.one_armed.result
-    (if_rest c.args.self.now c.inner.new.self c.args.enclosing (expression_of c.args.test.now) (statement_of c.args.yes.now.kind c.args.yes.now.at) c.args.at (expr_of c.in_ok-test.test) (stmt_of c.in_ok-yes.yes.value) c.in_ok-test.ensures.typed c.in_ok-yes.ensures.typed)
-    c.one_armed.ensures.refused
+pub for_loop-returns-clause-gives : goal.for_loop-returns-clause-gives
+for_loop-returns-clause-gives t c =
+    same_gives _ _ c.inner.new.self c.for_over.result
+    (for_rest c.args.self.now c.inner.new.self around.Loop (optional_of c.args.first.now) (optional_of c.args.test.now) (optional_of c.args.third.now) (statement_of c.args.body.now.kind c.args.body.now.at) c.args.at (record { first = c.in_ok-first.first; test = c.in_ok-test.test; third = c.in_ok-third.third }) (stmt_of c.in_ok-body.body.value) c.in_ok-first.ensures.gives c.in_ok-test.ensures.gives c.in_ok-third.ensures.gives c.in_ok-body.ensures.gives)
+    c.for_over.ensures.gives
 
-pub otherwise-returns-clause-typed : goal.otherwise-returns-clause-typed
-otherwise-returns-clause-typed t c =
-    same_typed _ _ c.inner.new.self c.two_armed.result
-    (arms_rest c.args.self.now c.inner.new.self c.args.enclosing (statement_of c.args.no.now.kind c.args.no.now.at) c.args.at (expr_of c.args.test) (stmt_of c.args.yes.value) (stmt_of c.in_ok-no.no.value) c.in_ok-no.ensures.typed)
-    c.two_armed.ensures.typed
-
-pub otherwise-returns-clause-refused : goal.otherwise-returns-clause-refused
-otherwise-returns-clause-refused t c =
-    same_refused _ _ c.two_armed.result
-    (arms_rest c.args.self.now c.inner.new.self c.args.enclosing (statement_of c.args.no.now.kind c.args.no.now.at) c.args.at (expr_of c.args.test) (stmt_of c.args.yes.value) (stmt_of c.in_ok-no.no.value) c.in_ok-no.ensures.typed)
-    c.two_armed.ensures.refused
-
-pub while_loop-returns-clause-typed : goal.while_loop-returns-clause-typed
-while_loop-returns-clause-typed t c =
-    same_typed _ _ c.inner.new.self c.while_over.result
-    (while_rest c.args.self.now c.inner.new.self around.Loop (expression_of c.args.test.now) (statement_of c.args.body.now.kind c.args.body.now.at) c.args.at (expr_of c.in_ok-test.test) (stmt_of c.in_ok-body.body.value) c.in_ok-test.ensures.typed c.in_ok-body.ensures.typed)
-    c.while_over.ensures.typed
-
-pub while_loop-returns-clause-refused : goal.while_loop-returns-clause-refused
-while_loop-returns-clause-refused t c =
-    same_refused _ _ c.while_over.result
-    (while_rest c.args.self.now c.inner.new.self around.Loop (expression_of c.args.test.now) (statement_of c.args.body.now.kind c.args.body.now.at) c.args.at (expr_of c.in_ok-test.test) (stmt_of c.in_ok-body.body.value) c.in_ok-test.ensures.typed c.in_ok-body.ensures.typed)
-    c.while_over.ensures.refused
-
-pub for_loop-returns-clause-typed : goal.for_loop-returns-clause-typed
-for_loop-returns-clause-typed t c =
-    same_typed _ _ c.inner.new.self c.for_over.result
-    (for_rest c.args.self.now c.inner.new.self around.Loop (optional_of c.args.first.now) (optional_of c.args.test.now) (optional_of c.args.third.now) (statement_of c.args.body.now.kind c.args.body.now.at) c.args.at (record { first = c.in_ok-first.first; test = c.in_ok-test.test; third = c.in_ok-third.third }) (stmt_of c.in_ok-body.body.value) c.in_ok-first.ensures.typed c.in_ok-test.ensures.typed c.in_ok-third.ensures.typed c.in_ok-body.ensures.typed)
-    c.for_over.ensures.typed
-
-pub for_loop-returns-clause-refused : goal.for_loop-returns-clause-refused
-for_loop-returns-clause-refused t c =
-    same_refused _ _ c.for_over.result
-    (for_rest c.args.self.now c.inner.new.self around.Loop (optional_of c.args.first.now) (optional_of c.args.test.now) (optional_of c.args.third.now) (statement_of c.args.body.now.kind c.args.body.now.at) c.args.at (record { first = c.in_ok-first.first; test = c.in_ok-test.test; third = c.in_ok-third.third }) (stmt_of c.in_ok-body.body.value) c.in_ok-first.ensures.typed c.in_ok-test.ensures.typed c.in_ok-third.ensures.typed c.in_ok-body.ensures.typed)
-    c.for_over.ensures.refused
-
-pub statement-returns-in-Switch-clause-typed : goal.statement-returns-in-Switch-clause-typed
-statement-returns-in-Switch-clause-typed t c =
-    switch_is_typed c.args.self.now c.switch.new.self c.args.enclosing c.switch.result c.args.s.now c.in-Switch.value c.in-Switch.parts c.in-Switch.parts_at c.deref-in-Switch.result.now (search rules) (search rules) c.switch.ensures.typed
-
-pub statement-returns-in-Switch-clause-refused : goal.statement-returns-in-Switch-clause-refused
-statement-returns-in-Switch-clause-refused t c =
-    switch_is_refused c.args.self.now c.args.enclosing c.switch.result c.args.s.now c.in-Switch.value c.in-Switch.parts c.in-Switch.parts_at c.deref-in-Switch.result.now (search rules) (search rules) c.switch.ensures.refused
+pub statement-returns-in-Switch-clause-gives : goal.statement-returns-in-Switch-clause-gives
+statement-returns-in-Switch-clause-gives t c =
+    switch_gives c.args.self.now c.switch.new.self c.args.enclosing c.switch.result c.args.s.now c.in-Switch.value c.in-Switch.parts c.in-Switch.parts_at c.deref-in-Switch.result.now (search rules) (search rules) c.switch.ensures.gives
 
 pub choices-loop-part-init : goal.choices-loop-part-init
 choices-loop-part-init t c = record {
@@ -144,29 +100,23 @@ choices-loop-part-preserved t c = record {
   returned = c.in_ok-found.ensures.returned ∙ c.loop-part.invariant.returned;
 }
 
-pub choices-returns-clause-typed : goal.choices-returns-clause-typed
-choices-returns-clause-typed t c =
+pub choices-returns-clause-gives : goal.choices-returns-clause-gives
+choices-returns-clause-gives t c =
     c.loop-part.invariant.typed ∙ choices_ended c.loop-part.self c.args.enclosing c.args.parts.now c.loop-part.part-index c.loop-part.labelled.choices.items c.loop-part.labelled.pointer c.loop-part-test.false
 
-pub choices-returns-in_err-found-clause-refused : goal.choices-returns-in_err-found-clause-refused
-choices-returns-in_err-found-clause-refused t c =
+pub choices-returns-in_err-found-clause-gives : goal.choices-returns-in_err-found-clause-gives
+choices-returns-in_err-found-clause-gives t c =
     let h : Refuses (choices_in c.args.self.now c.args.enclosing (parts_of c.args.parts.now)) c.in_err-found.field-0.0 =
     choice_refused (choices_in c.args.self.now c.args.enclosing (parts_of c.args.parts.now)) c.loop-part.self c.args.enclosing c.args.parts.now c.loop-part.part-index c.part-item.result c.loop-part.labelled.choices.items c.loop-part.labelled.pointer c.in_err-found.field-0.0 c.part-item.is c.loop-part-test.true c.loop-part.invariant.typed c.in_err-found.ensures.refused in
     search (rules, h)
 
-pub switch-returns-clause-typed : goal.switch-returns-clause-typed
-switch-returns-clause-typed t c =
-    with_locals_typed _ c.choices.new.self _ c.switched.result
-    (switch_rest c.args.self.now c.choices.new.self c.args.enclosing (expression_of c.args.value.now) (parts_of c.args.parts.now) c.args.place c.args.at (expr_of c.in_ok-value.value) (labelled_of c.in_ok-labelled.labelled) c.in_ok-value.ensures.typed (rw c.in_switch.ensures at c.in_ok-labelled.ensures.typed))
-    c.switched.ensures.typed
-
-pub switch-returns-clause-refused : goal.switch-returns-clause-refused
-switch-returns-clause-refused t c =
-    with_locals_refused _ c.choices.new.self _ c.switched.result
-    (switch_rest c.args.self.now c.choices.new.self c.args.enclosing (expression_of c.args.value.now) (parts_of c.args.parts.now) c.args.place c.args.at (expr_of c.in_ok-value.value) (labelled_of c.in_ok-labelled.labelled) c.in_ok-value.ensures.typed (rw c.in_switch.ensures at c.in_ok-labelled.ensures.typed))
-    c.switched.ensures.refused
+pub switch-returns-clause-gives : goal.switch-returns-clause-gives
+switch-returns-clause-gives t c =
+    with_locals_give _ c.choices.new.self _ c.switched.result
+    (switch_rest c.args.self.now c.choices.new.self c.args.enclosing (expression_of c.args.value.now) (parts_of c.args.parts.now) c.args.place c.args.at (expr_of c.in_ok-value.value) (labelled_of c.in_ok-labelled.labelled) c.in_ok-value.ensures.gives (rw c.in_switch.ensures at c.in_ok-labelled.ensures.gives))
+    c.switched.ensures.gives
 
 pub label_or_body-returns-in_ok-word-in-Case-clause-typed : goal.label_or_body-returns-in_ok-word-in-Case-clause-typed
 label_or_body-returns-in_ok-word-in-Case-clause-typed t c =
     label_typed c.args.self.now c.args.enclosing c.args.part.now c.in-Case.label (expr_of c.in_ok-value-in-Case.value) c.in_ok-word-in-Case.word c.points.result
-    c.in-Case.is c.in_ok-value-in-Case.ensures.typed c.in_ok-word-in-Case.ensures.word c.points.ensures
+    c.in-Case.is c.in_ok-value-in-Case.ensures.gives c.in_ok-word-in-Case.ensures.gives c.points.ensures

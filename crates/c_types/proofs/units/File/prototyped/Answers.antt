@@ -12,17 +12,17 @@ use Rattle.c_types.proofs.UnitLemmas.{starts_refused, redeclared_refused, declar
 use Rattle.c_types.proofs.units.File.prototyped.Goals.{then-not-allowed-via-then-not-allowed, then-not-allowed-via-else-not-allowed+then-is_twice}
 use Rattle.c_types.proofs.units.File.prototyped.Goals as goal
 
-pub returns-in_err-starts-clause-refused : goal.returns-in_err-starts-clause-refused
-returns-in_err-starts-clause-refused c =
+pub returns-in_err-starts-clause-gives : goal.returns-in_err-starts-clause-gives
+returns-in_err-starts-clause-gives c =
     let f = file_of c.args.self.now in
     let h : Refuses (item_as f (declares.Function c.args.function) (item_of c.args.item.now)) c.in_err-starts.field-0.0 =
     starts_refused f (item_of c.args.item.now) (declares.Function c.args.function) (scope_of c.declare_function.new.self) c.as_str.result.now (length f.statics) c.in_ok-allowed.allowed c.is_twice-is_twice.result
     c.as_str.ensures refl c.in_ok-allowed.ensures.declared c.in_ok-allowed.ensures.allowed c.is_twice-is_twice.ensures
-    c.in_err-starts.field-0.0 c.in_err-starts.ensures.refused in
+    c.in_err-starts.field-0.0 c.in_err-starts.ensures.gives in
     search (rules, h)
 
-pub returns-then-not-allowed-clause-refused : goal.returns-then-not-allowed-clause-refused
-returns-then-not-allowed-clause-refused c =
+pub returns-then-not-allowed-clause-gives : goal.returns-then-not-allowed-clause-gives
+returns-then-not-allowed-clause-gives c =
     let f = file_of c.args.self.now in
     let allowed = c.in_ok-allowed.allowed in
     let twice = c.is_twice-is_twice.result in
@@ -32,24 +32,24 @@ returns-then-not-allowed-clause-refused c =
     ] in
     redeclared_refused f (item_of c.args.item.now) (declares.Function c.args.function) (scope_of c.declare_function.new.self) c.as_str.result.now (length f.statics) allowed twice
     c.as_str.ensures refl c.in_ok-allowed.ensures.declared c.in_ok-allowed.ensures.allowed c.is_twice-is_twice.ensures
-    (starts_of c.in_ok-starts.field-0) c.in_ok-starts.ensures.typed c.redeclared.result broken c.redeclared.ensures
+    (starts_of c.in_ok-starts.field-0) c.in_ok-starts.ensures.gives c.redeclared.result broken c.redeclared.ensures
 
-pub returns-then-is_some-clause-refused : goal.returns-then-is_some-clause-refused
-returns-then-is_some-clause-refused c =
+pub returns-then-is_some-clause-gives : goal.returns-then-is_some-clause-gives
+returns-then-is_some-clause-gives c =
     let f = file_of c.args.self.now in
     let allowed = c.in_ok-allowed.allowed in
     let twice = c.is_twice-is_twice.result in
     declared_refused f (item_of c.args.item.now) (declares.Function c.args.function) (scope_of c.declare_function.new.self) c.as_str.result.now (length f.statics) allowed twice
     c.as_str.ensures refl c.in_ok-allowed.ensures.declared c.in_ok-allowed.ensures.allowed c.is_twice-is_twice.ensures
-    (starts_of c.in_ok-starts.field-0) c.in_ok-starts.ensures.typed c.mismatch.result (allowed_once allowed twice c.if-not-allowed.false c.if-is_twice.false)
+    (starts_of c.in_ok-starts.field-0) c.in_ok-starts.ensures.gives c.mismatch.result (allowed_once allowed twice c.if-not-allowed.false c.if-is_twice.false)
     (breaks_mismatch _ _ _ _ (initial_given c.args.item.now.init c.is_some.result c.is_some.ensures ∙ c.if-is_some.true) c.mismatch.ensures)
 
-pub returns-clause-typed : goal.returns-clause-typed
-returns-clause-typed c =
+pub returns-clause-gives : goal.returns-clause-gives
+returns-clause-gives c =
     let f = file_of c.args.self.now in
     let allowed = c.in_ok-allowed.allowed in
     let twice = c.is_twice-is_twice.result in
     declared_item f (item_of c.args.item.now) (declares.Function c.args.function) (scope_of c.declare_function.new.self) c.as_str.result.now (length f.statics) allowed twice
     c.as_str.ensures refl c.in_ok-allowed.ensures.declared c.in_ok-allowed.ensures.allowed c.is_twice-is_twice.ensures
-    (starts_of c.in_ok-starts.field-0) c.in_ok-starts.ensures.typed (allowed_once allowed twice c.if-not-allowed.false c.if-is_twice.false)
+    (starts_of c.in_ok-starts.field-0) c.in_ok-starts.ensures.gives (allowed_once allowed twice c.if-not-allowed.false c.if-is_twice.false)
     ∙ ap (λ b. breaks b Mismatch c.args.item.now.at (Is (file_of (record { scopes = c.declare_function.new.self; statics = c.args.self.now.statics; functions = c.args.self.now.functions })))) (initial_given c.args.item.now.init c.is_some.result c.is_some.ensures ∙ c.if-is_some.false)
