@@ -11,3 +11,4 @@ pub mod FollowLemmas
 pub mod SearchLemmas
 pub mod CalleeLemmas
 pub mod ChainLemmas
+pub mod WholeLemmas

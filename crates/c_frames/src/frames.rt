@@ -16,14 +16,14 @@ const MOST_SCALARS: u32 = MOST_FRAME_SCALARS as u32;
 
 /// What each object of a function stands for.
 #[derive(Drop)]
-pub enum Frame {
+pub(crate) enum Frame {
     Known(Vec<VarRef>),
     /// The function has so many frame scalars, which are too many.
     TooMany(u32),
 }
 
 /// What the objects of a function stand for, in order of declaration.
-pub fn frame_of(alloc: Global, uses: &[Use], locals: &[Local]) -> Result<Frame, NoMemory>
+pub(crate) fn frame_of(alloc: Global, uses: &[Use], locals: &[Local]) -> Result<Frame, NoMemory>
     ensures { IfOk result (IsFrame (references uses.now (map local_tree_of locals.now))) }
 {
     let pointed = pointed_by(alloc, uses, locals.len())?;

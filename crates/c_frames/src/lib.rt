@@ -1,7 +1,7 @@
-//! What is known of typed functions once all of a source is typed: ISO 9899:1990 6.7, and the limits of docs/LANGUAGE.md, "Types".
+//! What is wanted of typed functions once all of a source is typed: ISO 9899:1990 6.7, and the limits of docs/LANGUAGE.md, "Types".
 //!
-//! What their statements use and how many temporaries they need, which of their objects are frame scalars, and which function is
-//! the first that reaches itself by calls.
+//! What their statements use and how many temporaries they need, which of their objects are frame scalars, which function is the
+//! first that reaches itself by calls, and what of all that the whole source lacks or has too much of.
 #![tactic(auto)]
 
 mod calls;
@@ -12,9 +12,7 @@ mod recursion;
 mod renumber;
 mod temporaries;
 mod uses;
+mod whole;
 
-pub use frames::{Frame, frame_of};
 pub use functions::{TypedFunction, function_of};
-pub use recursion::{first_round, names_of};
-pub use temporaries::temporaries_of;
-pub use uses::uses_of;
+pub use whole::frames_of;

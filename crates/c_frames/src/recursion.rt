@@ -35,7 +35,7 @@ struct Search {
 
 /// The numbers of the first function that reaches itself by calls, of those on the first of its ways round, and of itself again.
 /// None, where no function reaches itself. Each function that is called is among those whose uses are given.
-pub fn first_round(alloc: Global, uses: &[Vec<Use>]) -> Result<Option<Vec<usize>>, NoMemory>
+pub(crate) fn first_round(alloc: Global, uses: &[Vec<Use>]) -> Result<Option<Vec<usize>>, NoMemory>
     requires { (n m : ℕ) → CallsAmong (map called (map vec_items uses.now)) n m → m < length uses.now }
     ensures { IfOk result (λ found. MatchOption found (HasNoRound (CallsAmong (map called (map vec_items uses.now)))) (λ numbers. IsFirstChain (CallsAmong (map called (map vec_items uses.now))) numbers.items)) }
 {
@@ -54,7 +54,7 @@ pub fn first_round(alloc: Global, uses: &[Vec<Use>]) -> Result<Option<Vec<usize>
 }
 
 /// The names of functions, by their numbers. Each number is that of a function.
-pub fn names_of(
+pub(crate) fn names_of(
     alloc: Global,
     functions: &[TypedFunction],
     numbers: &[usize],

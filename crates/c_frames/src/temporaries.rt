@@ -13,7 +13,7 @@ use c_tree::{Choice, ExprForm, Target, TargetForm, TypedExpr, TypedStmt};
 use word_base::NoMemory;
 
 /// The number of temporaries of a statement.
-pub fn temporaries_of(s: &TypedStmt) -> Result<u32, NoMemory>
+pub(crate) fn temporaries_of(s: &TypedStmt) -> Result<u32, NoMemory>
     ensures { IfOk result (λ n. n ≡ counts.statement_temporaries (stmt_of s.now)) }
 {
     statement(s)

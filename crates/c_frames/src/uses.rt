@@ -187,7 +187,7 @@ fn cases_in(choice: &Choice) -> usize
 }
 
 /// The uses of a statement.
-pub fn uses_of(alloc: Global, s: &TypedStmt) -> Result<Vec<Use>, NoMemory>
+pub(crate) fn uses_of(alloc: Global, s: &TypedStmt) -> Result<Vec<Use>, NoMemory>
     ensures { IfOk result (λ found. found.items ≡ uses.statement_uses (stmt_of s.now)) }
 {
     let mut found = Uses {

@@ -1,3 +1,2 @@
 pub mod UnitLemmas
 pub mod ProgramLemmas
-pub mod WholeLemmas

@@ -1,7 +1,6 @@
 -- The typed program of a source, and what its faults say.
 use Rattle.std.proofs.Common.{◌≡◌, ℕ, ◌++◌, ◌∷◌, [], List, map, ap, ◌∙◌, sym, refl, subst, append-nil}
-use Rattle.std.specs.Prelude.{Vec, Result, Ok, Err, IfErr, All}
-use Rattle.std.specs.Result.{IsErrAnd}
+use Rattle.std.specs.Prelude.{Vec, All}
 use Rattle.std.specs.Global.{Global}
 use Rattle.c_tree.specs.declared.program.VarRef.{VarRef}
 use Rattle.c_syntax.specs.declared.unit.External.{External}
@@ -25,8 +24,8 @@ use Rattle.c_rules.proofs.Walked.SourceWalked.{walk_finds}
 use Rattle.c_rules.specs.Outcome.{Is}
 use Rattle.c_rules.specs.Programs.{frame, function_tree, functions_with, program_tree, static_object}
 use Rattle.c_rules.specs.Units.{TypedFunction, File, typed_unit}
-use Rattle.c_frames.specs.FunctionView.{typed_function_of}
-use Rattle.c_types.specs.View.{static_tree_of, file_of, frame_lists, made_of}
+use Rattle.c_frames.specs.FunctionView.{frame_lists, typed_function_of}
+use Rattle.c_types.specs.View.{static_tree_of, file_of, made_of}
 use Rattle.word_base.specs.Name.{IsName}
 use Rattle.c_syntax.specs.Counts.{IsWithinLimits}
 use Rattle.c_syntax.specs.FunctionNames.{function_names}
@@ -105,11 +104,6 @@ pub all_functions : {made : List FunctionTree} (frames : List (List VarRef)) {le
     → made ++ functions_with frames (map typed_function_of left) ≡ whole → made ≡ whole
 all_functions {made = made} frames ended so_far =
     sym (append-nil made) ∙ ap (λ l. made ++ l) (sym (no_functions frames)) ∙ ap (λ l. made ++ functions_with frames (map typed_function_of l)) (sym ended) ∙ so_far
-
--- what is known of the fault that a result holds
-pub fault_says : {A : Type 0} (P : TypeFault → Type 0) → (f : TypeFault) (result : Result A TypeFault) → IsErrAnd result (λ e. e ≡ f) → P f → IfErr result P
-fault_says P f (Ok a) given known = absurd given
-fault_says P f (Err e) given known = subst P (sym given) known
 
 -- where the externals and the functions are lent meanwhile
 pub made_is_formed : (unit : List External) {externals : List External} (file : files.File) {functions : List memory.TypedFunction} (frames : List (Vec VarRef Global)) {contents : Contents}

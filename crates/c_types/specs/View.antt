@@ -8,7 +8,7 @@ use Rattle.c_objects.specs.declared.first_values.Initialiser.TheVariants as init
 use Rattle.c_types.specs.declared.units.Static as statics
 use Rattle.c_types.specs.declared.units.File as files
 use Rattle.c_types.specs.declared.units.Contents.{Contents}
-use Rattle.c_frames.specs.FunctionView.{typed_function_of}
+use Rattle.c_frames.specs.FunctionView.{frame_lists, typed_function_of}
 use Rattle.c_scopes.specs.Tables.{scope_of}
 use Rattle.c_rules.specs.Programs.{static_object, functions_with}
 use Rattle.c_rules.specs.Units.{StaticTree, File}
@@ -22,10 +22,6 @@ file_of f = record {
   statics = map static_tree_of f.statics.items;
   functions = map typed_function_of f.functions.items;
 }
-
--- what the objects of each function stand for
-abbrev pub frame_lists : List (Vec VarRef Global) → List (List VarRef)
-frame_lists frames = map (λ v. v.items) frames
 
 -- the program of a file whose functions' objects stand for these
 abbrev pub made_of : List (Vec VarRef Global) → Contents → ProgramTree

@@ -1,12 +1,11 @@
 //! The types of a C source: from its tree to the typed program (docs/LANGUAGE.md, "Types").
 //!
-//! The rules and their laws stand in `c_rules`. Here are the parts of file scope, what is wanted of a whole source, and the check.
+//! The rules and their laws stand in `c_rules`. Here are the parts of file scope and the check.
 #![tactic(auto)]
 
 mod laws;
 mod program;
 mod units;
-mod whole;
 
 pub use c_rules::{LimitName, TypeFault};
 pub use laws::{one_fault, one_typed_program, typed_is_accepted, typed_is_well_formed};

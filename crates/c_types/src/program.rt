@@ -9,12 +9,11 @@ ghost use Rattle.c_tree.specs.WellFormedProgram.{IsProgram};
 ghost use Rattle.c_rules.specs.Checked.{IsTyped};
 ghost use Rattle.c_rules.specs.Faults.{Says};
 ghost use Rattle.c_rules.specs.Programs.{functions_with, static_object};
-ghost use Rattle.c_frames.specs.FunctionView.{typed_function_of};
-ghost use Rattle.c_types.specs.View.{static_tree_of, frame_lists, made_of};
+ghost use Rattle.c_frames.specs.FunctionView.{frame_lists, typed_function_of};
+ghost use Rattle.c_types.specs.View.{static_tree_of, made_of};
 
 use crate::units::{Contents, File, Static};
-use crate::whole::frames_of;
-use c_frames::{TypedFunction, function_of};
+use c_frames::{TypedFunction, frames_of, function_of};
 use c_rules::{ObjectType, TypeFault};
 use c_syntax::Unit;
 use c_tree::{Function, Object, Program, VarRef};

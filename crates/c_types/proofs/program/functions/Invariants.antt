@@ -3,7 +3,7 @@ use Rattle.std.specs.Vec.Iter.{into_iter_items}
 use Rattle.c_tree.specs.View.{function_of}
 use Rattle.c_rules.specs.Programs.{functions_with}
 use Rattle.c_frames.specs.FunctionView.{typed_function_of}
-use Rattle.c_types.specs.View.{frame_lists}
+use Rattle.c_frames.specs.FunctionView.{frame_lists}
 use Rattle.c_types.proofs.program.functions.Given as goal
 
 abbrev pub invariant-loop-f : goal.invariant-loop-f

@@ -9,12 +9,15 @@ ghost use Rattle.c_rules.specs.Programs.{frame_scalars};
 ghost use Rattle.c_rules.specs.Programs as programs;
 ghost use Rattle.c_rules.specs.Programs.{frame, HasBodies, HasNoCycle};
 ghost use Rattle.c_tree.specs.Uses.{statement_uses};
-ghost use Rattle.c_frames.specs.FunctionView.{typed_function_of};
-ghost use Rattle.c_types.specs.View.{frame_lists};
+ghost use Rattle.c_frames.specs.FunctionView.{frame_lists, typed_function_of};
 ghost use Rattle.c_rules.specs.Whole as wanted;
 ghost use Rattle.c_rules.specs.Whole.{IsOver, passed, frame_size, first_above};
 
-use c_frames::{Frame, TypedFunction, first_round, frame_of, names_of, temporaries_of, uses_of};
+use crate::frames::{Frame, frame_of};
+use crate::functions::TypedFunction;
+use crate::recursion::{first_round, names_of};
+use crate::temporaries::temporaries_of;
+use crate::uses::uses_of;
 use c_operands::{INT, same_kind};
 use c_rules::{LimitName, TypeFault};
 use c_tree::{MOST_CASES, MOST_FRAME_SCALARS, MOST_FUNCTIONS, MOST_PARAMETERS, Use, VarRef};
@@ -23,8 +26,9 @@ use word_base::NoMemory;
 
 /// The greatest number of frame scalars of a function, its temporaries counted.
 const MOST_SCALARS: u32 = MOST_FRAME_SCALARS as u32;
+
 /// What the objects of each function stand for, where what is wanted of the whole source holds.
-pub(crate) fn frames_of(
+pub fn frames_of(
     alloc: Global,
     functions: &[TypedFunction],
 ) -> Result<Vec<Vec<VarRef>>, TypeFault>

@@ -1,9 +1,9 @@
 use Rattle.std.proofs.Common.{◌∙◌, ap, map, sym, subst, vec_items}
 use Rattle.c_rules.specs.declared.fault.LimitName.TheVariants as limit
 use Rattle.c_rules.specs.Whole.{IsOver, first_above, case_counts, all_cases}
-use Rattle.c_types.proofs.ProgramLemmas.{fault_says}
-use Rattle.c_types.proofs.WholeLemmas.{cases_further, cases_over}
-use Rattle.c_types.proofs.whole.few_cases.Goals as goal
+use Rattle.c_frames.proofs.WholeLemmas.{fault_says}
+use Rattle.c_frames.proofs.WholeLemmas.{cases_further, cases_over}
+use Rattle.c_frames.proofs.whole.few_cases.Goals as goal
 use Rattle.c_tree.specs.declared.limits.TheConstants.{MOST_CASES}
 
 pub returns-in_err-few_cases_in-clause-refused : goal.returns-in_err-few_cases_in-clause-refused

@@ -1,9 +1,9 @@
 use Rattle.std.proofs.Common.{◌≡◌, map, take, drop}
 use Rattle.c_rules.specs.Programs.{frame}
 use Rattle.c_frames.specs.FunctionView.{typed_function_of}
-use Rattle.c_types.specs.View.{frame_lists}
+use Rattle.c_frames.specs.FunctionView.{frame_lists}
 use Rattle.c_rules.specs.Whole.{first_above, frame_size}
-use Rattle.c_types.proofs.whole.small_frames.Given as goal
+use Rattle.c_frames.proofs.whole.small_frames.Given as goal
 use Rattle.c_tree.specs.declared.limits.TheConstants.{MOST_FRAME_SCALARS}
 
 abbrev pub invariant-loop-n : goal.invariant-loop-n

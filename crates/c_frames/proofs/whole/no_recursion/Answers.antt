@@ -2,7 +2,7 @@ use Rattle.std.proofs.Common.{ℕ, List, ◌<◌, length, map, vec_items, sym, s
 use Rattle.std.specs.Prelude.{All}
 use Rattle.std.proofs.lemmas.List.{length-map}
 use Rattle.c_frames.proofs.ChainLemmas.{bodies_in, no_cycle_in, chain_there, chain_in}
-use Rattle.c_types.proofs.whole.no_recursion.Goals as goal
+use Rattle.c_frames.proofs.whole.no_recursion.Goals as goal
 
 pub first_round-requires : goal.first_round-requires
 first_round-requires c = λ n m call.

@@ -1,6 +1,6 @@
 use Rattle.std.proofs.Common.{◌∙◌}
-use Rattle.c_types.proofs.WholeLemmas.{uses_at}
-use Rattle.c_types.proofs.whole.small_frames.Goals as goal
+use Rattle.c_frames.proofs.WholeLemmas.{uses_at}
+use Rattle.c_frames.proofs.whole.small_frames.Goals as goal
 
 pub small_frame-requires : goal.small_frame-requires
 small_frame-requires c =

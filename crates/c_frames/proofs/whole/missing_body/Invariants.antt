@@ -1,6 +1,6 @@
 use Rattle.std.proofs.Common.{◌≡◌, map, drop, length, vec_items}
 use Rattle.c_rules.specs.Whole.{earlier, first_among}
-use Rattle.c_types.proofs.whole.missing_body.Given as goal
+use Rattle.c_frames.proofs.whole.missing_body.Given as goal
 
 abbrev pub invariant-loop-list : goal.invariant-loop-list
 invariant-loop-list l =

@@ -4,10 +4,10 @@ use Rattle.c_rules.specs.Faults.{SaysOf}
 use Rattle.c_rules.specs.Programs.{frame, has_main}
 use Rattle.c_frames.specs.FunctionView.{typed_function_of}
 use Rattle.c_rules.specs.Whole.{missing_body}
-use Rattle.c_types.proofs.ProgramLemmas.{fault_says}
-use Rattle.c_types.proofs.WholeLemmas.{missing_is, none_missing, cases_is, over_same, recursion_is, says_functions, says_parameters, says_scalars, says_cases, all_whole, map_trees}
+use Rattle.c_frames.proofs.WholeLemmas.{fault_says}
+use Rattle.c_frames.proofs.WholeLemmas.{missing_is, none_missing, cases_is, over_same, recursion_is, says_functions, says_parameters, says_scalars, says_cases, all_whole, map_trees}
 use Rattle.c_rules.proofs.MissingBodies.{bodies_met}
-use Rattle.c_types.proofs.whole.frames_of.Goals as goal
+use Rattle.c_frames.proofs.whole.frames_of.Goals as goal
 
 pub returns-in-Some-clause-refused : goal.returns-in-Some-clause-refused
 returns-in-Some-clause-refused c = record {

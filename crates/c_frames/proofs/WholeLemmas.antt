@@ -1,8 +1,9 @@
 -- What is wanted of a whole source, from what its parts are tested for.
 use Rattle.std.proofs.Common.{◌≡◌, ◌<◌, ◌⊎◌, inl, inr, ◌++◌, ◌∷◌, [], ℕ, zero, suc, Bool, true, false, List, length, map, get_or, take, drop, ap, ◌∙◌, sym, refl, subst, vec_items, ◌+◌, nat_lt, if◌then◌else◌, Option, Some, None, arith}
-use Rattle.std.specs.Prelude.{Vec}
+use Rattle.std.specs.Prelude.{Vec, Result, Ok, Err, IfErr}
+use Rattle.std.specs.Result.{IsErrAnd}
 use Rattle.std.specs.Global.{Global}
-use Rattle.std.proofs.lemmas.List.{length-map, map-append, map_more}
+use Rattle.std.proofs.lemmas.List.{drop_more, length-map, map-append, map_more}
 use Rattle.c_tree.specs.declared.program.VarRef.{VarRef}
 use Rattle.c_tree.specs.View.{stmt_of}
 use Rattle.c_rules.specs.declared.fault.LimitName.{LimitName}
@@ -16,12 +17,14 @@ use Rattle.c_rules.specs.Faults.{SaysOf}
 use Rattle.c_rules.specs.Programs.{frame, has_main, HasNoCycle}
 use Rattle.c_rules.specs.Units.{TypedFunction}
 use Rattle.c_tree.specs.Uses.{statement_uses}
-use Rattle.c_frames.specs.FunctionView.{typed_function_of}
-use Rattle.c_types.specs.View.{frame_lists}
+use Rattle.c_frames.specs.FunctionView.{frame_lists, typed_function_of}
 use Rattle.c_rules.specs.Whole.{uses_of, earlier, first_among, missing_body, case_counts, all_cases, first_above, passed, IsOver}
 use Rattle.c_rules.specs.Chains.{IsRecursion}
-use Rattle.c_objects.proofs.AgreementLemmas.{first_of}
 use Rattle.c_tree.specs.declared.limits.TheConstants.{MOST_CASES}
+
+-- the element of a turn is the first of what is left
+first_left : {A : Type 0} (list : List A) (i : ℕ) (x : A) → x ≡ get_or list i x → i < length list → drop i list ≡ x ∷ drop (i + 1) list
+first_left list i x is below = drop_more list i x below ∙ ap (λ e. e ∷ drop (i + 1) list) (sym is)
 
 -- the uses of each function, by its place
 pub uses_at : (fs : List memory.TypedFunction) (lists : List (Vec Use Global)) (n : ℕ) (f : memory.TypedFunction) (us : Vec Use Global)
@@ -135,12 +138,12 @@ pub cases_further : {whole : Option ℕ} (lists : List (Vec Use Global)) (i : �
     → first_above MOST_CASES (all_cases (map vec_items (drop (i + 1) lists))) ≡ whole
 cases_further lists i us is below so_far none =
     sym (above_behind MOST_CASES (case_counts us.items) (all_cases (map vec_items (drop (i + 1) lists))) none)
-    ∙ ap (λ l. first_above MOST_CASES (all_cases (map vec_items l))) (sym (first_of lists i us is below)) ∙ so_far
+    ∙ ap (λ l. first_above MOST_CASES (all_cases (map vec_items l))) (sym (first_left lists i us is below)) ∙ so_far
 
 pub cases_over : {whole : Option ℕ} (lists : List (Vec Use Global)) (i : ℕ) (us : Vec Use Global) (f : TypeFault) → us ≡ get_or lists i us → i < length lists
     → first_above MOST_CASES (all_cases (map vec_items (drop i lists))) ≡ whole → IsOver limit.Cases (first_above MOST_CASES (case_counts us.items)) f → IsOver limit.Cases whole f
 cases_over {whole = whole} lists i us f is below so_far over =
-    over_same limit.Cases _ whole f (ap (λ l. first_above MOST_CASES (all_cases (map vec_items l))) (sym (first_of lists i us is below)) ∙ so_far)
+    over_same limit.Cases _ whole f (ap (λ l. first_above MOST_CASES (all_cases (map vec_items l))) (sym (first_left lists i us is below)) ∙ so_far)
     (over_further limit.Cases MOST_CASES (case_counts us.items) (all_cases (map vec_items (drop (i + 1) lists))) f over)
 
 -- what a fault says of the functions, by what was tested before
@@ -191,3 +194,8 @@ module _ (fs : List TypedFunction) (main : has_main fs ≡ true) (bodies : missi
               each limit.Parameters = parameters
               each limit.Scalars = scalars
               each limit.Cases = cases
+
+-- what is known of the fault that a result holds
+pub fault_says : {A : Type 0} (P : TypeFault → Type 0) → (f : TypeFault) (result : Result A TypeFault) → IsErrAnd result (λ e. e ≡ f) → P f → IfErr result P
+fault_says P f (Ok a) given known = absurd given
+fault_says P f (Err e) given known = subst P (sym given) known
