@@ -25,7 +25,7 @@ use Rattle.c_rules.specs.declared.fault.Rule.{Rule}
 use Rattle.c_rules.specs.declared.fault.Rule.TheVariants.{Mismatch}
 use Rattle.c_tree.specs.declared.enclosing.Enclosing.{Enclosing}
 use Rattle.c_tree.specs.declared.enclosing.Enclosing.TheVariants as around
-use Rattle.c_rules.specs.Answers.{Gives, Refuses}
+use Rattle.c_rules.specs.Answers.{Follows, Refuses}
 use Rattle.c_bodies.specs.Bodies.{behind, block_in, else_in, for_in, statement_in, statements_in, tested_in}
 use Rattle.c_bodies.specs.declared.statements.ForHead.{ForHead}
 use Rattle.c_rules.specs.Kinds.{is_void}
@@ -171,14 +171,14 @@ same_block : (s : Stmt) (ds : Vec Decl Global) (l : Vec Stmt Global) (dl : List 
     → tree.Block (map declaration_of dl) (body_of sl) s.at ≡ statement_of s.kind s.at
 same_block s ds l dl sl k p q = (λ i. tree.Block (map declaration_of (p i)) (body_of (q i)) s.at) ∙ sym (block_of ds l s.at) ∙ ap (λ x. statement_of x s.at) (sym k)
 
-pub block_gives : (b n : Body) (c : Enclosing) (r : Result TypedStmt Refusal) (s : Stmt) (ds : Vec Decl Global) (l : Vec Stmt Global) (dl : List Decl) (sl : List Stmt) → s.kind ≡ kind.Block ds l → dl ≡ ds.items → sl ≡ l.items
-    → Gives (λ t. typed_in n (stmt_of t)) (statement_in b c (tree.Block (map declaration_of dl) (body_of sl) s.at)) r → Gives (λ t. typed_in n (stmt_of t)) (statement_in b c (statement_of s.kind s.at)) r
-block_gives b n c r s ds l dl sl k p q h =
-    let P : Statement → Type 0 = λ f. Gives (λ t. typed_in n (stmt_of t)) (statement_in b c f) r in
+pub block_follows : (b n : Body) (c : Enclosing) (r : Result TypedStmt Refusal) (s : Stmt) (ds : Vec Decl Global) (l : Vec Stmt Global) (dl : List Decl) (sl : List Stmt) → s.kind ≡ kind.Block ds l → dl ≡ ds.items → sl ≡ l.items
+    → Follows (λ t. typed_in n (stmt_of t)) (statement_in b c (tree.Block (map declaration_of dl) (body_of sl) s.at)) r → Follows (λ t. typed_in n (stmt_of t)) (statement_in b c (statement_of s.kind s.at)) r
+block_follows b n c r s ds l dl sl k p q h =
+    let P : Statement → Type 0 = λ f. Follows (λ t. typed_in n (stmt_of t)) (statement_in b c f) r in
     subst P (same_block s ds l dl sl k p q) h
 
 -- what is known of one outcome is known of the same
-pub same_gives : (o p : Outcome (Typed typed.Stmt)) (n : Body) (r : Result TypedStmt Refusal) → o ≡ p → Gives (λ t. typed_in n (stmt_of t)) o r → Gives (λ t. typed_in n (stmt_of t)) p r
-same_gives o p n r e h =
-    let P : Outcome (Typed typed.Stmt) → Type 0 = λ x. Gives (λ t. typed_in n (stmt_of t)) x r in
+pub same_follows : (o p : Outcome (Typed typed.Stmt)) (n : Body) (r : Result TypedStmt Refusal) → o ≡ p → Follows (λ t. typed_in n (stmt_of t)) o r → Follows (λ t. typed_in n (stmt_of t)) p r
+same_follows o p n r e h =
+    let P : Outcome (Typed typed.Stmt) → Type 0 = λ x. Follows (λ t. typed_in n (stmt_of t)) x r in
     subst P e h

@@ -21,7 +21,7 @@ use Rattle.c_rules.specs.declared.fault.Refusal.{Refusal}
 use Rattle.c_rules.specs.declared.fault.Refusal.TheVariants as refusals
 use Rattle.c_rules.specs.declared.fault.Rule.TheVariants.{Mismatch, Redeclared}
 use Rattle.c_tree.specs.declared.enclosing.Enclosing.{Enclosing}
-use Rattle.c_rules.specs.Answers.{Gives, Refuses}
+use Rattle.c_rules.specs.Answers.{Follows, Refuses}
 use Rattle.c_bodies.specs.Bodies.{behind_choices, choices_in, parts_of, statement_in, switched}
 use Rattle.c_rules.specs.Kinds.{class_of}
 use Rattle.c_rules.specs.Operands.{is_integer}
@@ -38,10 +38,10 @@ same_switch : (s : Stmt) (e : syntax.Expr) (l : Vec SwitchPart Global) (place : 
     → tree.Switch (expression_of e) (parts_of pl) place s.at ≡ statement_of s.kind s.at
 same_switch s e l place pl k p = (λ i. tree.Switch (expression_of e) (parts_of (p i)) place s.at) ∙ sym (switch_of e l place s.at) ∙ ap (λ x. statement_of x s.at) (sym k)
 
-pub switch_gives : (b n : Body) (c : Enclosing) (r : Result TypedStmt Refusal) (s : Stmt) (e : syntax.Expr) (l : Vec SwitchPart Global) (place : ℕ) (pl : List SwitchPart) → s.kind ≡ kind.Switch e l place → pl ≡ l.items
-    → Gives (λ t. typed_in n (stmt_of t)) (statement_in b c (tree.Switch (expression_of e) (parts_of pl) place s.at)) r → Gives (λ t. typed_in n (stmt_of t)) (statement_in b c (statement_of s.kind s.at)) r
-switch_gives b n c r s e l place pl k p h =
-    let P : Statement → Type 0 = λ f. Gives (λ t. typed_in n (stmt_of t)) (statement_in b c f) r in
+pub switch_follows : (b n : Body) (c : Enclosing) (r : Result TypedStmt Refusal) (s : Stmt) (e : syntax.Expr) (l : Vec SwitchPart Global) (place : ℕ) (pl : List SwitchPart) → s.kind ≡ kind.Switch e l place → pl ≡ l.items
+    → Follows (λ t. typed_in n (stmt_of t)) (statement_in b c (tree.Switch (expression_of e) (parts_of pl) place s.at)) r → Follows (λ t. typed_in n (stmt_of t)) (statement_in b c (statement_of s.kind s.at)) r
+switch_follows b n c r s e l place pl k p h =
+    let P : Statement → Type 0 = λ f. Follows (λ t. typed_in n (stmt_of t)) (statement_in b c f) r in
     subst P (same_switch s e l place pl k p) h
 
 -- a choice that is refused
@@ -88,7 +88,7 @@ switch_rest b n c e cs place at x l valued listed = sym
     ∙ ap (λ o. o >>= λ r. breaks (repeats_label r.tree.choices) Redeclared place (breaks r.tree.pointer Mismatch place (breaks (not (is_integer (class_of (kind_of x)))) Mismatch at (just (Switch x r.tree.choices) r.locals)))) listed
     ∙ beside (repeats_label l.choices) l.pointer (not (is_integer (class_of (kind_of x)))) place at (Switch x l.choices) (locals_of n))
 
-pub with_locals_give : (w : Outcome typed.Stmt) (n : Body) (o : Outcome (Typed typed.Stmt)) (r : Result TypedStmt Refusal) → (w >>= λ t. just t (locals_of n)) ≡ o → Gives stmt_of w r → Gives (λ t. typed_in n (stmt_of t)) o r
-with_locals_give w n o (Ok t) e h = sym e ∙ ap (λ x. x >>= λ s. just s (locals_of n)) h
-with_locals_give w n o (Err refusals.NoMemory) e h = tt {0}
-with_locals_give w n o (Err (refusals.Broken rule at)) e h = sym e ∙ ap (λ x. x >>= λ s. just s (locals_of n)) h
+pub with_locals_follow : (w : Outcome typed.Stmt) (n : Body) (o : Outcome (Typed typed.Stmt)) (r : Result TypedStmt Refusal) → (w >>= λ t. just t (locals_of n)) ≡ o → Follows stmt_of w r → Follows (λ t. typed_in n (stmt_of t)) o r
+with_locals_follow w n o (Ok t) e h = sym e ∙ ap (λ x. x >>= λ s. just s (locals_of n)) h
+with_locals_follow w n o (Err refusals.NoMemory) e h = tt {0}
+with_locals_follow w n o (Err (refusals.Broken rule at)) e h = sym e ∙ ap (λ x. x >>= λ s. just s (locals_of n)) h

@@ -2,7 +2,7 @@
 ghost use Rattle.std.specs.Prelude.{◌≡◌, OnOk, map, is_some};
 ghost use Rattle.c_syntax.specs.SyntaxView.{item_of, declaration_of};
 ghost use Rattle.c_rules.specs.declared.fault.Rule.TheVariants as rule;
-ghost use Rattle.c_rules.specs.Answers.{Gives, Refuses};
+ghost use Rattle.c_rules.specs.Answers.{Follows, Refuses};
 ghost use Rattle.c_rules.specs.Outcome.{Broken, breaks};
 ghost use Rattle.c_rules.specs.Statements as rules;
 ghost use Rattle.c_scopes.specs.Tables.{scope_of, around_of};
@@ -53,7 +53,7 @@ impl<'a> Body<'a> {
         base: Base,
         item: &'a Item,
     ) -> Result<Opening, Refusal>
-        ensures gives { Gives (opened_of self.new) (rules.block_item (opened_of self.old opening) base (item_of item.now)) result }
+        ensures follows { Follows (opened_of self.new) (rules.block_item (opened_of self.old opening) base (item_of item.now)) result }
         ensures around { OnOk result (around_of self.new.scopes ≡ around_of self.old.scopes) }
         ensures bodies { self.new.scopes.bodies ≡ self.old.scopes.bodies }
         ensures returned { self.new.result ≡ self.old.result }
@@ -89,7 +89,7 @@ impl<'a> Body<'a> {
         object_type: ObjectType,
         initialiser: Initialiser,
     ) -> Result<Opening, Refusal>
-        ensures gives { Gives (opened_of self.new) (rules.declared_as (opened_of self.old opening) (scope_of self.old.scopes) reference (Declared.Object object_type) (item_of item.now) (initialiser_of initialiser)) result }
+        ensures follows { Follows (opened_of self.new) (rules.declared_as (opened_of self.old opening) (scope_of self.old.scopes) reference (Declared.Object object_type) (item_of item.now) (initialiser_of initialiser)) result }
         ensures scopes { self.new.scopes ≡ self.old.scopes }
         ensures returned { self.new.result ≡ self.old.result }
     {
@@ -114,7 +114,7 @@ impl<'a> Body<'a> {
         base: Base,
         list: &'a [Item],
     ) -> Result<Opening, Refusal>
-        ensures gives { Gives (opened_of self.new) (rules.block_items (opened_of self.old opening) base (map item_of list.now)) result }
+        ensures follows { Follows (opened_of self.new) (rules.block_items (opened_of self.old opening) base (map item_of list.now)) result }
         ensures around { OnOk result (around_of self.new.scopes ≡ around_of self.old.scopes) }
         ensures bodies { self.new.scopes.bodies ≡ self.old.scopes.bodies }
         ensures returned { self.new.result ≡ self.old.result }
@@ -131,7 +131,7 @@ impl<'a> Body<'a> {
         mut opening: Opening,
         list: &'a [Decl],
     ) -> Result<Opening, Refusal>
-        ensures gives { Gives (opened_of self.new) (rules.declarations (opened_of self.old opening) (map declaration_of list.now)) result }
+        ensures follows { Follows (opened_of self.new) (rules.declarations (opened_of self.old opening) (map declaration_of list.now)) result }
         ensures around { OnOk result (around_of self.new.scopes ≡ around_of self.old.scopes) }
         ensures bodies { self.new.scopes.bodies ≡ self.old.scopes.bodies }
         ensures returned { self.new.result ≡ self.old.result }

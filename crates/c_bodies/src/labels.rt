@@ -1,5 +1,5 @@
 //! The labels of a switch: ISO 9899:1990 6.6.4.2.
-ghost use Rattle.c_rules.specs.Answers.{Gives};
+ghost use Rattle.c_rules.specs.Answers.{Follows};
 ghost use Rattle.std.specs.Prelude.{◌≡◌, IfOk, IfErr};
 ghost use Rattle.c_tree.specs.View.{choice_list, expr_of, stmt_of};
 ghost use Rattle.c_rules.specs.declared.fault.Refusal.TheVariants as refusals;
@@ -28,7 +28,7 @@ pub(crate) fn switched(
     value: TypedExpr,
     labelled: Labelled,
 ) -> Result<TypedStmt, Refusal>
-    ensures gives { Gives stmt_of (switched place at (expr_of value) (labelled_of labelled)) result }
+    ensures follows { Follows stmt_of (switched place at (expr_of value) (labelled_of labelled)) result }
 {
     if repeats_label(alloc, &labelled.choices)? {
         return Err(Refusal::Broken {

@@ -9,7 +9,7 @@ ghost use Rattle.c_tree.specs.View.{expr_of, option_expr_of, statement_list, stm
 ghost use Rattle.c_rules.specs.declared.fault.Refusal.TheVariants as refusals;
 ghost use Rattle.c_rules.specs.declared.fault.Rule.TheVariants as rule;
 ghost use Rattle.c_tree.specs.declared.enclosing.Enclosing.TheVariants as enclosings;
-ghost use Rattle.c_rules.specs.Answers.{Gives, Refuses};
+ghost use Rattle.c_rules.specs.Answers.{Follows, Refuses};
 ghost use Rattle.c_bodies.specs.Bodies.{behind, behind_choices, block_in, choices_in, else_in, for_in, labelled_of, parts_of, statement_in, statements_in, test_in, tested_in};
 ghost use Rattle.c_rules.specs.Kinds.{is_void};
 ghost use Rattle.c_rules.specs.Statements as rules;
@@ -51,7 +51,7 @@ impl<'a> Body<'a> {
         s: &'a Stmt,
         enclosing: Enclosing,
     ) -> Result<TypedStmt, Refusal>
-        ensures gives { Gives (λ t. typed_in self.new (stmt_of t)) (statement_in self.old enclosing (statement_of s.now.kind s.now.at)) result }
+        ensures follows { Follows (λ t. typed_in self.new (stmt_of t)) (statement_in self.old enclosing (statement_of s.now.kind s.now.at)) result }
         ensures tables { OnOk result (tables_of self.new.scopes ≡ tables_of self.old.scopes) }
         ensures bodies { self.new.scopes.bodies ≡ self.old.scopes.bodies }
         ensures returned { self.new.result ≡ self.old.result }
@@ -89,7 +89,7 @@ impl<'a> Body<'a> {
     // A statement within another. It is kept in its box while the rest of the other is typed.
     #[cycle(statements)]
     fn inner(&mut self, s: &'a Stmt, enclosing: Enclosing) -> Result<Box<TypedStmt>, Refusal>
-        ensures gives { Gives (λ t. typed_in self.new (stmt_of t.value)) (statement_in self.old enclosing (statement_of s.now.kind s.now.at)) result }
+        ensures follows { Follows (λ t. typed_in self.new (stmt_of t.value)) (statement_in self.old enclosing (statement_of s.now.kind s.now.at)) result }
         ensures tables { OnOk result (tables_of self.new.scopes ≡ tables_of self.old.scopes) }
         ensures bodies { self.new.scopes.bodies ≡ self.old.scopes.bodies }
         ensures returned { self.new.result ≡ self.old.result }
@@ -107,7 +107,7 @@ impl<'a> Body<'a> {
         enclosing: Enclosing,
         at: u32,
     ) -> Result<TypedStmt, Refusal>
-        ensures gives { Gives (λ t. typed_in self.new (stmt_of t)) (statement_in self.old enclosing (tree.Block (map declaration_of declarations.now) (body_of statements.now) at)) result }
+        ensures follows { Follows (λ t. typed_in self.new (stmt_of t)) (statement_in self.old enclosing (tree.Block (map declaration_of declarations.now) (body_of statements.now) at)) result }
         ensures tables { OnOk result (tables_of self.new.scopes ≡ tables_of self.old.scopes) }
         ensures bodies { self.new.scopes.bodies ≡ self.old.scopes.bodies }
         ensures returned { self.new.result ≡ self.old.result }
@@ -124,7 +124,7 @@ impl<'a> Body<'a> {
         declarations: &'a [Decl],
         statements: &'a [Stmt],
     ) -> Result<TypedStmt, Refusal>
-        ensures gives { Gives (λ t. typed_in self.new (stmt_of t)) (rules.typed_body self.old.result (scope_of self.old.scopes) (locals_of self.old) (map declaration_of declarations.now) (body_of statements.now)) result }
+        ensures follows { Follows (λ t. typed_in self.new (stmt_of t)) (rules.typed_body self.old.result (scope_of self.old.scopes) (locals_of self.old) (map declaration_of declarations.now) (body_of statements.now)) result }
         ensures around { OnOk result (around_of self.new.scopes ≡ around_of self.old.scopes) }
         ensures bodies { self.new.scopes.bodies ≡ self.old.scopes.bodies }
     {
@@ -139,7 +139,7 @@ impl<'a> Body<'a> {
         statements: &'a [Stmt],
         enclosing: Enclosing,
     ) -> Result<TypedStmt, Refusal>
-        ensures gives { Gives (λ t. typed_in self.new (stmt_of t)) (block_in self.old enclosing (map declaration_of declarations.now) (body_of statements.now)) result }
+        ensures follows { Follows (λ t. typed_in self.new (stmt_of t)) (block_in self.old enclosing (map declaration_of declarations.now) (body_of statements.now)) result }
         ensures around { OnOk result (around_of self.new.scopes ≡ around_of self.old.scopes) }
         ensures bodies { self.new.scopes.bodies ≡ self.old.scopes.bodies }
         ensures returned { self.new.result ≡ self.old.result }
@@ -179,7 +179,7 @@ impl<'a> Body<'a> {
 
     // A return without a value: 6.6.6.4.
     fn empty_return(&self, at: u32) -> Result<TypedStmt, Refusal>
-        ensures gives { Gives (λ t. typed_in self.now (stmt_of t)) (statement_in self.now enclosings.Body (tree.Return None at)) result }
+        ensures follows { Follows (λ t. typed_in self.now (stmt_of t)) (statement_in self.now enclosings.Body (tree.Return None at)) result }
     {
         match self.result {
             None => Ok(TypedStmt::Return(None)),
@@ -189,7 +189,7 @@ impl<'a> Body<'a> {
 
     // A return with a value.
     fn value_return(&self, value: &Expr, at: u32) -> Result<TypedStmt, Refusal>
-        ensures gives { Gives (λ t. typed_in self.now (stmt_of t)) (statement_in self.now enclosings.Body (tree.Return (Some (expression_of value.now)) at)) result }
+        ensures follows { Follows (λ t. typed_in self.now (stmt_of t)) (statement_in self.now enclosings.Body (tree.Return (Some (expression_of value.now)) at)) result }
     {
         let value = self.scopes.operand(value)?;
         let value = returned(self.scopes.alloc, self.result, at, value)?;
@@ -205,7 +205,7 @@ impl<'a> Body<'a> {
         enclosing: Enclosing,
         at: u32,
     ) -> Result<TypedStmt, Refusal>
-        ensures gives { Gives (λ t. typed_in self.new (stmt_of t)) (statement_in self.old enclosing (tree.If (expression_of test.now) (statement_of yes.now.kind yes.now.at) at)) result }
+        ensures follows { Follows (λ t. typed_in self.new (stmt_of t)) (statement_in self.old enclosing (tree.If (expression_of test.now) (statement_of yes.now.kind yes.now.at) at)) result }
         ensures tables { OnOk result (tables_of self.new.scopes ≡ tables_of self.old.scopes) }
         ensures bodies { self.new.scopes.bodies ≡ self.old.scopes.bodies }
         ensures returned { self.new.result ≡ self.old.result }
@@ -217,7 +217,7 @@ impl<'a> Body<'a> {
 
     // An if over its test and its only arm.
     fn one_armed(&self, test: TypedExpr, yes: Box<TypedStmt>, at: u32) -> Result<TypedStmt, Refusal>
-        ensures gives { Gives (λ t. typed_in self.now (stmt_of t)) (tested_in self.now at (expr_of test) (If (expr_of test) (stmt_of yes.value) (Block [] done))) result }
+        ensures follows { Follows (λ t. typed_in self.now (stmt_of t)) (tested_in self.now at (expr_of test) (If (expr_of test) (stmt_of yes.value) (Block [] done))) result }
     {
         not_void(&test, at)?;
         Ok(TypedStmt::If {
@@ -237,7 +237,7 @@ impl<'a> Body<'a> {
         enclosing: Enclosing,
         at: u32,
     ) -> Result<TypedStmt, Refusal>
-        ensures gives { Gives (λ t. typed_in self.new (stmt_of t)) (statement_in self.old enclosing (tree.IfElse (expression_of test.now) (statement_of yes.now.kind yes.now.at) (statement_of no.now.kind no.now.at) at)) result }
+        ensures follows { Follows (λ t. typed_in self.new (stmt_of t)) (statement_in self.old enclosing (tree.IfElse (expression_of test.now) (statement_of yes.now.kind yes.now.at) (statement_of no.now.kind no.now.at) at)) result }
         ensures tables { OnOk result (tables_of self.new.scopes ≡ tables_of self.old.scopes) }
         ensures bodies { self.new.scopes.bodies ≡ self.old.scopes.bodies }
         ensures returned { self.new.result ≡ self.old.result }
@@ -257,7 +257,7 @@ impl<'a> Body<'a> {
         enclosing: Enclosing,
         at: u32,
     ) -> Result<TypedStmt, Refusal>
-        ensures gives { Gives (λ t. typed_in self.new (stmt_of t)) (else_in self.old enclosing at (expr_of test) (stmt_of yes.value) (statement_of no.now.kind no.now.at)) result }
+        ensures follows { Follows (λ t. typed_in self.new (stmt_of t)) (else_in self.old enclosing at (expr_of test) (stmt_of yes.value) (statement_of no.now.kind no.now.at)) result }
         ensures tables { OnOk result (tables_of self.new.scopes ≡ tables_of self.old.scopes) }
         ensures bodies { self.new.scopes.bodies ≡ self.old.scopes.bodies }
         ensures returned { self.new.result ≡ self.old.result }
@@ -274,7 +274,7 @@ impl<'a> Body<'a> {
         no: Box<TypedStmt>,
         at: u32,
     ) -> Result<TypedStmt, Refusal>
-        ensures gives { Gives (λ t. typed_in self.now (stmt_of t)) (tested_in self.now at (expr_of test) (If (expr_of test) (stmt_of yes.value) (stmt_of no.value))) result }
+        ensures follows { Follows (λ t. typed_in self.now (stmt_of t)) (tested_in self.now at (expr_of test) (If (expr_of test) (stmt_of yes.value) (stmt_of no.value))) result }
     {
         not_void(&test, at)?;
         Ok(TypedStmt::If {
@@ -294,7 +294,7 @@ impl<'a> Body<'a> {
         enclosing: Enclosing,
         at: u32,
     ) -> Result<TypedStmt, Refusal>
-        ensures gives { Gives (λ t. typed_in self.new (stmt_of t)) (statement_in self.old enclosing (tree.Switch (expression_of value.now) (parts_of parts.now) place at)) result }
+        ensures follows { Follows (λ t. typed_in self.new (stmt_of t)) (statement_in self.old enclosing (tree.Switch (expression_of value.now) (parts_of parts.now) place at)) result }
         ensures tables { OnOk result (tables_of self.new.scopes ≡ tables_of self.old.scopes) }
         ensures bodies { self.new.scopes.bodies ≡ self.old.scopes.bodies }
         ensures returned { self.new.result ≡ self.old.result }
@@ -311,7 +311,7 @@ impl<'a> Body<'a> {
         parts: &'a [SwitchPart],
         enclosing: Enclosing,
     ) -> Result<Labelled, Refusal>
-        ensures gives { Gives (λ l. typed_in self.new (labelled_of l)) (choices_in self.old enclosing (parts_of parts.now)) result }
+        ensures follows { Follows (λ l. typed_in self.new (labelled_of l)) (choices_in self.old enclosing (parts_of parts.now)) result }
         ensures tables { OnOk result (tables_of self.new.scopes ≡ tables_of self.old.scopes) }
         ensures bodies { self.new.scopes.bodies ≡ self.old.scopes.bodies }
         ensures returned { self.new.result ≡ self.old.result }
@@ -364,7 +364,7 @@ impl<'a> Body<'a> {
     // 6.6.5.1.
     #[cycle(statements)]
     fn while_loop(&mut self, test: &Expr, body: &'a Stmt, at: u32) -> Result<TypedStmt, Refusal>
-        ensures gives { Gives (λ t. typed_in self.new (stmt_of t)) (statement_in self.old enclosings.Loop (tree.While (expression_of test.now) (statement_of body.now.kind body.now.at) at)) result }
+        ensures follows { Follows (λ t. typed_in self.new (stmt_of t)) (statement_in self.old enclosings.Loop (tree.While (expression_of test.now) (statement_of body.now.kind body.now.at) at)) result }
         ensures tables { OnOk result (tables_of self.new.scopes ≡ tables_of self.old.scopes) }
         ensures bodies { self.new.scopes.bodies ≡ self.old.scopes.bodies }
         ensures returned { self.new.result ≡ self.old.result }
@@ -381,7 +381,7 @@ impl<'a> Body<'a> {
         body: Box<TypedStmt>,
         at: u32,
     ) -> Result<TypedStmt, Refusal>
-        ensures gives { Gives (λ t. typed_in self.now (stmt_of t)) (tested_in self.now at (expr_of test) (While (expr_of test) (stmt_of body.value))) result }
+        ensures follows { Follows (λ t. typed_in self.now (stmt_of t)) (tested_in self.now at (expr_of test) (While (expr_of test) (stmt_of body.value))) result }
     {
         not_void(&test, at)?;
         Ok(TypedStmt::While { test, body })
@@ -390,7 +390,7 @@ impl<'a> Body<'a> {
     // 6.6.5.2.
     #[cycle(statements)]
     fn do_loop(&mut self, body: &'a Stmt, test: &Expr, at: u32) -> Result<TypedStmt, Refusal>
-        ensures gives { Gives (λ t. typed_in self.new (stmt_of t)) (statement_in self.old enclosings.Loop (tree.DoWhile (statement_of body.now.kind body.now.at) (expression_of test.now) at)) result }
+        ensures follows { Follows (λ t. typed_in self.new (stmt_of t)) (statement_in self.old enclosings.Loop (tree.DoWhile (statement_of body.now.kind body.now.at) (expression_of test.now) at)) result }
         ensures tables { OnOk result (tables_of self.new.scopes ≡ tables_of self.old.scopes) }
         ensures bodies { self.new.scopes.bodies ≡ self.old.scopes.bodies }
         ensures returned { self.new.result ≡ self.old.result }
@@ -401,7 +401,7 @@ impl<'a> Body<'a> {
 
     // The test behind the body of a do.
     fn do_test(&self, body: Box<TypedStmt>, test: &Expr, at: u32) -> Result<TypedStmt, Refusal>
-        ensures gives { Gives (λ t. typed_in self.now (stmt_of t)) (test_in self.now at (stmt_of body.value) (expression_of test.now)) result }
+        ensures follows { Follows (λ t. typed_in self.now (stmt_of t)) (test_in self.now at (stmt_of body.value) (expression_of test.now)) result }
     {
         let test = self.scopes.expression(test)?;
         not_void(&test, at)?;
@@ -418,7 +418,7 @@ impl<'a> Body<'a> {
         body: &'a Stmt,
         at: u32,
     ) -> Result<TypedStmt, Refusal>
-        ensures gives { Gives (λ t. typed_in self.new (stmt_of t)) (statement_in self.old enclosings.Loop (tree.For (optional_of first.now) (optional_of test.now) (optional_of third.now) (statement_of body.now.kind body.now.at) at)) result }
+        ensures follows { Follows (λ t. typed_in self.new (stmt_of t)) (statement_in self.old enclosings.Loop (tree.For (optional_of first.now) (optional_of test.now) (optional_of third.now) (statement_of body.now.kind body.now.at) at)) result }
         ensures tables { OnOk result (tables_of self.new.scopes ≡ tables_of self.old.scopes) }
         ensures bodies { self.new.scopes.bodies ≡ self.old.scopes.bodies }
         ensures returned { self.new.result ≡ self.old.result }
@@ -433,7 +433,7 @@ impl<'a> Body<'a> {
 
     // A for over what stands between its parentheses and its body.
     fn for_over(&self, head: ForHead, body: Box<TypedStmt>, at: u32) -> Result<TypedStmt, Refusal>
-        ensures gives { Gives (λ t. typed_in self.now (stmt_of t)) (for_in self.now at head (stmt_of body.value)) result }
+        ensures follows { Follows (λ t. typed_in self.now (stmt_of t)) (for_in self.now at head (stmt_of body.value)) result }
     {
         test_not_void(&head.test, at)?;
         Ok(TypedStmt::For {
@@ -446,7 +446,7 @@ impl<'a> Body<'a> {
 
     // An expression that may be absent.
     fn optional(&self, e: &Option<Expr>) -> Result<Option<TypedExpr>, Refusal>
-        ensures gives { Gives option_expr_of (rules.optional (scope_of self.now.scopes) (optional_of e.now)) result }
+        ensures follows { Follows option_expr_of (rules.optional (scope_of self.now.scopes) (optional_of e.now)) result }
     {
         match e {
             None => Ok(None),
@@ -508,7 +508,7 @@ fn returned(
     at: u32,
     value: Operand,
 ) -> Result<TypedExpr, Refusal>
-    ensures gives { Gives expr_of (rules.returned kind at (operand_of value)) result }
+    ensures follows { Follows expr_of (rules.returned kind at (operand_of value)) result }
 {
     let Some(kind) = kind else {
         return Err(mismatch(at));

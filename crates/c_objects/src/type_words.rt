@@ -1,5 +1,5 @@
 //! The words of types, and what the text of an expression alone says: ISO 9899:1990 6.5.2 and 6.2.2.3.
-ghost use Rattle.c_rules.specs.Answers.{Gives};
+ghost use Rattle.c_rules.specs.Answers.{Follows};
 ghost use Rattle.std.specs.Prelude.{◌≡◌, count_by, nat_lt};
 ghost use Rattle.c_syntax.specs.SyntaxView.{expression_of, specs_of, type_of};
 ghost use Rattle.c_rules.specs.Typing as rules;
@@ -98,7 +98,7 @@ fn base_of(words: &[SpecWord]) -> Base
 
 /// The base of a type that is spelled.
 pub fn spelled(specs: &Specs) -> Result<Base, Refusal>
-    ensures gives { Gives (λ base. base) (rules.spelled (specs_of specs.now)) result }
+    ensures follows { Follows (λ base. base) (rules.spelled (specs_of specs.now)) result }
 {
     let words = specs.words.as_slice();
     if !is_spelling(words) {
@@ -112,7 +112,7 @@ pub fn spelled(specs: &Specs) -> Result<Base, Refusal>
 
 /// The base of a type in which `static` has no place.
 pub fn plain(specs: &Specs) -> Result<Base, Refusal>
-    ensures gives { Gives (λ base. base) (rules.plain (specs_of specs.now)) result }
+    ensures follows { Follows (λ base. base) (rules.plain (specs_of specs.now)) result }
 {
     let base = spelled(specs)?;
     if has(SpecWord::Static, specs.words.as_slice()) {
@@ -126,7 +126,7 @@ pub fn plain(specs: &Specs) -> Result<Base, Refusal>
 
 /// The type that a cast or `sizeof` names.
 pub fn type_named(named: &TypeName) -> Result<Option<ScalarType>, Refusal>
-    ensures gives { Gives (λ kind. kind) (rules.type_named (type_of named.now)) result }
+    ensures follows { Follows (λ kind. kind) (rules.type_named (type_of named.now)) result }
 {
     let base = plain(&named.specs)?;
     Ok(starred(base, named.stars))

@@ -1,5 +1,5 @@
 //! Conversions of values: ISO 9899:1990 6.2.1.5, 6.2.2.3, 6.3.4 and 6.3.16.1.
-ghost use Rattle.c_rules.specs.Answers.{Gives};
+ghost use Rattle.c_rules.specs.Answers.{Follows};
 ghost use Rattle.std.specs.Prelude.{◌≡◌, Some, IfOk, IfErr};
 ghost use Rattle.c_tree.specs.View.{expr_of};
 ghost use Rattle.c_tree.specs.TypedTree.{Node, Const, Convert};
@@ -34,7 +34,7 @@ pub(crate) fn null_of(kind: ScalarType, at: u32) -> TypedExpr
 
 /// What a value gives where one of this type is wanted: 6.3.16.1.
 pub fn given(alloc: Global, kind: ScalarType, at: u32, x: Operand) -> Result<TypedExpr, Refusal>
-    ensures gives { Gives expr_of (rules.given kind at (operand_of x)) result }
+    ensures follows { Follows expr_of (rules.given kind at (operand_of x)) result }
 {
     match (class_of(Some(kind)), class_of(x.value.kind)) {
         (Class::Integer, Class::Integer) => converted(alloc, kind, x.value),
@@ -46,7 +46,7 @@ pub fn given(alloc: Global, kind: ScalarType, at: u32, x: Operand) -> Result<Typ
 
 // A pointer where one of this type is wanted: a void pointer goes with any, both ways.
 fn pointer_given(alloc: Global, kind: ScalarType, at: u32, x: Operand) -> Result<TypedExpr, Refusal>
-    ensures gives { Gives expr_of (rules.pointer_given kind at (operand_of x)) result }
+    ensures follows { Follows expr_of (rules.pointer_given kind at (operand_of x)) result }
 {
     if x.null {
         return Ok(null_of(kind, x.value.at));
@@ -104,7 +104,7 @@ fn converted_like(alloc: Global, x: &TypedExpr, y: TypedExpr) -> Result<TypedExp
 
 /// Two values as one type: integers, or pointers, of which one may be null.
 pub(crate) fn met(alloc: Global, at: u32, x: Operand, y: Operand) -> Result<Pair, Refusal>
-    ensures gives { Gives pair_of (rules.met at (operand_of x) (operand_of y)) result }
+    ensures follows { Follows pair_of (rules.met at (operand_of x) (operand_of y)) result }
 {
     match (class_of(x.value.kind), class_of(y.value.kind)) {
         (Class::Integer, Class::Integer) => balanced(alloc, x.value, y.value),
@@ -139,7 +139,7 @@ fn behind_null(null: TypedExpr, pointer: TypedExpr) -> Pair
 
 // Two pointers as one type: a null pointer takes the other's type, and beside a void pointer the other is converted.
 fn pointers_met(alloc: Global, at: u32, x: Operand, y: Operand) -> Result<Pair, Refusal>
-    ensures gives { Gives pair_of (rules.pointers_met at (operand_of x) (operand_of y)) result }
+    ensures follows { Follows pair_of (rules.pointers_met at (operand_of x) (operand_of y)) result }
 {
     if same_kind(x.value.kind, y.value.kind) {
         return Ok(Pair {
@@ -191,7 +191,7 @@ pub fn cast(
     at: u32,
     x: Operand,
 ) -> Result<TypedExpr, Refusal>
-    ensures gives { Gives expr_of (rules.cast to at (operand_of x)) result }
+    ensures follows { Follows expr_of (rules.cast to at (operand_of x)) result }
 {
     let Some(kind) = to else {
         return conversion(alloc, None, at, x.value);

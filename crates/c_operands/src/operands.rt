@@ -1,5 +1,5 @@
 //! What each operator makes of typed operands: ISO 9899:1990 6.1.3.2, and 6.3.3 to 6.3.17.
-ghost use Rattle.c_rules.specs.Answers.{Gives};
+ghost use Rattle.c_rules.specs.Answers.{Follows};
 ghost use Rattle.std.specs.Prelude.{◌≡◌, Some, IfOk, IfErr};
 ghost use Rattle.c_tree.specs.Eval.{kind_of};
 ghost use Rattle.c_tree.specs.View.{expr_of};
@@ -73,7 +73,7 @@ pub(crate) fn sum(
     left: TypedExpr,
     right: TypedExpr,
 ) -> Result<TypedExpr, Refusal>
-    ensures gives { Gives expr_of (rules.sum at (expr_of left) (expr_of right)) result }
+    ensures follows { Follows expr_of (rules.sum at (expr_of left) (expr_of right)) result }
 {
     match (class_of(left.kind), class_of(right.kind)) {
         (Class::Integer, Class::Integer) => calculated(alloc, BinaryOp::Add, at, left, right),
@@ -96,7 +96,7 @@ fn difference(
     left: TypedExpr,
     right: TypedExpr,
 ) -> Result<TypedExpr, Refusal>
-    ensures gives { Gives expr_of (rules.difference_as (class_of (kind_of (expr_of left))) (class_of (kind_of (expr_of right))) at (expr_of left) (expr_of right)) result }
+    ensures follows { Follows expr_of (rules.difference_as (class_of (kind_of (expr_of left))) (class_of (kind_of (expr_of right))) at (expr_of left) (expr_of right)) result }
 {
     match (class_of(left.kind), class_of(right.kind)) {
         (Class::Integer, Class::Integer) => calculated(alloc, BinaryOp::Sub, at, left, right),
@@ -117,7 +117,7 @@ fn pointers(
     left: TypedExpr,
     right: TypedExpr,
 ) -> Result<TypedExpr, Refusal>
-    ensures gives { Gives expr_of (rules.pointers op at (expr_of left) (expr_of right)) result }
+    ensures follows { Follows expr_of (rules.pointers op at (expr_of left) (expr_of right)) result }
 {
     if same_kind(left.kind, right.kind) {
         return binary_node(alloc, op, at, Some(INT), left, right);
@@ -133,7 +133,7 @@ fn product(
     left: TypedExpr,
     right: TypedExpr,
 ) -> Result<TypedExpr, Refusal>
-    ensures gives { Gives expr_of (rules.product_as (class_of (kind_of (expr_of left))) (class_of (kind_of (expr_of right))) op at (expr_of left) (expr_of right)) result }
+    ensures follows { Follows expr_of (rules.product_as (class_of (kind_of (expr_of left))) (class_of (kind_of (expr_of right))) op at (expr_of left) (expr_of right)) result }
 {
     match (class_of(left.kind), class_of(right.kind)) {
         (Class::Integer, Class::Integer) => calculated(alloc, op, at, left, right),
@@ -149,7 +149,7 @@ fn shift(
     left: TypedExpr,
     right: TypedExpr,
 ) -> Result<TypedExpr, Refusal>
-    ensures gives { Gives expr_of (rules.shift_as (class_of (kind_of (expr_of left))) (class_of (kind_of (expr_of right))) op at (expr_of left) (expr_of right)) result }
+    ensures follows { Follows expr_of (rules.shift_as (class_of (kind_of (expr_of left))) (class_of (kind_of (expr_of right))) op at (expr_of left) (expr_of right)) result }
 {
     match (class_of(left.kind), class_of(right.kind)) {
         (Class::Integer, Class::Integer) => {
@@ -168,7 +168,7 @@ fn order(
     left: TypedExpr,
     right: TypedExpr,
 ) -> Result<TypedExpr, Refusal>
-    ensures gives { Gives expr_of (rules.order_as (class_of (kind_of (expr_of left))) (class_of (kind_of (expr_of right))) op at (expr_of left) (expr_of right)) result }
+    ensures follows { Follows expr_of (rules.order_as (class_of (kind_of (expr_of left))) (class_of (kind_of (expr_of right))) op at (expr_of left) (expr_of right)) result }
 {
     match (class_of(left.kind), class_of(right.kind)) {
         (Class::Integer, Class::Integer) => {
@@ -188,7 +188,7 @@ fn equality(
     left: Operand,
     right: Operand,
 ) -> Result<TypedExpr, Refusal>
-    ensures gives { Gives expr_of (rules.equality op at (operand_of left) (operand_of right)) result }
+    ensures follows { Follows expr_of (rules.equality op at (operand_of left) (operand_of right)) result }
 {
     let pair = met(alloc, at, left, right)?;
     binary_node(alloc, op, at, Some(INT), pair.left, pair.right)
@@ -202,7 +202,7 @@ pub fn binary(
     left: Operand,
     right: Operand,
 ) -> Result<TypedExpr, Refusal>
-    ensures gives { Gives expr_of (rules.binary op at (operand_of left) (operand_of right)) result }
+    ensures follows { Follows expr_of (rules.binary op at (operand_of left) (operand_of right)) result }
 {
     match op {
         BinaryOp::Add => sum(alloc, at, left.value, right.value),
@@ -223,7 +223,7 @@ pub fn binary(
 
 /// `+ - ~` before an integer: 6.3.3.3.
 pub fn unary(alloc: Global, op: UnaryOp, at: u32, value: TypedExpr) -> Result<TypedExpr, Refusal>
-    ensures gives { Gives expr_of (rules.unary op at (expr_of value)) result }
+    ensures follows { Follows expr_of (rules.unary op at (expr_of value)) result }
 {
     let kind = value.kind;
     if class_of(kind) != Class::Integer {
@@ -238,7 +238,7 @@ pub fn unary(alloc: Global, op: UnaryOp, at: u32, value: TypedExpr) -> Result<Ty
 
 /// `!`: 6.3.3.3.
 pub fn negated(alloc: Global, at: u32, value: TypedExpr) -> Result<TypedExpr, Refusal>
-    ensures gives { Gives expr_of (rules.negated at (expr_of value)) result }
+    ensures follows { Follows expr_of (rules.negated at (expr_of value)) result }
 {
     if value.kind.is_none() {
         return Err(mismatch(at));
@@ -257,7 +257,7 @@ pub fn both_true(
     left: TypedExpr,
     right: TypedExpr,
 ) -> Result<TypedExpr, Refusal>
-    ensures gives { Gives expr_of (rules.both_true at (expr_of left) (expr_of right)) result }
+    ensures follows { Follows expr_of (rules.both_true at (expr_of left) (expr_of right)) result }
 {
     if left.kind.is_none() || right.kind.is_none() {
         return Err(mismatch(at));
@@ -280,7 +280,7 @@ pub fn either_true(
     left: TypedExpr,
     right: TypedExpr,
 ) -> Result<TypedExpr, Refusal>
-    ensures gives { Gives expr_of (rules.either_true at (expr_of left) (expr_of right)) result }
+    ensures follows { Follows expr_of (rules.either_true at (expr_of left) (expr_of right)) result }
 {
     if left.kind.is_none() || right.kind.is_none() {
         return Err(mismatch(at));
@@ -304,7 +304,7 @@ pub fn picked(
     yes: Operand,
     no: Operand,
 ) -> Result<TypedExpr, Refusal>
-    ensures gives { Gives expr_of (rules.picked at (expr_of test) (operand_of yes) (operand_of no)) result }
+    ensures follows { Follows expr_of (rules.picked at (expr_of test) (operand_of yes) (operand_of no)) result }
 {
     if test.kind.is_none() {
         return Err(mismatch(at));
@@ -320,7 +320,7 @@ pub fn picked(
 }
 
 fn arms(alloc: Global, at: u32, yes: Operand, no: Operand) -> Result<Pair, Refusal>
-    ensures gives { Gives pair_of (rules.arms_as (rules.class_at (operand_of yes)) (rules.class_at (operand_of no)) at (operand_of yes) (operand_of no)) result }
+    ensures follows { Follows pair_of (rules.arms_as (rules.class_at (operand_of yes)) (rules.class_at (operand_of no)) at (operand_of yes) (operand_of no)) result }
 {
     if yes.value.kind.is_none() && no.value.kind.is_none() {
         return Ok(Pair {
@@ -351,7 +351,7 @@ pub fn behind(
 
 /// `sizeof` a value, which is the length of an array, or one word: 6.3.3.4.
 pub fn sized(length: Option<u16>, at: u32, value: &TypedExpr) -> Result<TypedExpr, Refusal>
-    ensures gives { Gives expr_of (rules.sized length at (expr_of value.now)) result }
+    ensures follows { Follows expr_of (rules.sized length at (expr_of value.now)) result }
 {
     match length {
         Some(length) => Ok(word(length, UNSIGNED, at)),
@@ -362,7 +362,7 @@ pub fn sized(length: Option<u16>, at: u32, value: &TypedExpr) -> Result<TypedExp
 
 /// A constant: 6.1.3.2. One that isn't marked as unsigned is an int where it fits, and a decimal one has to fit.
 pub fn number(value: u32, marked: bool, decimal: bool, at: u32) -> Result<TypedExpr, Refusal>
-    ensures gives { Gives expr_of (rules.number value marked decimal at) result }
+    ensures follows { Follows expr_of (rules.number value marked decimal at) result }
 {
     let Ok(value) = u16::try_from(value) else {
         return Err(long_constant(at));

@@ -1,5 +1,5 @@
 //! Lvalues, and what is read and written through them: ISO 9899:1990 6.3.2.1, 6.3.2.4, 6.3.3.1, 6.3.3.2 and 6.3.16.
-ghost use Rattle.c_rules.specs.Answers.{Gives};
+ghost use Rattle.c_rules.specs.Answers.{Follows};
 ghost use Rattle.std.specs.Prelude.{◌≡◌, Some, None, IfOk, IfErr};
 ghost use Rattle.c_tree.specs.View.{expr_of, lvalue_of};
 ghost use Rattle.c_tree.specs.WellFormed as well_formed;
@@ -48,7 +48,7 @@ fn target_of(at: u32, e: TypedExpr) -> Result<Target, Refusal>
 
 /// `=`: 6.3.16.1.
 pub fn assigned(alloc: Global, at: u32, to: TypedExpr, value: Operand) -> Result<TypedExpr, Refusal>
-    ensures gives { Gives expr_of (rules.assigned at (expr_of to) (operand_of value)) result }
+    ensures follows { Follows expr_of (rules.assigned at (expr_of to) (operand_of value)) result }
 {
     let Some(kind) = to.kind else {
         return Err(mismatch(at));
@@ -93,7 +93,7 @@ pub fn assigned_by(
     to: TypedExpr,
     value: TypedExpr,
 ) -> Result<TypedExpr, Refusal>
-    ensures gives { Gives expr_of (rules.assigned_by op at (expr_of to) (expr_of value)) result }
+    ensures follows { Follows expr_of (rules.assigned_by op at (expr_of to) (expr_of value)) result }
 {
     let kind = to.kind;
     if !takes(op, class_of(kind), class_of(value.kind)) {
@@ -110,7 +110,7 @@ pub fn assigned_by(
 
 /// `++` or `--` before its operand: 6.3.3.1.
 pub fn stepped_before(up: bool, at: u32, value: TypedExpr) -> Result<TypedExpr, Refusal>
-    ensures gives { Gives expr_of (rules.stepped_before up at (expr_of value)) result }
+    ensures follows { Follows expr_of (rules.stepped_before up at (expr_of value)) result }
 {
     let kind = value.kind;
     if kind.is_none() {
@@ -126,7 +126,7 @@ pub fn stepped_before(up: bool, at: u32, value: TypedExpr) -> Result<TypedExpr, 
 
 /// `++` or `--` behind its operand: 6.3.2.4.
 pub fn stepped_after(up: bool, at: u32, value: TypedExpr) -> Result<TypedExpr, Refusal>
-    ensures gives { Gives expr_of (rules.stepped_after up at (expr_of value)) result }
+    ensures follows { Follows expr_of (rules.stepped_after up at (expr_of value)) result }
 {
     let kind = value.kind;
     if kind.is_none() {
@@ -142,7 +142,7 @@ pub fn stepped_after(up: bool, at: u32, value: TypedExpr) -> Result<TypedExpr, R
 
 /// `&`: 6.3.3.2. That of what a pointer points to is the pointer itself.
 pub fn address(is_array: bool, at: u32, value: TypedExpr) -> Result<TypedExpr, Refusal>
-    ensures gives { Gives expr_of (rules.address is_array at (expr_of value)) result }
+    ensures follows { Follows expr_of (rules.address is_array at (expr_of value)) result }
 {
     let kind = match value.kind {
         Some(kind) if !is_array => kind,
@@ -161,7 +161,7 @@ pub fn address(is_array: bool, at: u32, value: TypedExpr) -> Result<TypedExpr, R
 
 /// `*`: 6.3.3.2.
 pub fn loaded(alloc: Global, at: u32, value: TypedExpr) -> Result<TypedExpr, Refusal>
-    ensures gives { Gives expr_of (rules.loaded at (expr_of value)) result }
+    ensures follows { Follows expr_of (rules.loaded at (expr_of value)) result }
 {
     let kind = match value.kind {
         Some(pointer) if pointer.stars > 0 => pointed(pointer),
@@ -184,7 +184,7 @@ pub fn indexed(
     left: TypedExpr,
     right: TypedExpr,
 ) -> Result<TypedExpr, Refusal>
-    ensures gives { Gives expr_of (rules.indexed at (expr_of left) (expr_of right)) result }
+    ensures follows { Follows expr_of (rules.indexed at (expr_of left) (expr_of right)) result }
 {
     let cell = sum(alloc, at, left, right)?;
     loaded(alloc, at, cell)

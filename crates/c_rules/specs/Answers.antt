@@ -9,7 +9,7 @@ abbrev pub Refuses : {A : Type 0} → Outcome A → Refusal → Type 0
 Refuses outcome (refusals.Broken rule at) = outcome ≡ Broken rule at
 Refuses outcome refusals.NoMemory = ⊤
 
--- of an answer: it is, by this view of it, what they make; or a refusal.
-abbrev pub Gives : {A B : Type 0} → (A → B) → Outcome B → Result A Refusal → Type 0
-Gives view outcome (Ok a) = outcome ≡ Is (view a)
-Gives view outcome (Err refusal) = Refuses outcome refusal
+-- of an answer: it is what they make, in this view of it, or a refusal of it.
+abbrev pub Follows : {A B : Type 0} → (A → B) → Outcome B → Result A Refusal → Type 0
+Follows view outcome (Ok a) = outcome ≡ Is (view a)
+Follows view outcome (Err refusal) = Refuses outcome refusal

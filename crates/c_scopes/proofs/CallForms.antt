@@ -13,7 +13,7 @@ use Rattle.c_syntax.proofs.Views.{call_form}
 use Rattle.c_tree.proofs.Views.{typed_call_form}
 use Rattle.c_rules.specs.declared.fault.Refusal.{Refusal}
 use Rattle.c_rules.specs.Outcome.{Outcome, Is, ◌>>=◌}
-use Rattle.c_rules.specs.Answers.{Gives}
+use Rattle.c_rules.specs.Answers.{Follows}
 use Rattle.c_rules.specs.Scopes.{Scope}
 use Rattle.c_rules.specs.Typing.{typing, typing_form, constant_typing}
 
@@ -22,19 +22,19 @@ pub call_typed : (o : Outcome Exprs) (n m : ℕ) (l : Vec TypedExpr Global) (k :
 call_typed o n m l k at q e = rw (e, typed_call_form m l, q)
 
 -- what is known of a form is known of the expression
-pub form_gives : (s : Scope) (r : Result TypedExpr Refusal) (e : Expr) (f : tree.ExpressionForm) → form_of e.kind ≡ f → Gives expr_of (typing_form s f e.at) r → Gives expr_of (typing s (expression_of e)) r
-form_gives s r e f same h = subst (λ f. Gives expr_of (typing_form s f e.at) r) (sym same) h
+pub form_follows : (s : Scope) (r : Result TypedExpr Refusal) (e : Expr) (f : tree.ExpressionForm) → form_of e.kind ≡ f → Follows expr_of (typing_form s f e.at) r → Follows expr_of (typing s (expression_of e)) r
+form_follows s r e f same h = subst (λ f. Follows expr_of (typing_form s f e.at) r) (sym same) h
 
 -- what is known of the form of a call is known of the call
-pub call_gives : (s : Scope) (r : Result TypedExpr Refusal) (e : Expr) (n m : List ℕ) (l : Vec Expr Global) (xs : List Expr) → e.kind ≡ kind.Call n l → m ≡ n → xs ≡ l.items → Gives expr_of (typing_form s (tree.Call m (trees_of xs)) e.at) r → Gives expr_of (typing s (expression_of e)) r
-call_gives s r e n m l xs k p q h =
-    let P : tree.ExpressionForm → Type 0 = λ f. Gives expr_of (typing_form s f e.at) r in
+pub call_follows : (s : Scope) (r : Result TypedExpr Refusal) (e : Expr) (n m : List ℕ) (l : Vec Expr Global) (xs : List Expr) → e.kind ≡ kind.Call n l → m ≡ n → xs ≡ l.items → Follows expr_of (typing_form s (tree.Call m (trees_of xs)) e.at) r → Follows expr_of (typing s (expression_of e)) r
+call_follows s r e n m l xs k p q h =
+    let P : tree.ExpressionForm → Type 0 = λ f. Follows expr_of (typing_form s f e.at) r in
     let f : tree.Call m (trees_of xs) ≡ form_of e.kind = rw (k, p, q, call_form n l) in
     subst P f h
 
 -- and where the call has to be constant
-pub constant_call_gives : (s : Scope) (r : Result TypedExpr Refusal) (e : Expr) (n m : List ℕ) (l : Vec Expr Global) (xs : List Expr) → e.kind ≡ kind.Call n l → m ≡ n → xs ≡ l.items → Gives expr_of (constant_typing s (tree.Node (tree.Call m (trees_of xs)) e.at)) r → Gives expr_of (constant_typing s (expression_of e)) r
-constant_call_gives s r e n m l xs k p q h =
-    let P : tree.ExpressionForm → Type 0 = λ f. Gives expr_of (constant_typing s (tree.Node f e.at)) r in
+pub constant_call_follows : (s : Scope) (r : Result TypedExpr Refusal) (e : Expr) (n m : List ℕ) (l : Vec Expr Global) (xs : List Expr) → e.kind ≡ kind.Call n l → m ≡ n → xs ≡ l.items → Follows expr_of (constant_typing s (tree.Node (tree.Call m (trees_of xs)) e.at)) r → Follows expr_of (constant_typing s (expression_of e)) r
+constant_call_follows s r e n m l xs k p q h =
+    let P : tree.ExpressionForm → Type 0 = λ f. Follows expr_of (constant_typing s (tree.Node f e.at)) r in
     let f : tree.Call m (trees_of xs) ≡ form_of e.kind = rw (k, p, q, call_form n l) in
     subst P f h

@@ -1,5 +1,5 @@
 //! Declarators and parameters: ISO 9899:1990 6.5.4 and 6.7.1.
-ghost use Rattle.c_rules.specs.Answers.{Gives};
+ghost use Rattle.c_rules.specs.Answers.{Follows};
 ghost use Rattle.std.specs.Prelude.{◌≡◌, IfErr, OnOk, map};
 ghost use Rattle.c_syntax.specs.SyntaxView.{expression_of, array_of, parameter_of, parameters_of, item_form_of, initial_of};
 ghost use Rattle.c_rules.specs.declared.fault.Refusal.TheVariants as refusals;
@@ -21,7 +21,7 @@ use word_base::{Items, Text};
 impl<'a> Scopes<'a> {
     /// A constant length, where it may be one.
     pub(crate) fn length(&self, e: &Expr) -> Result<Option<u16>, Refusal>
-        ensures gives { Gives (λ n. n) (rules.typed_length (scope_of self.now) (expression_of e.now)) result }
+        ensures follows { Follows (λ n. n) (rules.typed_length (scope_of self.now) (expression_of e.now)) result }
     {
         let value = self.constant_tree(e)?;
         let word = word_at(e, &value)?;
@@ -30,7 +30,7 @@ impl<'a> Scopes<'a> {
 
     // Whether the length of a parameter that is an array can't be one.
     fn is_bad_length(&self, array: &Option<Brackets>) -> Result<bool, Refusal>
-        ensures gives { Gives (λ bad. bad) (rules.is_bad_length (scope_of self.now) (array_of array.now)) result }
+        ensures follows { Follows (λ bad. bad) (rules.is_bad_length (scope_of self.now) (array_of array.now)) result }
     {
         match array {
             Some(Brackets::Sized(e)) => {
@@ -52,7 +52,7 @@ impl<'a> Scopes<'a> {
 
     // The type of a parameter, whose length is only looked at.
     fn parameter(&self, naming: Naming, parameter: &Param) -> Result<ScalarType, Refusal>
-        ensures gives { Gives (λ kind. kind) (rules.parameter (scope_of self.now) naming (parameter_of parameter.now)) result }
+        ensures follows { Follows (λ kind. kind) (rules.parameter (scope_of self.now) naming (parameter_of parameter.now)) result }
     {
         let base = plain(&parameter.specs)?;
         let is_bad = self.is_bad_length(&parameter.array)?;
@@ -97,7 +97,7 @@ impl<'a> Scopes<'a> {
         naming: Naming,
         list: &'a [Param],
     ) -> Result<Vec<ScalarType>, Refusal>
-        ensures gives { Gives (λ kinds. kinds.items) (rules.parameters (scope_of self.old) naming (map parameter_of list.now)) result }
+        ensures follows { Follows (λ kinds. kinds.items) (rules.parameters (scope_of self.old) naming (map parameter_of list.now)) result }
         ensures around { around_of self.new ≡ around_of self.old }
         ensures bodies { self.new.bodies ≡ self.old.bodies }
     {
@@ -117,7 +117,7 @@ impl<'a> Scopes<'a> {
         result_kind: Option<ScalarType>,
         parameters: &'a Params,
     ) -> Result<Declared, Refusal>
-        ensures gives { Gives (λ d. d) (rules.prototype (scope_of self.old) result_kind (parameters_of parameters.now)) result }
+        ensures follows { Follows (λ d. d) (rules.prototype (scope_of self.old) result_kind (parameters_of parameters.now)) result }
         ensures tables { OnOk result (tables_of self.new ≡ tables_of self.old) }
         ensures scope { OnOk result (scope_of self.new ≡ scope_of self.old) }
         ensures around { OnOk result (around_of self.new ≡ around_of self.old) }
@@ -134,7 +134,7 @@ impl<'a> Scopes<'a> {
 
     /// What an item of a declaration declares.
     pub fn declarator(&mut self, base: Base, item: &'a Item) -> Result<Declared, Refusal>
-        ensures gives { Gives (λ d. d) (rules.declarator (scope_of self.old) base (item_form_of item.now.kind) item.now.stars (initial_of item.now.init)) result }
+        ensures follows { Follows (λ d. d) (rules.declarator (scope_of self.old) base (item_form_of item.now.kind) item.now.stars (initial_of item.now.init)) result }
         ensures tables { OnOk result (tables_of self.new ≡ tables_of self.old) }
         ensures scope { OnOk result (scope_of self.new ≡ scope_of self.old) }
         ensures around { OnOk result (around_of self.new ≡ around_of self.old) }

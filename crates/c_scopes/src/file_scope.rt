@@ -1,5 +1,5 @@
 //! The names of file scope, and what gives its objects their values: ISO 9899:1990 6.7.
-ghost use Rattle.c_rules.specs.Answers.{Gives};
+ghost use Rattle.c_rules.specs.Answers.{Follows};
 ghost use Rattle.std.specs.Prelude.{◌≡◌, ◌&&◌, ◌||◌, map, IfOk, IfErr, OnOk};
 ghost use Rattle.c_tree.specs.declared.program.VarRef.{VarRef};
 ghost use Rattle.c_syntax.specs.SyntaxView.{initial_of, parameter_of};
@@ -26,7 +26,7 @@ fn is_port(name: &str) -> bool
 }
 
 impl<'a> Scopes<'a> {
-    /// Declares an object of file scope, where it may be and isn't yet. Gives whether it may be.
+    /// Declares an object of file scope, where it may be and isn't yet. Follows whether it may be.
     pub fn declare_static(
         &mut self,
         name: &'a str,
@@ -53,7 +53,7 @@ impl<'a> Scopes<'a> {
         Ok(allowed)
     }
 
-    /// Declares a function, where it may be and isn't yet. Gives whether it may be.
+    /// Declares a function, where it may be and isn't yet. Follows whether it may be.
     pub fn declare_function(
         &mut self,
         name: &'a str,
@@ -94,7 +94,7 @@ impl<'a> Scopes<'a> {
 
     /// The types of the parameters of a function with a body, in a scope of their own.
     pub fn defined_parameters(&mut self, list: &'a [Param]) -> Result<Vec<ScalarType>, Refusal>
-        ensures gives { Gives (λ kinds. kinds.items) (parameters (open_scope (scope_of self.old)) Needed (map parameter_of list.now)) result }
+        ensures follows { Follows (λ kinds. kinds.items) (parameters (open_scope (scope_of self.old)) Needed (map parameter_of list.now)) result }
         ensures same { OnOk result (scope_of self.new ≡ scope_of self.old) }
         ensures tables { OnOk result (tables_of self.new ≡ tables_of self.old) }
     {
@@ -131,7 +131,7 @@ impl<'a> Scopes<'a> {
 
     /// The initialiser of an object of file scope, where it has one.
     pub fn starts(&self, initial: &Option<Init>) -> Result<Starts, Refusal>
-        ensures gives { Gives starts_of (rules.starts (scope_of self.now) (initial_of initial.now)) result }
+        ensures follows { Follows starts_of (rules.starts (scope_of self.now) (initial_of initial.now)) result }
     {
         match initial {
             None => Ok(Starts::Absent),

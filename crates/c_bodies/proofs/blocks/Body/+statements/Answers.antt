@@ -5,25 +5,25 @@ use Rattle.std.specs.Prelude.{map}
 use Rattle.c_tree.specs.declared.enclosing.Enclosing.TheVariants as around
 use Rattle.c_rules.specs.Answers.{Refuses}
 use Rattle.c_bodies.specs.Bodies.{behind, behind_choices, choices_in, labelled_of, parts_of, statements_in}
-use Rattle.c_bodies.proofs.StatementsSoFar.{turn, ended, refused_here, block_typed, block_gives, do_rest, else_rest, if_rest, arms_rest, while_rest, for_rest, same_gives}
+use Rattle.c_bodies.proofs.StatementsSoFar.{turn, ended, refused_here, block_typed, block_follows, do_rest, else_rest, if_rest, arms_rest, while_rest, for_rest, same_follows}
 use Rattle.c_bodies.proofs.ChoicesSoFar.{none_behind, turn as choice_turn, ended as choices_ended}
-use Rattle.c_bodies.proofs.SwitchLemmas.{label_typed, switch_gives, refused_here as choice_refused, switch_rest, with_locals_give}
+use Rattle.c_bodies.proofs.SwitchLemmas.{label_typed, switch_follows, refused_here as choice_refused, switch_rest, with_locals_follow}
 use Rattle.c_bodies.proofs.blocks.Body.+statements.Goals as goal
 
-pub block_here-returns-clause-gives : goal.block_here-returns-clause-gives
-block_here-returns-clause-gives t c =
+pub block_here-returns-clause-follows : goal.block_here-returns-clause-follows
+block_here-returns-clause-follows t c =
     block_typed c.args.self.now c.declarations.new.self c.statements.new.self (record { declared = c.new.result; statements = c.new-2.result }) c.in_ok-opening.opening c.in_ok-body.body c.args.enclosing (map declaration_of c.args.declarations.now) (body_of c.args.statements.now)
-    c.new.ensures.items c.new-2.ensures.items c.in_ok-opening.ensures.returned c.in_ok-opening.ensures.gives c.in_ok-body.ensures.typed
+    c.new.ensures.items c.new-2.ensures.items c.in_ok-opening.ensures.returned c.in_ok-opening.ensures.follows c.in_ok-body.ensures.typed
 
-pub statement-returns-in-Block-clause-gives : goal.statement-returns-in-Block-clause-gives
-statement-returns-in-Block-clause-gives t c =
-    block_gives c.args.self.now c.block.new.self c.args.enclosing c.block.result c.args.s.now c.in-Block.declarations c.in-Block.statements c.deref.result.now c.deref-in-Block.result.now (search rules) (search rules) (search rules) c.block.ensures.gives
+pub statement-returns-in-Block-clause-follows : goal.statement-returns-in-Block-clause-follows
+statement-returns-in-Block-clause-follows t c =
+    block_follows c.args.self.now c.block.new.self c.args.enclosing c.block.result c.args.s.now c.in-Block.declarations c.in-Block.statements c.deref.result.now c.deref-in-Block.result.now (search rules) (search rules) (search rules) c.block.ensures.follows
 
 pub statements-loop-s-preserved : goal.statements-loop-s-preserved
 statements-loop-s-preserved t c = record {
   typed = c.loop-s.invariant.typed
       ∙ turn c.loop-s.self c.statement.new.self c.in_ok-statement.ensures.tables c.in_ok-statement.ensures.bodies c.in_ok-statement.ensures.returned
-      c.args.enclosing c.args.list.now c.loop-s.s-index c.s-item.result c.loop-s.into.items c.in_ok-statement.field-0 c.s-item.is c.loop-s-test.true c.in_ok-statement.ensures.gives
+      c.args.enclosing c.args.list.now c.loop-s.s-index c.s-item.result c.loop-s.into.items c.in_ok-statement.field-0 c.s-item.is c.loop-s-test.true c.in_ok-statement.ensures.follows
       ∙ ap (λ l. behind l (statements_in c.statement.new.self c.args.enclosing (body_of (drop (c.loop-s.s-index + 1) c.args.list.now)))) (sym c.in_ok-push.ensures.items);
   tables = c.in_ok-statement.ensures.tables ∙ c.loop-s.invariant.tables;
   bodies = c.in_ok-statement.ensures.bodies ∙ c.loop-s.invariant.bodies;
@@ -37,48 +37,48 @@ statements-returns-clause-typed t c =
 pub statements-returns-in_err-statement-clause-refused : goal.statements-returns-in_err-statement-clause-refused
 statements-returns-in_err-statement-clause-refused t c =
     let h : Refuses (statements_in c.args.self.now c.args.enclosing (body_of c.args.list.now)) c.in_err-statement.field-0.0 =
-    refused_here (statements_in c.args.self.now c.args.enclosing (body_of c.args.list.now)) c.loop-s.self c.args.enclosing c.args.list.now c.loop-s.s-index c.s-item.result c.args.into.items c.loop-s.into.items c.in_err-statement.field-0.0 c.s-item.is c.loop-s-test.true c.loop-s.invariant.typed c.in_err-statement.ensures.gives in
+    refused_here (statements_in c.args.self.now c.args.enclosing (body_of c.args.list.now)) c.loop-s.self c.args.enclosing c.args.list.now c.loop-s.s-index c.s-item.result c.args.into.items c.loop-s.into.items c.in_err-statement.field-0.0 c.s-item.is c.loop-s-test.true c.loop-s.invariant.typed c.in_err-statement.ensures.follows in
     search (rules, h)
 
-pub do_loop-returns-clause-gives : goal.do_loop-returns-clause-gives
-do_loop-returns-clause-gives t c =
-    same_gives _ _ c.inner.new.self c.do_test.result
-    (do_rest c.args.self.now c.inner.new.self c.in_ok-body.ensures.tables c.in_ok-body.ensures.bodies around.Loop (statement_of c.args.body.now.kind c.args.body.now.at) (expression_of c.args.test.now) c.args.at (stmt_of c.in_ok-body.body.value) c.in_ok-body.ensures.gives)
-    c.do_test.ensures.gives
+pub do_loop-returns-clause-follows : goal.do_loop-returns-clause-follows
+do_loop-returns-clause-follows t c =
+    same_follows _ _ c.inner.new.self c.do_test.result
+    (do_rest c.args.self.now c.inner.new.self c.in_ok-body.ensures.tables c.in_ok-body.ensures.bodies around.Loop (statement_of c.args.body.now.kind c.args.body.now.at) (expression_of c.args.test.now) c.args.at (stmt_of c.in_ok-body.body.value) c.in_ok-body.ensures.follows)
+    c.do_test.ensures.follows
 
-pub either-returns-clause-gives : goal.either-returns-clause-gives
-either-returns-clause-gives t c =
-    same_gives _ _ c.otherwise.new.self c.otherwise.result
-    (else_rest c.args.self.now c.inner.new.self c.in_ok-yes.ensures.tables c.in_ok-yes.ensures.bodies c.in_ok-yes.ensures.returned c.args.enclosing (expression_of c.args.test.now) (statement_of c.args.yes.now.kind c.args.yes.now.at) (statement_of c.args.no.now.kind c.args.no.now.at) c.args.at (expr_of c.in_ok-test.test) (stmt_of c.in_ok-yes.yes.value) c.in_ok-test.ensures.gives c.in_ok-yes.ensures.gives)
-    c.otherwise.ensures.gives
+pub either-returns-clause-follows : goal.either-returns-clause-follows
+either-returns-clause-follows t c =
+    same_follows _ _ c.otherwise.new.self c.otherwise.result
+    (else_rest c.args.self.now c.inner.new.self c.in_ok-yes.ensures.tables c.in_ok-yes.ensures.bodies c.in_ok-yes.ensures.returned c.args.enclosing (expression_of c.args.test.now) (statement_of c.args.yes.now.kind c.args.yes.now.at) (statement_of c.args.no.now.kind c.args.no.now.at) c.args.at (expr_of c.in_ok-test.test) (stmt_of c.in_ok-yes.yes.value) c.in_ok-test.ensures.follows c.in_ok-yes.ensures.follows)
+    c.otherwise.ensures.follows
 
-pub choice-returns-clause-gives : goal.choice-returns-clause-gives
-choice-returns-clause-gives t c =
-    same_gives _ _ c.inner.new.self c.one_armed.result
-    (if_rest c.args.self.now c.inner.new.self c.args.enclosing (expression_of c.args.test.now) (statement_of c.args.yes.now.kind c.args.yes.now.at) c.args.at (expr_of c.in_ok-test.test) (stmt_of c.in_ok-yes.yes.value) c.in_ok-test.ensures.gives c.in_ok-yes.ensures.gives)
-    c.one_armed.ensures.gives
+pub choice-returns-clause-follows : goal.choice-returns-clause-follows
+choice-returns-clause-follows t c =
+    same_follows _ _ c.inner.new.self c.one_armed.result
+    (if_rest c.args.self.now c.inner.new.self c.args.enclosing (expression_of c.args.test.now) (statement_of c.args.yes.now.kind c.args.yes.now.at) c.args.at (expr_of c.in_ok-test.test) (stmt_of c.in_ok-yes.yes.value) c.in_ok-test.ensures.follows c.in_ok-yes.ensures.follows)
+    c.one_armed.ensures.follows
 
-pub otherwise-returns-clause-gives : goal.otherwise-returns-clause-gives
-otherwise-returns-clause-gives t c =
-    same_gives _ _ c.inner.new.self c.two_armed.result
-    (arms_rest c.args.self.now c.inner.new.self c.args.enclosing (statement_of c.args.no.now.kind c.args.no.now.at) c.args.at (expr_of c.args.test) (stmt_of c.args.yes.value) (stmt_of c.in_ok-no.no.value) c.in_ok-no.ensures.gives)
-    c.two_armed.ensures.gives
+pub otherwise-returns-clause-follows : goal.otherwise-returns-clause-follows
+otherwise-returns-clause-follows t c =
+    same_follows _ _ c.inner.new.self c.two_armed.result
+    (arms_rest c.args.self.now c.inner.new.self c.args.enclosing (statement_of c.args.no.now.kind c.args.no.now.at) c.args.at (expr_of c.args.test) (stmt_of c.args.yes.value) (stmt_of c.in_ok-no.no.value) c.in_ok-no.ensures.follows)
+    c.two_armed.ensures.follows
 
-pub while_loop-returns-clause-gives : goal.while_loop-returns-clause-gives
-while_loop-returns-clause-gives t c =
-    same_gives _ _ c.inner.new.self c.while_over.result
-    (while_rest c.args.self.now c.inner.new.self around.Loop (expression_of c.args.test.now) (statement_of c.args.body.now.kind c.args.body.now.at) c.args.at (expr_of c.in_ok-test.test) (stmt_of c.in_ok-body.body.value) c.in_ok-test.ensures.gives c.in_ok-body.ensures.gives)
-    c.while_over.ensures.gives
+pub while_loop-returns-clause-follows : goal.while_loop-returns-clause-follows
+while_loop-returns-clause-follows t c =
+    same_follows _ _ c.inner.new.self c.while_over.result
+    (while_rest c.args.self.now c.inner.new.self around.Loop (expression_of c.args.test.now) (statement_of c.args.body.now.kind c.args.body.now.at) c.args.at (expr_of c.in_ok-test.test) (stmt_of c.in_ok-body.body.value) c.in_ok-test.ensures.follows c.in_ok-body.ensures.follows)
+    c.while_over.ensures.follows
 
-pub for_loop-returns-clause-gives : goal.for_loop-returns-clause-gives
-for_loop-returns-clause-gives t c =
-    same_gives _ _ c.inner.new.self c.for_over.result
-    (for_rest c.args.self.now c.inner.new.self around.Loop (optional_of c.args.first.now) (optional_of c.args.test.now) (optional_of c.args.third.now) (statement_of c.args.body.now.kind c.args.body.now.at) c.args.at (record { first = c.in_ok-first.first; test = c.in_ok-test.test; third = c.in_ok-third.third }) (stmt_of c.in_ok-body.body.value) c.in_ok-first.ensures.gives c.in_ok-test.ensures.gives c.in_ok-third.ensures.gives c.in_ok-body.ensures.gives)
-    c.for_over.ensures.gives
+pub for_loop-returns-clause-follows : goal.for_loop-returns-clause-follows
+for_loop-returns-clause-follows t c =
+    same_follows _ _ c.inner.new.self c.for_over.result
+    (for_rest c.args.self.now c.inner.new.self around.Loop (optional_of c.args.first.now) (optional_of c.args.test.now) (optional_of c.args.third.now) (statement_of c.args.body.now.kind c.args.body.now.at) c.args.at (record { first = c.in_ok-first.first; test = c.in_ok-test.test; third = c.in_ok-third.third }) (stmt_of c.in_ok-body.body.value) c.in_ok-first.ensures.follows c.in_ok-test.ensures.follows c.in_ok-third.ensures.follows c.in_ok-body.ensures.follows)
+    c.for_over.ensures.follows
 
-pub statement-returns-in-Switch-clause-gives : goal.statement-returns-in-Switch-clause-gives
-statement-returns-in-Switch-clause-gives t c =
-    switch_gives c.args.self.now c.switch.new.self c.args.enclosing c.switch.result c.args.s.now c.in-Switch.value c.in-Switch.parts c.in-Switch.parts_at c.deref-in-Switch.result.now (search rules) (search rules) c.switch.ensures.gives
+pub statement-returns-in-Switch-clause-follows : goal.statement-returns-in-Switch-clause-follows
+statement-returns-in-Switch-clause-follows t c =
+    switch_follows c.args.self.now c.switch.new.self c.args.enclosing c.switch.result c.args.s.now c.in-Switch.value c.in-Switch.parts c.in-Switch.parts_at c.deref-in-Switch.result.now (search rules) (search rules) c.switch.ensures.follows
 
 pub choices-loop-part-init : goal.choices-loop-part-init
 choices-loop-part-init t c = record {
@@ -100,23 +100,23 @@ choices-loop-part-preserved t c = record {
   returned = c.in_ok-found.ensures.returned ∙ c.loop-part.invariant.returned;
 }
 
-pub choices-returns-clause-gives : goal.choices-returns-clause-gives
-choices-returns-clause-gives t c =
+pub choices-returns-clause-follows : goal.choices-returns-clause-follows
+choices-returns-clause-follows t c =
     c.loop-part.invariant.typed ∙ choices_ended c.loop-part.self c.args.enclosing c.args.parts.now c.loop-part.part-index c.loop-part.labelled.choices.items c.loop-part.labelled.pointer c.loop-part-test.false
 
-pub choices-returns-in_err-found-clause-gives : goal.choices-returns-in_err-found-clause-gives
-choices-returns-in_err-found-clause-gives t c =
+pub choices-returns-in_err-found-clause-follows : goal.choices-returns-in_err-found-clause-follows
+choices-returns-in_err-found-clause-follows t c =
     let h : Refuses (choices_in c.args.self.now c.args.enclosing (parts_of c.args.parts.now)) c.in_err-found.field-0.0 =
     choice_refused (choices_in c.args.self.now c.args.enclosing (parts_of c.args.parts.now)) c.loop-part.self c.args.enclosing c.args.parts.now c.loop-part.part-index c.part-item.result c.loop-part.labelled.choices.items c.loop-part.labelled.pointer c.in_err-found.field-0.0 c.part-item.is c.loop-part-test.true c.loop-part.invariant.typed c.in_err-found.ensures.refused in
     search (rules, h)
 
-pub switch-returns-clause-gives : goal.switch-returns-clause-gives
-switch-returns-clause-gives t c =
-    with_locals_give _ c.choices.new.self _ c.switched.result
-    (switch_rest c.args.self.now c.choices.new.self c.args.enclosing (expression_of c.args.value.now) (parts_of c.args.parts.now) c.args.place c.args.at (expr_of c.in_ok-value.value) (labelled_of c.in_ok-labelled.labelled) c.in_ok-value.ensures.gives (rw c.in_switch.ensures at c.in_ok-labelled.ensures.gives))
-    c.switched.ensures.gives
+pub switch-returns-clause-follows : goal.switch-returns-clause-follows
+switch-returns-clause-follows t c =
+    with_locals_follow _ c.choices.new.self _ c.switched.result
+    (switch_rest c.args.self.now c.choices.new.self c.args.enclosing (expression_of c.args.value.now) (parts_of c.args.parts.now) c.args.place c.args.at (expr_of c.in_ok-value.value) (labelled_of c.in_ok-labelled.labelled) c.in_ok-value.ensures.follows (rw c.in_switch.ensures at c.in_ok-labelled.ensures.follows))
+    c.switched.ensures.follows
 
 pub label_or_body-returns-in_ok-word-in-Case-clause-typed : goal.label_or_body-returns-in_ok-word-in-Case-clause-typed
 label_or_body-returns-in_ok-word-in-Case-clause-typed t c =
     label_typed c.args.self.now c.args.enclosing c.args.part.now c.in-Case.label (expr_of c.in_ok-value-in-Case.value) c.in_ok-word-in-Case.word c.points.result
-    c.in-Case.is c.in_ok-value-in-Case.ensures.gives c.in_ok-word-in-Case.ensures.gives c.points.ensures
+    c.in-Case.is c.in_ok-value-in-Case.ensures.follows c.in_ok-word-in-Case.ensures.follows c.points.ensures

@@ -11,8 +11,8 @@ use Rattle.c_scopes.proofs.ScopesKept.{closed_again, scope_kept}
 use Rattle.c_types.proofs.UnitLemmas.{body_typed, function_pushed}
 use Rattle.c_types.proofs.units.File.body.Goals as goal
 
-pub returns-clause-gives : goal.returns-clause-gives
-returns-clause-gives c =
+pub returns-clause-follows : goal.returns-clause-follows
+returns-clause-follows c =
     let f = c.args.f.now in
     let old = c.args.self.now.scopes in
     let list = c.as_slice-list.result.now in
@@ -32,7 +32,7 @@ returns-clause-gives c =
     (ap (λ d. typed_body c.args.kind (scope_of c.declare_parameters.new.self) (map local_tree_of c.in_ok-locals.locals.items) (map declaration_of d) (body_of f.statements)) (sym c.as_slice.ensures)
     ∙ ap (λ b. typed_body c.args.kind (scope_of c.declare_parameters.new.self) (map local_tree_of c.in_ok-locals.locals.items) (map declaration_of c.as_slice.result.now) (body_of b)) (sym c.as_slice-2.ensures)
     ∙ ap (λ x. typed_body c.args.kind (scope_of x) (map local_tree_of c.in_ok-locals.locals.items) (map declaration_of c.as_slice.result.now) (body_of c.as_slice-2.result.now)) (sym c.replace.ensures.value)
-    ∙ c.in_ok-tree.ensures.gives)
+    ∙ c.in_ok-tree.ensures.follows)
     (function_pushed (file_of c.args.self.now) (scope_of c.close.new.self) c.args.self.now.functions.items c.push.new.self.items _ f.name c.args.kind c.args.kinds.now
     (record { tree = stmt_of c.in_ok-tree.tree; locals = map local_tree_of c.body.new.self.locals.items })
     kept refl c.in_ok-push.ensures.items
