@@ -28,10 +28,7 @@ use word_base::NoMemory;
 const MOST_SCALARS: u32 = MOST_FRAME_SCALARS as u32;
 
 /// What the objects of each function stand for, where what is wanted of the whole source holds.
-pub fn frames_of(
-    alloc: Global,
-    functions: &[TypedFunction],
-) -> Result<Vec<Vec<VarRef>>, TypeFault>
+pub fn frames_of(alloc: Global, functions: &[TypedFunction]) -> Result<Vec<Vec<VarRef>>, TypeFault>
     ensures whole { IfOk result (λ _. AreWhole (map typed_function_of functions.now)) }
     ensures frames { IfOk result (λ frames. frame_lists frames.items ≡ map frame (map typed_function_of functions.now)) }
     ensures refused { IfErr result (SaysOf (map typed_function_of functions.now)) }

@@ -26,7 +26,7 @@ fn is_port(name: &str) -> bool
 }
 
 impl<'a> Scopes<'a> {
-    /// Declares an object of file scope, where it may be and isn't yet. Follows whether it may be.
+    /// Declares an object of file scope, where it may be and isn't yet. Gives whether it may be.
     pub fn declare_static(
         &mut self,
         name: &'a str,
@@ -53,7 +53,7 @@ impl<'a> Scopes<'a> {
         Ok(allowed)
     }
 
-    /// Declares a function, where it may be and isn't yet. Follows whether it may be.
+    /// Declares a function, where it may be and isn't yet. Gives whether it may be.
     pub fn declare_function(
         &mut self,
         name: &'a str,

@@ -161,7 +161,7 @@ impl<'a> File<'a> {
         Ok(self.set_list(number, object_type, list, name)?)
     }
 
-    // Follows an object its list, and is told its number where it is declared already.
+    // Gives an object its list, and is told its number where it is declared already.
     fn set_list(
         &mut self,
         number: Option<u32>,
