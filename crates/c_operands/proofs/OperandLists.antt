@@ -8,7 +8,7 @@ use Rattle.std.specs.List.{list_any}
 use Rattle.c_tree.specs.declared.typed_expression.TypedExpr.{TypedExpr}
 use Rattle.c_tree.specs.TypedTree.{Exprs, none, more}
 use Rattle.c_tree.specs.View.{expr_of, argument_list}
-use Rattle.c_operands.specs.declared.operands.Operand.{Operand}
+use Rattle.c_operands.specs.declared.conversions.Operand.{Operand}
 use Rattle.c_rules.specs.Outcome.{Outcome, Is, Broken, ◌>>=◌}
 use Rattle.c_rules.specs.Kinds.{is_void, int}
 use Rattle.c_rules.specs.Operands.{any_void, given, passed}

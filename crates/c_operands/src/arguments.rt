@@ -1,9 +1,9 @@
 //! The arguments of calls and of ports: ISO 9899:1990 6.3.2.2.
-ghost use Rattle.std.specs.Prelude.{◌≡◌, Some, true, false, nat_lt, IfOk, IfErr, map, []};
+ghost use Rattle.std.specs.Prelude.{◌≡◌, Some, true, false, nat_lt, IfOk, IfErr, IfSome, IfNone, None, map, [], ◌∷◌, length, ◌≢◌};
 ghost use Rattle.std.specs.Vec.Iter.{into_iter_items};
 ghost use Rattle.c_tree.specs.View.{expr_of, argument_list};
 ghost use Rattle.std.specs.List.{list_any};
-ghost use Rattle.c_tree.specs.TypedTree.{Node, In};
+ghost use Rattle.c_tree.specs.TypedTree.{Node, In, Out};
 ghost use Rattle.c_rules.specs.Kinds.{is_void, int};
 ghost use Rattle.c_rules.specs.Outcome.{Is};
 ghost use Rattle.c_rules.specs.Answers.{Follows, Refuses};
@@ -12,9 +12,8 @@ ghost use Rattle.c_operands.specs.OperandView.{operand_of};
 ghost use Rattle.c_rules.specs.declared.fault.Refusal.TheVariants as refusals;
 ghost use Rattle.c_rules.specs.declared.fault.Rule.TheVariants as rule;
 
-use crate::conversions::given;
+use crate::conversions::{Operand, given};
 use crate::kinds::{INT, class_of};
-use crate::operands::Operand;
 use c_rules::{Class, Refusal, Rule, mismatch};
 use c_tree::{ExprForm, ScalarType, TypedExpr};
 use std::alloc::Global;
@@ -109,18 +108,30 @@ fn port_number(at: u32, port: u16) -> Result<u8, Refusal>
 fn sent(alloc: Global, at: u32, port: u8, xs: Vec<Operand>) -> Result<TypedExpr, Refusal>
     ensures follows { Follows expr_of (rules.sent at port (map operand_of xs.items)) result }
 {
-    let mut words = xs.into_iter();
-    match (words.next(), words.next()) {
-        (Some(word), None) => Ok(TypedExpr {
-            form: ExprForm::Out {
-                port,
-                value: Box::new(alloc, word.value)?,
-            },
-            kind: None,
-            at,
-        }),
-        _ => Err(wrong_count(at)),
+    match only(xs) {
+        Some(word) => sent_word(alloc, at, port, word),
+        None => Err(wrong_count(at)),
     }
+}
+
+// The one operand that there is.
+fn only(mut xs: Vec<Operand>) -> Option<Operand>
+    ensures one { IfSome result (λ x. xs.items ≡ x ∷ []) }
+    ensures other { IfNone result (length xs.items ≢ 1) }
+{
+    if xs.len() == 1 { xs.pop() } else { None }
+}
+
+fn sent_word(alloc: Global, at: u32, port: u8, word: Operand) -> Result<TypedExpr, Refusal>
+    ensures typed { IfOk result (λ e. expr_of e ≡ Node (Out port (expr_of word.value)) None at) }
+    ensures memory { IfErr result (λ f. f ≡ refusals.NoMemory) }
+{
+    let value = Box::new(alloc, word.value)?;
+    Ok(TypedExpr {
+        form: ExprForm::Out { port, value },
+        kind: None,
+        at,
+    })
 }
 
 /// What a call passes: each operand as one of the type of its parameter.

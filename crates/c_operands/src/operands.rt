@@ -8,174 +8,105 @@ ghost use Rattle.c_tree.specs.TypedTree.{Node, Const, Unary, Binary, And, Or, No
 ghost use Rattle.c_rules.specs.declared.fault.Rule.TheVariants as rule;
 ghost use Rattle.c_rules.specs.Kinds.{class_of};
 ghost use Rattle.c_rules.specs.Operands as rules;
-ghost use Rattle.c_operands.specs.OperandView.{operand_of, pair_of};
+ghost use Rattle.c_operands.specs.OperandView.{operand_of, pair_of, left_of, right_of};
 
-use crate::conversions::{balanced, met};
+use crate::conversions::{Operand, word};
 use crate::kinds::{INT, UNSIGNED, class_of, same_kind};
+use crate::pairs::{Pair, balanced, boxed, met};
 use c_rules::{Class, Refusal, Rule, mismatch};
 use c_syntax::{BinaryOp, UnaryOp};
 use c_tree::{ExprForm, ScalarType, TypedExpr};
 use std::alloc::Global;
 
-/// An operand, and whether its text is that of a null pointer.
-#[derive(Drop)]
-pub struct Operand {
-    pub value: TypedExpr,
-    pub null: bool,
-}
-
-/// Two values of one type.
-#[derive(Drop)]
-pub(crate) struct Pair {
-    pub(crate) left: TypedExpr,
-    pub(crate) right: TypedExpr,
-}
-
-fn binary_node(
-    alloc: Global,
-    op: BinaryOp,
-    at: u32,
-    kind: Option<ScalarType>,
-    left: TypedExpr,
-    right: TypedExpr,
-) -> Result<TypedExpr, Refusal>
-    ensures typed { IfOk result (λ e. expr_of e ≡ Node (Binary op (expr_of left) (expr_of right)) kind at) }
-    ensures memory { IfErr result (λ f. f ≡ refusals.NoMemory) }
+// An operator's node over two values.
+fn binary_node(op: BinaryOp, at: u32, kind: Option<ScalarType>, pair: Pair) -> TypedExpr
+    ensures { expr_of result ≡ Node (Binary op (expr_of pair.left.value) (expr_of pair.right.value)) kind at }
 {
     let form = ExprForm::Binary {
         op,
-        left: Box::new(alloc, left)?,
-        right: Box::new(alloc, right)?,
+        left: pair.left,
+        right: pair.right,
     };
-    Ok(TypedExpr { form, kind, at })
+    TypedExpr { form, kind, at }
 }
 
 // An operator on two integers, whose value has their common type.
-fn calculated(
-    alloc: Global,
-    op: BinaryOp,
-    at: u32,
-    left: TypedExpr,
-    right: TypedExpr,
-) -> Result<TypedExpr, Refusal>
-    ensures typed { IfOk result (λ e. expr_of e ≡ rules.calculated op at (rules.balanced (expr_of left) (expr_of right))) }
+fn calculated(alloc: Global, op: BinaryOp, at: u32, pair: Pair) -> Result<TypedExpr, Refusal>
+    ensures typed { IfOk result (λ e. expr_of e ≡ rules.calculated op at (rules.balanced (expr_of pair.left.value) (expr_of pair.right.value))) }
     ensures memory { IfErr result (λ f. f ≡ refusals.NoMemory) }
 {
-    let pair = balanced(alloc, left, right)?;
+    let pair = balanced(alloc, pair)?;
     let kind = pair.left.kind;
-    binary_node(alloc, op, at, kind, pair.left, pair.right)
+    Ok(binary_node(op, at, kind, pair))
 }
 
 /// `+`: 6.3.6.
-pub(crate) fn sum(
-    alloc: Global,
-    at: u32,
-    left: TypedExpr,
-    right: TypedExpr,
-) -> Result<TypedExpr, Refusal>
-    ensures follows { Follows expr_of (rules.sum at (expr_of left) (expr_of right)) result }
+pub(crate) fn sum(alloc: Global, at: u32, pair: Pair) -> Result<TypedExpr, Refusal>
+    ensures follows { Follows expr_of (rules.sum at (expr_of pair.left.value) (expr_of pair.right.value)) result }
 {
-    match (class_of(left.kind), class_of(right.kind)) {
-        (Class::Integer, Class::Integer) => calculated(alloc, BinaryOp::Add, at, left, right),
-        (Class::Pointer, Class::Integer) => {
-            let kind = left.kind;
-            binary_node(alloc, BinaryOp::Add, at, kind, left, right)
-        }
-        (Class::Integer, Class::Pointer) => {
-            let kind = right.kind;
-            binary_node(alloc, BinaryOp::Add, at, kind, left, right)
-        }
+    let (left, right) = (pair.left.kind, pair.right.kind);
+    match (class_of(left), class_of(right)) {
+        (Class::Integer, Class::Integer) => calculated(alloc, BinaryOp::Add, at, pair),
+        (Class::Pointer, Class::Integer) => Ok(binary_node(BinaryOp::Add, at, left, pair)),
+        (Class::Integer, Class::Pointer) => Ok(binary_node(BinaryOp::Add, at, right, pair)),
         _ => Err(mismatch(at)),
     }
 }
 
 // `-`: 6.3.6.
-fn difference(
-    alloc: Global,
-    at: u32,
-    left: TypedExpr,
-    right: TypedExpr,
-) -> Result<TypedExpr, Refusal>
-    ensures follows { Follows expr_of (rules.difference_as (class_of (kind_of (expr_of left))) (class_of (kind_of (expr_of right))) at (expr_of left) (expr_of right)) result }
+fn difference(alloc: Global, at: u32, pair: Pair) -> Result<TypedExpr, Refusal>
+    ensures follows { Follows expr_of (rules.difference_as (class_of (kind_of (expr_of pair.left.value))) (class_of (kind_of (expr_of pair.right.value))) at (expr_of pair.left.value) (expr_of pair.right.value)) result }
 {
-    match (class_of(left.kind), class_of(right.kind)) {
-        (Class::Integer, Class::Integer) => calculated(alloc, BinaryOp::Sub, at, left, right),
-        (Class::Pointer, Class::Integer) => {
-            let kind = left.kind;
-            binary_node(alloc, BinaryOp::Sub, at, kind, left, right)
-        }
-        (Class::Pointer, Class::Pointer) => pointers(alloc, BinaryOp::Sub, at, left, right),
+    let kind = pair.left.kind;
+    match (class_of(kind), class_of(pair.right.kind)) {
+        (Class::Integer, Class::Integer) => calculated(alloc, BinaryOp::Sub, at, pair),
+        (Class::Pointer, Class::Integer) => Ok(binary_node(BinaryOp::Sub, at, kind, pair)),
+        (Class::Pointer, Class::Pointer) => pointers(BinaryOp::Sub, at, pair),
         _ => Err(mismatch(at)),
     }
 }
 
 // Two pointers of one type under an operator that gives an int.
-fn pointers(
-    alloc: Global,
-    op: BinaryOp,
-    at: u32,
-    left: TypedExpr,
-    right: TypedExpr,
-) -> Result<TypedExpr, Refusal>
-    ensures follows { Follows expr_of (rules.pointers op at (expr_of left) (expr_of right)) result }
+fn pointers(op: BinaryOp, at: u32, pair: Pair) -> Result<TypedExpr, Refusal>
+    ensures follows { Follows expr_of (rules.pointers op at (expr_of pair.left.value) (expr_of pair.right.value)) result }
 {
-    if same_kind(left.kind, right.kind) {
-        return binary_node(alloc, op, at, Some(INT), left, right);
+    if same_kind(pair.left.kind, pair.right.kind) {
+        return Ok(binary_node(op, at, Some(INT), pair));
     }
     Err(mismatch(at))
 }
 
 // `* / %` and `& ^ |`: 6.3.5 and 6.3.10 to 6.3.12.
-fn product(
-    alloc: Global,
-    op: BinaryOp,
-    at: u32,
-    left: TypedExpr,
-    right: TypedExpr,
-) -> Result<TypedExpr, Refusal>
-    ensures follows { Follows expr_of (rules.product_as (class_of (kind_of (expr_of left))) (class_of (kind_of (expr_of right))) op at (expr_of left) (expr_of right)) result }
+fn product(alloc: Global, op: BinaryOp, at: u32, pair: Pair) -> Result<TypedExpr, Refusal>
+    ensures follows { Follows expr_of (rules.product_as (class_of (kind_of (expr_of pair.left.value))) (class_of (kind_of (expr_of pair.right.value))) op at (expr_of pair.left.value) (expr_of pair.right.value)) result }
 {
-    match (class_of(left.kind), class_of(right.kind)) {
-        (Class::Integer, Class::Integer) => calculated(alloc, op, at, left, right),
+    match (class_of(pair.left.kind), class_of(pair.right.kind)) {
+        (Class::Integer, Class::Integer) => calculated(alloc, op, at, pair),
         _ => Err(mismatch(at)),
     }
 }
 
 // `<<` and `>>`: 6.3.7. The value has the type of the left operand.
-fn shift(
-    alloc: Global,
-    op: BinaryOp,
-    at: u32,
-    left: TypedExpr,
-    right: TypedExpr,
-) -> Result<TypedExpr, Refusal>
-    ensures follows { Follows expr_of (rules.shift_as (class_of (kind_of (expr_of left))) (class_of (kind_of (expr_of right))) op at (expr_of left) (expr_of right)) result }
+fn shift(op: BinaryOp, at: u32, pair: Pair) -> Result<TypedExpr, Refusal>
+    ensures follows { Follows expr_of (rules.shift_as (class_of (kind_of (expr_of pair.left.value))) (class_of (kind_of (expr_of pair.right.value))) op at (expr_of pair.left.value) (expr_of pair.right.value)) result }
 {
-    match (class_of(left.kind), class_of(right.kind)) {
-        (Class::Integer, Class::Integer) => {
-            let kind = left.kind;
-            binary_node(alloc, op, at, kind, left, right)
-        }
+    let kind = pair.left.kind;
+    match (class_of(kind), class_of(pair.right.kind)) {
+        (Class::Integer, Class::Integer) => Ok(binary_node(op, at, kind, pair)),
         _ => Err(mismatch(at)),
     }
 }
 
 // `< > <= >=`: 6.3.8.
-fn order(
-    alloc: Global,
-    op: BinaryOp,
-    at: u32,
-    left: TypedExpr,
-    right: TypedExpr,
-) -> Result<TypedExpr, Refusal>
-    ensures follows { Follows expr_of (rules.order_as (class_of (kind_of (expr_of left))) (class_of (kind_of (expr_of right))) op at (expr_of left) (expr_of right)) result }
+fn order(alloc: Global, op: BinaryOp, at: u32, pair: Pair) -> Result<TypedExpr, Refusal>
+    ensures follows { Follows expr_of (rules.order_as (class_of (kind_of (expr_of pair.left.value))) (class_of (kind_of (expr_of pair.right.value))) op at (expr_of pair.left.value) (expr_of pair.right.value)) result }
 {
-    match (class_of(left.kind), class_of(right.kind)) {
+    match (class_of(pair.left.kind), class_of(pair.right.kind)) {
         (Class::Integer, Class::Integer) => {
-            let pair = balanced(alloc, left, right)?;
-            binary_node(alloc, op, at, Some(INT), pair.left, pair.right)
+            let pair = balanced(alloc, pair)?;
+            Ok(binary_node(op, at, Some(INT), pair))
         }
-        (Class::Pointer, Class::Pointer) => pointers(alloc, op, at, left, right),
+        (Class::Pointer, Class::Pointer) => pointers(op, at, pair),
         _ => Err(mismatch(at)),
     }
 }
@@ -185,13 +116,14 @@ fn equality(
     alloc: Global,
     op: BinaryOp,
     at: u32,
-    left: Operand,
-    right: Operand,
+    pair: Pair,
+    left_null: bool,
+    right_null: bool,
 ) -> Result<TypedExpr, Refusal>
-    ensures follows { Follows expr_of (rules.equality op at (operand_of left) (operand_of right)) result }
+    ensures follows { Follows expr_of (rules.equality op at (left_of pair left_null) (right_of pair right_null)) result }
 {
-    let pair = met(alloc, at, left, right)?;
-    binary_node(alloc, op, at, Some(INT), pair.left, pair.right)
+    let pair = met(alloc, at, pair, left_null, right_null)?;
+    Ok(binary_node(op, at, Some(INT), pair))
 }
 
 /// An operator between two operands.
@@ -204,20 +136,19 @@ pub fn binary(
 ) -> Result<TypedExpr, Refusal>
     ensures follows { Follows expr_of (rules.binary op at (operand_of left) (operand_of right)) result }
 {
+    let pair = boxed(alloc, left.value, right.value)?;
     match op {
-        BinaryOp::Add => sum(alloc, at, left.value, right.value),
-        BinaryOp::Sub => difference(alloc, at, left.value, right.value),
+        BinaryOp::Add => sum(alloc, at, pair),
+        BinaryOp::Sub => difference(alloc, at, pair),
         BinaryOp::Mul
         | BinaryOp::Div
         | BinaryOp::Rem
         | BinaryOp::And
         | BinaryOp::Or
-        | BinaryOp::Xor => product(alloc, op, at, left.value, right.value),
-        BinaryOp::Shl | BinaryOp::Shr => shift(alloc, op, at, left.value, right.value),
-        BinaryOp::Eq | BinaryOp::Ne => equality(alloc, op, at, left, right),
-        BinaryOp::Lt | BinaryOp::Gt | BinaryOp::Le | BinaryOp::Ge => {
-            order(alloc, op, at, left.value, right.value)
-        }
+        | BinaryOp::Xor => product(alloc, op, at, pair),
+        BinaryOp::Shl | BinaryOp::Shr => shift(op, at, pair),
+        BinaryOp::Eq | BinaryOp::Ne => equality(alloc, op, at, pair, left.null, right.null),
+        BinaryOp::Lt | BinaryOp::Gt | BinaryOp::Le | BinaryOp::Ge => order(alloc, op, at, pair),
     }
 }
 
@@ -225,14 +156,12 @@ pub fn binary(
 pub fn unary(alloc: Global, op: UnaryOp, at: u32, value: TypedExpr) -> Result<TypedExpr, Refusal>
     ensures follows { Follows expr_of (rules.unary op at (expr_of value)) result }
 {
+    let value = Box::new(alloc, value)?;
     let kind = value.kind;
     if class_of(kind) != Class::Integer {
         return Err(mismatch(at));
     }
-    let form = ExprForm::Unary {
-        op,
-        value: Box::new(alloc, value)?,
-    };
+    let form = ExprForm::Unary { op, value };
     Ok(TypedExpr { form, kind, at })
 }
 
@@ -240,11 +169,12 @@ pub fn unary(alloc: Global, op: UnaryOp, at: u32, value: TypedExpr) -> Result<Ty
 pub fn negated(alloc: Global, at: u32, value: TypedExpr) -> Result<TypedExpr, Refusal>
     ensures follows { Follows expr_of (rules.negated at (expr_of value)) result }
 {
+    let value = Box::new(alloc, value)?;
     if value.kind.is_none() {
         return Err(mismatch(at));
     }
     Ok(TypedExpr {
-        form: ExprForm::Not(Box::new(alloc, value)?),
+        form: ExprForm::Not(value),
         kind: Some(INT),
         at,
     })
@@ -259,12 +189,13 @@ pub fn both_true(
 ) -> Result<TypedExpr, Refusal>
     ensures follows { Follows expr_of (rules.both_true at (expr_of left) (expr_of right)) result }
 {
-    if left.kind.is_none() || right.kind.is_none() {
+    let pair = boxed(alloc, left, right)?;
+    if pair.left.kind.is_none() || pair.right.kind.is_none() {
         return Err(mismatch(at));
     }
     let form = ExprForm::And {
-        left: Box::new(alloc, left)?,
-        right: Box::new(alloc, right)?,
+        left: pair.left,
+        right: pair.right,
     };
     Ok(TypedExpr {
         form,
@@ -282,12 +213,13 @@ pub fn either_true(
 ) -> Result<TypedExpr, Refusal>
     ensures follows { Follows expr_of (rules.either_true at (expr_of left) (expr_of right)) result }
 {
-    if left.kind.is_none() || right.kind.is_none() {
+    let pair = boxed(alloc, left, right)?;
+    if pair.left.kind.is_none() || pair.right.kind.is_none() {
         return Err(mismatch(at));
     }
     let form = ExprForm::Or {
-        left: Box::new(alloc, left)?,
-        right: Box::new(alloc, right)?,
+        left: pair.left,
+        right: pair.right,
     };
     Ok(TypedExpr {
         form,
@@ -306,29 +238,28 @@ pub fn picked(
 ) -> Result<TypedExpr, Refusal>
     ensures follows { Follows expr_of (rules.picked at (expr_of test) (operand_of yes) (operand_of no)) result }
 {
+    let pair = boxed(alloc, yes.value, no.value)?;
+    let test = Box::new(alloc, test)?;
     if test.kind.is_none() {
         return Err(mismatch(at));
     }
-    let pair = arms(alloc, at, yes, no)?;
+    let pair = arms(alloc, at, pair, yes.null, no.null)?;
     let kind = pair.left.kind;
     let form = ExprForm::Pick {
-        test: Box::new(alloc, test)?,
-        yes: Box::new(alloc, pair.left)?,
-        no: Box::new(alloc, pair.right)?,
+        test,
+        yes: pair.left,
+        no: pair.right,
     };
     Ok(TypedExpr { form, kind, at })
 }
 
-fn arms(alloc: Global, at: u32, yes: Operand, no: Operand) -> Result<Pair, Refusal>
-    ensures follows { Follows pair_of (rules.arms_as (rules.class_at (operand_of yes)) (rules.class_at (operand_of no)) at (operand_of yes) (operand_of no)) result }
+fn arms(alloc: Global, at: u32, pair: Pair, yes_null: bool, no_null: bool) -> Result<Pair, Refusal>
+    ensures follows { Follows pair_of (rules.arms_as (class_of (kind_of (expr_of pair.left.value))) (class_of (kind_of (expr_of pair.right.value))) at (left_of pair yes_null) (right_of pair no_null)) result }
 {
-    if yes.value.kind.is_none() && no.value.kind.is_none() {
-        return Ok(Pair {
-            left: yes.value,
-            right: no.value,
-        });
+    if pair.left.kind.is_none() && pair.right.kind.is_none() {
+        return Ok(pair);
     }
-    met(alloc, at, yes, no)
+    met(alloc, at, pair, yes_null, no_null)
 }
 
 /// A comma, one value behind another: 6.3.17.
@@ -341,10 +272,11 @@ pub fn behind(
     ensures typed { IfOk result (λ e. expr_of e ≡ rules.behind at (expr_of left) (expr_of right)) }
     ensures memory { IfErr result (λ f. f ≡ refusals.NoMemory) }
 {
-    let kind = right.kind;
+    let pair = boxed(alloc, left, right)?;
+    let kind = pair.right.kind;
     let form = ExprForm::Comma {
-        left: Box::new(alloc, left)?,
-        right: Box::new(alloc, right)?,
+        left: pair.left,
+        right: pair.right,
     };
     Ok(TypedExpr { form, kind, at })
 }
@@ -384,17 +316,6 @@ fn long_constant(at: u32) -> Refusal
 {
     Refusal::Broken {
         rule: Rule::LongConstant,
-        at,
-    }
-}
-
-/// A word of a type.
-pub(crate) fn word(value: u16, kind: ScalarType, at: u32) -> TypedExpr
-    ensures { expr_of result ≡ Node (Const value) (Some kind) at }
-{
-    TypedExpr {
-        form: ExprForm::Const(value),
-        kind: Some(kind),
         at,
     }
 }

@@ -2,18 +2,21 @@
 ghost use Rattle.c_rules.specs.Answers.{Follows};
 ghost use Rattle.std.specs.Prelude.{◌≡◌, Some, None, IfOk, IfErr};
 ghost use Rattle.c_tree.specs.View.{expr_of, lvalue_of};
+ghost use Rattle.c_tree.specs.TypedTree.{Node, AddressOf};
 ghost use Rattle.c_tree.specs.WellFormed as well_formed;
+ghost use Rattle.c_rules.specs.Kinds as kinds;
 ghost use Rattle.c_rules.specs.Operands as rules;
 ghost use Rattle.c_operands.specs.OperandView.{operand_of};
 ghost use Rattle.c_rules.specs.declared.fault.Refusal.TheVariants as refusals;
 ghost use Rattle.c_rules.specs.declared.fault.Rule.TheVariants as rule;
 
-use crate::conversions::given;
+use crate::conversions::{Operand, given};
 use crate::kinds::{class_of, pointed, pointer_to};
-use crate::operands::{Operand, sum};
+use crate::operands::sum;
+use crate::pairs::boxed;
 use c_rules::{Class, Refusal, Rule, mismatch};
 use c_syntax::BinaryOp;
-use c_tree::{ExprForm, Target, TargetForm, TypedExpr};
+use c_tree::{ExprForm, ScalarType, Target, TargetForm, TypedExpr, VarRef};
 use std::alloc::Global;
 
 /// No object stands where one is written, at the node that writes.
@@ -46,18 +49,30 @@ fn target_of(at: u32, e: TypedExpr) -> Result<Target, Refusal>
     }
 }
 
+// What a value gives where one of this type is wanted, in a box.
+fn given_boxed(
+    alloc: Global,
+    kind: ScalarType,
+    at: u32,
+    x: Operand,
+) -> Result<Box<TypedExpr>, Refusal>
+    ensures follows { Follows (λ e. expr_of e.value) (rules.given kind at (operand_of x)) result }
+{
+    let value = given(alloc, kind, at, x)?;
+    Ok(Box::new(alloc, value)?)
+}
+
 /// `=`: 6.3.16.1.
 pub fn assigned(alloc: Global, at: u32, to: TypedExpr, value: Operand) -> Result<TypedExpr, Refusal>
     ensures follows { Follows expr_of (rules.assigned at (expr_of to) (operand_of value)) result }
 {
-    let Some(kind) = to.kind else {
+    let kind = to.kind;
+    let target = target_of(at, to);
+    let Some(kind) = kind else {
         return Err(mismatch(at));
     };
-    let value = given(alloc, kind, at, value)?;
-    let form = ExprForm::Assign {
-        to: target_of(at, to)?,
-        value: Box::new(alloc, value)?,
-    };
+    let value = given_boxed(alloc, kind, at, value)?;
+    let form = ExprForm::Assign { to: target?, value };
     Ok(TypedExpr {
         form,
         kind: Some(kind),
@@ -96,14 +111,15 @@ pub fn assigned_by(
     ensures follows { Follows expr_of (rules.assigned_by op at (expr_of to) (expr_of value)) result }
 {
     let kind = to.kind;
+    let target = target_of(at, to);
+    let value = Box::new(alloc, value)?;
     if !takes(op, class_of(kind), class_of(value.kind)) {
         return Err(mismatch(at));
     }
-    let kept = Box::new(alloc, value)?;
     let form = ExprForm::AssignOp {
         op,
-        to: target_of(at, to)?,
-        value: kept,
+        to: target?,
+        value,
     };
     Ok(TypedExpr { form, kind, at })
 }
@@ -113,15 +129,12 @@ pub fn stepped_before(up: bool, at: u32, value: TypedExpr) -> Result<TypedExpr, 
     ensures follows { Follows expr_of (rules.stepped_before up at (expr_of value)) result }
 {
     let kind = value.kind;
+    let target = target_of(at, value);
     if kind.is_none() {
         return Err(mismatch(at));
     }
-    let to = target_of(at, value)?;
-    Ok(TypedExpr {
-        form: ExprForm::StepBefore { up, to },
-        kind,
-        at,
-    })
+    let form = ExprForm::StepBefore { up, to: target? };
+    Ok(TypedExpr { form, kind, at })
 }
 
 /// `++` or `--` behind its operand: 6.3.2.4.
@@ -129,49 +142,59 @@ pub fn stepped_after(up: bool, at: u32, value: TypedExpr) -> Result<TypedExpr, R
     ensures follows { Follows expr_of (rules.stepped_after up at (expr_of value)) result }
 {
     let kind = value.kind;
+    let target = target_of(at, value);
     if kind.is_none() {
         return Err(mismatch(at));
     }
-    let to = target_of(at, value)?;
-    Ok(TypedExpr {
-        form: ExprForm::StepAfter { up, to },
-        kind,
-        at,
-    })
+    let form = ExprForm::StepAfter { up, to: target? };
+    Ok(TypedExpr { form, kind, at })
 }
 
 /// `&`: 6.3.3.2. That of what a pointer points to is the pointer itself.
 pub fn address(is_array: bool, at: u32, value: TypedExpr) -> Result<TypedExpr, Refusal>
     ensures follows { Follows expr_of (rules.address is_array at (expr_of value)) result }
 {
-    let kind = match value.kind {
+    let kind = value.kind;
+    let target = target_of(at, value);
+    let kind = match kind {
         Some(kind) if !is_array => kind,
         _ => return Err(mismatch(at)),
     };
-    match value.form {
-        ExprForm::Read(reference) => Ok(TypedExpr {
-            form: ExprForm::AddressOf(reference),
-            kind: Some(pointer_to(kind).ok_or(Refusal::NoMemory)?),
-            at,
-        }),
-        ExprForm::Load(pointer) => Ok(Box::into_inner(pointer)),
-        _ => Err(not_lvalue(at)),
+    match target?.form {
+        TargetForm::Named(reference) => address_of(kind, at, reference),
+        TargetForm::At(pointer) => Ok(Box::into_inner(pointer)),
     }
+}
+
+// The address of an object of this type.
+fn address_of(kind: ScalarType, at: u32, reference: VarRef) -> Result<TypedExpr, Refusal>
+    ensures typed { IfOk result (λ e. expr_of e ≡ Node (AddressOf reference) (Some (kinds.pointer_to kind)) at) }
+    ensures memory { IfErr result (λ f. f ≡ refusals.NoMemory) }
+{
+    let Some(pointer) = pointer_to(kind) else {
+        return Err(Refusal::NoMemory);
+    };
+    Ok(TypedExpr {
+        form: ExprForm::AddressOf(reference),
+        kind: Some(pointer),
+        at,
+    })
 }
 
 /// `*`: 6.3.3.2.
 pub fn loaded(alloc: Global, at: u32, value: TypedExpr) -> Result<TypedExpr, Refusal>
     ensures follows { Follows expr_of (rules.loaded at (expr_of value)) result }
 {
-    let kind = match value.kind {
-        Some(pointer) if pointer.stars > 0 => pointed(pointer),
+    let pointer = Box::new(alloc, value)?;
+    let kind = match pointer.kind {
+        Some(kind) if kind.stars > 0 => pointed(kind),
         _ => None,
     };
     if kind.is_none() {
         return Err(mismatch(at));
     }
     Ok(TypedExpr {
-        form: ExprForm::Load(Box::new(alloc, value)?),
+        form: ExprForm::Load(pointer),
         kind,
         at,
     })
@@ -186,6 +209,7 @@ pub fn indexed(
 ) -> Result<TypedExpr, Refusal>
     ensures follows { Follows expr_of (rules.indexed at (expr_of left) (expr_of right)) result }
 {
-    let cell = sum(alloc, at, left, right)?;
+    let pair = boxed(alloc, left, right)?;
+    let cell = sum(alloc, at, pair)?;
     loaded(alloc, at, cell)
 }
