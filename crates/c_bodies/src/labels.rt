@@ -28,7 +28,7 @@ pub(crate) fn switched(
     value: TypedExpr,
     labelled: Labelled,
 ) -> Result<TypedStmt, Refusal>
-    ensures follows { Follows stmt_of (switched place at (expr_of value) (labelled_of labelled)) result }
+    ensures { Follows stmt_of (switched place at (expr_of value) (labelled_of labelled)) result }
 {
     if repeats_label(alloc, &labelled.choices)? {
         return Err(Refusal::Broken {

@@ -179,7 +179,7 @@ impl<'a> Body<'a> {
 
     // A return without a value: 6.6.6.4.
     fn empty_return(&self, at: u32) -> Result<TypedStmt, Refusal>
-        ensures follows { Follows (λ t. typed_in self.now (stmt_of t)) (statement_in self.now enclosings.Body (tree.Return None at)) result }
+        ensures { Follows (λ t. typed_in self.now (stmt_of t)) (statement_in self.now enclosings.Body (tree.Return None at)) result }
     {
         match self.result {
             None => Ok(TypedStmt::Return(None)),
@@ -189,7 +189,7 @@ impl<'a> Body<'a> {
 
     // A return with a value.
     fn value_return(&self, value: &Expr, at: u32) -> Result<TypedStmt, Refusal>
-        ensures follows { Follows (λ t. typed_in self.now (stmt_of t)) (statement_in self.now enclosings.Body (tree.Return (Some (expression_of value.now)) at)) result }
+        ensures { Follows (λ t. typed_in self.now (stmt_of t)) (statement_in self.now enclosings.Body (tree.Return (Some (expression_of value.now)) at)) result }
     {
         let value = self.scopes.operand(value)?;
         let value = returned(self.scopes.alloc, self.result, at, value)?;
@@ -217,7 +217,7 @@ impl<'a> Body<'a> {
 
     // An if over its test and its only arm.
     fn one_armed(&self, test: TypedExpr, yes: Box<TypedStmt>, at: u32) -> Result<TypedStmt, Refusal>
-        ensures follows { Follows (λ t. typed_in self.now (stmt_of t)) (tested_in self.now at (expr_of test) (If (expr_of test) (stmt_of yes.value) (Block [] done))) result }
+        ensures { Follows (λ t. typed_in self.now (stmt_of t)) (tested_in self.now at (expr_of test) (If (expr_of test) (stmt_of yes.value) (Block [] done))) result }
     {
         not_void(&test, at)?;
         Ok(TypedStmt::If {
@@ -274,7 +274,7 @@ impl<'a> Body<'a> {
         no: Box<TypedStmt>,
         at: u32,
     ) -> Result<TypedStmt, Refusal>
-        ensures follows { Follows (λ t. typed_in self.now (stmt_of t)) (tested_in self.now at (expr_of test) (If (expr_of test) (stmt_of yes.value) (stmt_of no.value))) result }
+        ensures { Follows (λ t. typed_in self.now (stmt_of t)) (tested_in self.now at (expr_of test) (If (expr_of test) (stmt_of yes.value) (stmt_of no.value))) result }
     {
         not_void(&test, at)?;
         Ok(TypedStmt::If {
@@ -381,7 +381,7 @@ impl<'a> Body<'a> {
         body: Box<TypedStmt>,
         at: u32,
     ) -> Result<TypedStmt, Refusal>
-        ensures follows { Follows (λ t. typed_in self.now (stmt_of t)) (tested_in self.now at (expr_of test) (While (expr_of test) (stmt_of body.value))) result }
+        ensures { Follows (λ t. typed_in self.now (stmt_of t)) (tested_in self.now at (expr_of test) (While (expr_of test) (stmt_of body.value))) result }
     {
         not_void(&test, at)?;
         Ok(TypedStmt::While { test, body })
@@ -401,7 +401,7 @@ impl<'a> Body<'a> {
 
     // The test behind the body of a do.
     fn do_test(&self, body: Box<TypedStmt>, test: &Expr, at: u32) -> Result<TypedStmt, Refusal>
-        ensures follows { Follows (λ t. typed_in self.now (stmt_of t)) (test_in self.now at (stmt_of body.value) (expression_of test.now)) result }
+        ensures { Follows (λ t. typed_in self.now (stmt_of t)) (test_in self.now at (stmt_of body.value) (expression_of test.now)) result }
     {
         let test = self.scopes.expression(test)?;
         not_void(&test, at)?;
@@ -433,7 +433,7 @@ impl<'a> Body<'a> {
 
     // A for over what stands between its parentheses and its body.
     fn for_over(&self, head: ForHead, body: Box<TypedStmt>, at: u32) -> Result<TypedStmt, Refusal>
-        ensures follows { Follows (λ t. typed_in self.now (stmt_of t)) (for_in self.now at head (stmt_of body.value)) result }
+        ensures { Follows (λ t. typed_in self.now (stmt_of t)) (for_in self.now at head (stmt_of body.value)) result }
     {
         test_not_void(&head.test, at)?;
         Ok(TypedStmt::For {
@@ -446,7 +446,7 @@ impl<'a> Body<'a> {
 
     // An expression that may be absent.
     fn optional(&self, e: &Option<Expr>) -> Result<Option<TypedExpr>, Refusal>
-        ensures follows { Follows option_expr_of (rules.optional (scope_of self.now.scopes) (optional_of e.now)) result }
+        ensures { Follows option_expr_of (rules.optional (scope_of self.now.scopes) (optional_of e.now)) result }
     {
         match e {
             None => Ok(None),
@@ -508,7 +508,7 @@ fn returned(
     at: u32,
     value: Operand,
 ) -> Result<TypedExpr, Refusal>
-    ensures follows { Follows expr_of (rules.returned kind at (operand_of value)) result }
+    ensures { Follows expr_of (rules.returned kind at (operand_of value)) result }
 {
     let Some(kind) = kind else {
         return Err(mismatch(at));

@@ -61,7 +61,7 @@ fn cell_value(kind: ScalarType, initial: Initial) -> Initial
 
 // An entry as the value of a cell of this type.
 fn cell(alloc: Global, kind: ScalarType, at: u32, entry: Entry) -> Result<Initial, Refusal>
-    ensures follows { Follows (λ i. i) (rules.cell kind at (entry_of entry)) result }
+    ensures { Follows (λ i. i) (rules.cell kind at (entry_of entry)) result }
 {
     given(alloc, kind, at, entry.operand)?;
     Ok(cell_value(kind, entry.initial))
@@ -74,7 +74,7 @@ fn cells(
     at: u32,
     entries: Vec<Entry>,
 ) -> Result<Vec<Initial>, Refusal>
-    ensures follows { Follows (λ is. is.items) (rules.cells kind at (map entry_of entries.items)) result }
+    ensures { Follows (λ is. is.items) (rules.cells kind at (map entry_of entries.items)) result }
 {
     let mut values = Vec::with_capacity(alloc, entries.len())?;
     for entry in entries {
@@ -91,7 +91,7 @@ fn listed(
     at: u32,
     entries: Vec<Entry>,
 ) -> Result<Items<Initial>, Refusal>
-    ensures follows { Follows (λ is. is) (rules.listed kind length at (map entry_of entries.items)) result }
+    ensures { Follows (λ is. is) (rules.listed kind length at (map entry_of entries.items)) result }
 {
     if entries.len() > usize::from(length) {
         return Err(mismatch(at));
@@ -108,7 +108,7 @@ fn scalar_start(
     at: u32,
     value: Operand,
 ) -> Result<Start, Refusal>
-    ensures follows { Follows start_of (blocks.started reference (ObjectType.Single kind) at (blocks.Value (operand_of value))) result }
+    ensures { Follows start_of (blocks.started reference (ObjectType.Single kind) at (blocks.Value (operand_of value))) result }
 {
     let value = given(alloc, kind, at, value)?;
     let form = ExprForm::Assign {
@@ -137,7 +137,7 @@ fn array_start(
     at: u32,
     entries: Vec<Entry>,
 ) -> Result<Start, Refusal>
-    ensures follows { Follows start_of (blocks.started reference (ObjectType.Array kind length) at (blocks.Listed (map entry_of entries.items))) result }
+    ensures { Follows start_of (blocks.started reference (ObjectType.Array kind length) at (blocks.Listed (map entry_of entries.items))) result }
 {
     let values = listed(alloc, kind, length, at, entries)?;
     Ok(Start {
@@ -154,7 +154,7 @@ pub fn started(
     at: u32,
     initialiser: Initialiser,
 ) -> Result<Start, Refusal>
-    ensures follows { Follows start_of (blocks.started reference object_type at (initialiser_of initialiser)) result }
+    ensures { Follows start_of (blocks.started reference object_type at (initialiser_of initialiser)) result }
 {
     match (object_type, initialiser) {
         (_, Initialiser::Absent) => Ok(Start {
@@ -186,7 +186,7 @@ pub fn static_list(
     at: u32,
     starts: Starts,
 ) -> Result<Option<Items<Initial>>, Refusal>
-    ensures follows { Follows (λ list. list) (units.static_list object_type at (starts_of starts)) result }
+    ensures { Follows (λ list. list) (units.static_list object_type at (starts_of starts)) result }
 {
     match (object_type, starts) {
         (_, Starts::Absent) => Ok(None),

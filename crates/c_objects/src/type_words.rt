@@ -98,7 +98,7 @@ fn base_of(words: &[SpecWord]) -> Base
 
 /// The base of a type that is spelled.
 pub fn spelled(specs: &Specs) -> Result<Base, Refusal>
-    ensures follows { Follows (λ base. base) (rules.spelled (specs_of specs.now)) result }
+    ensures { Follows (λ base. base) (rules.spelled (specs_of specs.now)) result }
 {
     let words = specs.words.as_slice();
     if !is_spelling(words) {
@@ -112,7 +112,7 @@ pub fn spelled(specs: &Specs) -> Result<Base, Refusal>
 
 /// The base of a type in which `static` has no place.
 pub fn plain(specs: &Specs) -> Result<Base, Refusal>
-    ensures follows { Follows (λ base. base) (rules.plain (specs_of specs.now)) result }
+    ensures { Follows (λ base. base) (rules.plain (specs_of specs.now)) result }
 {
     let base = spelled(specs)?;
     if has(SpecWord::Static, specs.words.as_slice()) {
@@ -126,7 +126,7 @@ pub fn plain(specs: &Specs) -> Result<Base, Refusal>
 
 /// The type that a cast or `sizeof` names.
 pub fn type_named(named: &TypeName) -> Result<Option<ScalarType>, Refusal>
-    ensures follows { Follows (λ kind. kind) (rules.type_named (type_of named.now)) result }
+    ensures { Follows (λ kind. kind) (rules.type_named (type_of named.now)) result }
 {
     let base = plain(&named.specs)?;
     Ok(starred(base, named.stars))

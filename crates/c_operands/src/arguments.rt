@@ -38,7 +38,7 @@ fn any_void(xs: &[Operand]) -> bool
 /// `__in` of a port, with the operands behind the port.
 #[tactic(auto, using(crate::proofs::OperandLists::any_void_of))]
 pub fn input(at: u32, class: Class, port: u16, xs: &[Operand]) -> Result<TypedExpr, Refusal>
-    ensures follows { Follows expr_of (rules.input at class port (map operand_of xs.now)) result }
+    ensures { Follows expr_of (rules.input at class port (map operand_of xs.now)) result }
 {
     if class != Class::Integer || any_void(xs) {
         return Err(mismatch(at));
@@ -49,7 +49,7 @@ pub fn input(at: u32, class: Class, port: u16, xs: &[Operand]) -> Result<TypedEx
 
 // The word of a port, with nothing behind the port.
 fn received(at: u32, port: u8, xs: &[Operand]) -> Result<TypedExpr, Refusal>
-    ensures follows { Follows expr_of (rules.no_more at (map operand_of xs.now) (Is (Node (In port) (Some int) at))) result }
+    ensures { Follows expr_of (rules.no_more at (map operand_of xs.now) (Is (Node (In port) (Some int) at))) result }
 {
     if !xs.is_empty() {
         return Err(wrong_count(at));
@@ -70,7 +70,7 @@ pub fn output(
     port: u16,
     xs: Vec<Operand>,
 ) -> Result<TypedExpr, Refusal>
-    ensures follows { Follows expr_of (rules.output at class port (map operand_of xs.items)) result }
+    ensures { Follows expr_of (rules.output at class port (map operand_of xs.items)) result }
 {
     if class != Class::Integer || !is_word_first(&xs) || any_void(&xs) {
         return Err(mismatch(at));
@@ -106,7 +106,7 @@ fn port_number(at: u32, port: u16) -> Result<u8, Refusal>
 
 // The one word that goes to a port.
 fn sent(alloc: Global, at: u32, port: u8, xs: Vec<Operand>) -> Result<TypedExpr, Refusal>
-    ensures follows { Follows expr_of (rules.sent at port (map operand_of xs.items)) result }
+    ensures { Follows expr_of (rules.sent at port (map operand_of xs.items)) result }
 {
     match only(xs) {
         Some(word) => sent_word(alloc, at, port, word),
@@ -141,7 +141,7 @@ pub fn passed(
     at: u32,
     xs: Vec<Operand>,
 ) -> Result<Vec<TypedExpr>, Refusal>
-    ensures follows { Follows (λ values. argument_list values.items) (rules.passed kinds.now at (map operand_of xs.items)) result }
+    ensures { Follows (λ values. argument_list values.items) (rules.passed kinds.now at (map operand_of xs.items)) result }
 {
     let mut values = Vec::with_capacity(alloc, kinds.len())?;
     let mut operands = xs.into_iter();

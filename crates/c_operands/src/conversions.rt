@@ -53,7 +53,7 @@ pub(crate) fn null_of(kind: ScalarType, at: u32) -> TypedExpr
 
 /// What a value gives where one of this type is wanted: 6.3.16.1.
 pub fn given(alloc: Global, kind: ScalarType, at: u32, x: Operand) -> Result<TypedExpr, Refusal>
-    ensures follows { Follows expr_of (rules.given kind at (operand_of x)) result }
+    ensures { Follows expr_of (rules.given kind at (operand_of x)) result }
 {
     match (class_of(Some(kind)), class_of(x.value.kind)) {
         (Class::Integer, Class::Integer) => converted(alloc, kind, x.value),
@@ -65,7 +65,7 @@ pub fn given(alloc: Global, kind: ScalarType, at: u32, x: Operand) -> Result<Typ
 
 // A pointer where one of this type is wanted: a void pointer goes with any, both ways.
 fn pointer_given(alloc: Global, kind: ScalarType, at: u32, x: Operand) -> Result<TypedExpr, Refusal>
-    ensures follows { Follows expr_of (rules.pointer_given kind at (operand_of x)) result }
+    ensures { Follows expr_of (rules.pointer_given kind at (operand_of x)) result }
 {
     let either_void = is_void_pointer(Some(kind)) || is_void_pointer(x.value.kind);
     if !x.null && (either_void || same_kind(x.value.kind, Some(kind))) {
@@ -76,7 +76,7 @@ fn pointer_given(alloc: Global, kind: ScalarType, at: u32, x: Operand) -> Result
 
 // The null pointer of a type, where the operand is one.
 fn null_given(kind: ScalarType, at: u32, x: Operand) -> Result<TypedExpr, Refusal>
-    ensures follows { Follows expr_of (breaks (not x.null) rule.Mismatch at (Is (rules.null_of kind (expr_of x.value)))) result }
+    ensures { Follows expr_of (breaks (not x.null) rule.Mismatch at (Is (rules.null_of kind (expr_of x.value)))) result }
 {
     if x.null {
         Ok(null_of(kind, x.value.at))
@@ -106,7 +106,7 @@ pub fn cast(
     at: u32,
     x: Operand,
 ) -> Result<TypedExpr, Refusal>
-    ensures follows { Follows expr_of (rules.cast to at (operand_of x)) result }
+    ensures { Follows expr_of (rules.cast to at (operand_of x)) result }
 {
     let Some(kind) = to else {
         return conversion(alloc, None, at, x.value);

@@ -42,7 +42,7 @@ fn calculated(alloc: Global, op: BinaryOp, at: u32, pair: Pair) -> Result<TypedE
 
 /// `+`: 6.3.6.
 pub(crate) fn sum(alloc: Global, at: u32, pair: Pair) -> Result<TypedExpr, Refusal>
-    ensures follows { Follows expr_of (rules.sum at (expr_of pair.left.value) (expr_of pair.right.value)) result }
+    ensures { Follows expr_of (rules.sum at (expr_of pair.left.value) (expr_of pair.right.value)) result }
 {
     let (left, right) = (pair.left.kind, pair.right.kind);
     match (class_of(left), class_of(right)) {
@@ -55,7 +55,7 @@ pub(crate) fn sum(alloc: Global, at: u32, pair: Pair) -> Result<TypedExpr, Refus
 
 // `-`: 6.3.6.
 fn difference(alloc: Global, at: u32, pair: Pair) -> Result<TypedExpr, Refusal>
-    ensures follows { Follows expr_of (rules.difference_as (class_of (kind_of (expr_of pair.left.value))) (class_of (kind_of (expr_of pair.right.value))) at (expr_of pair.left.value) (expr_of pair.right.value)) result }
+    ensures { Follows expr_of (rules.difference_as (class_of (kind_of (expr_of pair.left.value))) (class_of (kind_of (expr_of pair.right.value))) at (expr_of pair.left.value) (expr_of pair.right.value)) result }
 {
     let kind = pair.left.kind;
     match (class_of(kind), class_of(pair.right.kind)) {
@@ -68,7 +68,7 @@ fn difference(alloc: Global, at: u32, pair: Pair) -> Result<TypedExpr, Refusal>
 
 // Two pointers of one type under an operator that gives an int.
 fn pointers(op: BinaryOp, at: u32, pair: Pair) -> Result<TypedExpr, Refusal>
-    ensures follows { Follows expr_of (rules.pointers op at (expr_of pair.left.value) (expr_of pair.right.value)) result }
+    ensures { Follows expr_of (rules.pointers op at (expr_of pair.left.value) (expr_of pair.right.value)) result }
 {
     if same_kind(pair.left.kind, pair.right.kind) {
         return Ok(binary_node(op, at, Some(INT), pair));
@@ -78,7 +78,7 @@ fn pointers(op: BinaryOp, at: u32, pair: Pair) -> Result<TypedExpr, Refusal>
 
 // `* / %` and `& ^ |`: 6.3.5 and 6.3.10 to 6.3.12.
 fn product(alloc: Global, op: BinaryOp, at: u32, pair: Pair) -> Result<TypedExpr, Refusal>
-    ensures follows { Follows expr_of (rules.product_as (class_of (kind_of (expr_of pair.left.value))) (class_of (kind_of (expr_of pair.right.value))) op at (expr_of pair.left.value) (expr_of pair.right.value)) result }
+    ensures { Follows expr_of (rules.product_as (class_of (kind_of (expr_of pair.left.value))) (class_of (kind_of (expr_of pair.right.value))) op at (expr_of pair.left.value) (expr_of pair.right.value)) result }
 {
     match (class_of(pair.left.kind), class_of(pair.right.kind)) {
         (Class::Integer, Class::Integer) => calculated(alloc, op, at, pair),
@@ -88,7 +88,7 @@ fn product(alloc: Global, op: BinaryOp, at: u32, pair: Pair) -> Result<TypedExpr
 
 // `<<` and `>>`: 6.3.7. The value has the type of the left operand.
 fn shift(op: BinaryOp, at: u32, pair: Pair) -> Result<TypedExpr, Refusal>
-    ensures follows { Follows expr_of (rules.shift_as (class_of (kind_of (expr_of pair.left.value))) (class_of (kind_of (expr_of pair.right.value))) op at (expr_of pair.left.value) (expr_of pair.right.value)) result }
+    ensures { Follows expr_of (rules.shift_as (class_of (kind_of (expr_of pair.left.value))) (class_of (kind_of (expr_of pair.right.value))) op at (expr_of pair.left.value) (expr_of pair.right.value)) result }
 {
     let kind = pair.left.kind;
     match (class_of(kind), class_of(pair.right.kind)) {
@@ -99,7 +99,7 @@ fn shift(op: BinaryOp, at: u32, pair: Pair) -> Result<TypedExpr, Refusal>
 
 // `< > <= >=`: 6.3.8.
 fn order(alloc: Global, op: BinaryOp, at: u32, pair: Pair) -> Result<TypedExpr, Refusal>
-    ensures follows { Follows expr_of (rules.order_as (class_of (kind_of (expr_of pair.left.value))) (class_of (kind_of (expr_of pair.right.value))) op at (expr_of pair.left.value) (expr_of pair.right.value)) result }
+    ensures { Follows expr_of (rules.order_as (class_of (kind_of (expr_of pair.left.value))) (class_of (kind_of (expr_of pair.right.value))) op at (expr_of pair.left.value) (expr_of pair.right.value)) result }
 {
     match (class_of(pair.left.kind), class_of(pair.right.kind)) {
         (Class::Integer, Class::Integer) => {
@@ -120,7 +120,7 @@ fn equality(
     left_null: bool,
     right_null: bool,
 ) -> Result<TypedExpr, Refusal>
-    ensures follows { Follows expr_of (rules.equality op at (left_of pair left_null) (right_of pair right_null)) result }
+    ensures { Follows expr_of (rules.equality op at (left_of pair left_null) (right_of pair right_null)) result }
 {
     let pair = met(alloc, at, pair, left_null, right_null)?;
     Ok(binary_node(op, at, Some(INT), pair))
@@ -134,7 +134,7 @@ pub fn binary(
     left: Operand,
     right: Operand,
 ) -> Result<TypedExpr, Refusal>
-    ensures follows { Follows expr_of (rules.binary op at (operand_of left) (operand_of right)) result }
+    ensures { Follows expr_of (rules.binary op at (operand_of left) (operand_of right)) result }
 {
     let pair = boxed(alloc, left.value, right.value)?;
     match op {
@@ -154,7 +154,7 @@ pub fn binary(
 
 /// `+ - ~` before an integer: 6.3.3.3.
 pub fn unary(alloc: Global, op: UnaryOp, at: u32, value: TypedExpr) -> Result<TypedExpr, Refusal>
-    ensures follows { Follows expr_of (rules.unary op at (expr_of value)) result }
+    ensures { Follows expr_of (rules.unary op at (expr_of value)) result }
 {
     let value = Box::new(alloc, value)?;
     let kind = value.kind;
@@ -167,7 +167,7 @@ pub fn unary(alloc: Global, op: UnaryOp, at: u32, value: TypedExpr) -> Result<Ty
 
 /// `!`: 6.3.3.3.
 pub fn negated(alloc: Global, at: u32, value: TypedExpr) -> Result<TypedExpr, Refusal>
-    ensures follows { Follows expr_of (rules.negated at (expr_of value)) result }
+    ensures { Follows expr_of (rules.negated at (expr_of value)) result }
 {
     let value = Box::new(alloc, value)?;
     if value.kind.is_none() {
@@ -187,7 +187,7 @@ pub fn both_true(
     left: TypedExpr,
     right: TypedExpr,
 ) -> Result<TypedExpr, Refusal>
-    ensures follows { Follows expr_of (rules.both_true at (expr_of left) (expr_of right)) result }
+    ensures { Follows expr_of (rules.both_true at (expr_of left) (expr_of right)) result }
 {
     let pair = boxed(alloc, left, right)?;
     if pair.left.kind.is_none() || pair.right.kind.is_none() {
@@ -211,7 +211,7 @@ pub fn either_true(
     left: TypedExpr,
     right: TypedExpr,
 ) -> Result<TypedExpr, Refusal>
-    ensures follows { Follows expr_of (rules.either_true at (expr_of left) (expr_of right)) result }
+    ensures { Follows expr_of (rules.either_true at (expr_of left) (expr_of right)) result }
 {
     let pair = boxed(alloc, left, right)?;
     if pair.left.kind.is_none() || pair.right.kind.is_none() {
@@ -236,7 +236,7 @@ pub fn picked(
     yes: Operand,
     no: Operand,
 ) -> Result<TypedExpr, Refusal>
-    ensures follows { Follows expr_of (rules.picked at (expr_of test) (operand_of yes) (operand_of no)) result }
+    ensures { Follows expr_of (rules.picked at (expr_of test) (operand_of yes) (operand_of no)) result }
 {
     let pair = boxed(alloc, yes.value, no.value)?;
     let test = Box::new(alloc, test)?;
@@ -254,7 +254,7 @@ pub fn picked(
 }
 
 fn arms(alloc: Global, at: u32, pair: Pair, yes_null: bool, no_null: bool) -> Result<Pair, Refusal>
-    ensures follows { Follows pair_of (rules.arms_as (class_of (kind_of (expr_of pair.left.value))) (class_of (kind_of (expr_of pair.right.value))) at (left_of pair yes_null) (right_of pair no_null)) result }
+    ensures { Follows pair_of (rules.arms_as (class_of (kind_of (expr_of pair.left.value))) (class_of (kind_of (expr_of pair.right.value))) at (left_of pair yes_null) (right_of pair no_null)) result }
 {
     if pair.left.kind.is_none() && pair.right.kind.is_none() {
         return Ok(pair);
@@ -283,7 +283,7 @@ pub fn behind(
 
 /// `sizeof` a value, which is the length of an array, or one word: 6.3.3.4.
 pub fn sized(length: Option<u16>, at: u32, value: &TypedExpr) -> Result<TypedExpr, Refusal>
-    ensures follows { Follows expr_of (rules.sized length at (expr_of value.now)) result }
+    ensures { Follows expr_of (rules.sized length at (expr_of value.now)) result }
 {
     match length {
         Some(length) => Ok(word(length, UNSIGNED, at)),
@@ -294,7 +294,7 @@ pub fn sized(length: Option<u16>, at: u32, value: &TypedExpr) -> Result<TypedExp
 
 /// A constant: 6.1.3.2. One that isn't marked as unsigned is an int where it fits, and a decimal one has to fit.
 pub fn number(value: u32, marked: bool, decimal: bool, at: u32) -> Result<TypedExpr, Refusal>
-    ensures follows { Follows expr_of (rules.number value marked decimal at) result }
+    ensures { Follows expr_of (rules.number value marked decimal at) result }
 {
     let Ok(value) = u16::try_from(value) else {
         return Err(long_constant(at));

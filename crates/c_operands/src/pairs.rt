@@ -121,7 +121,7 @@ pub(crate) fn met(
     left_null: bool,
     right_null: bool,
 ) -> Result<Pair, Refusal>
-    ensures follows { Follows pair_of (rules.met at (left_of pair left_null) (right_of pair right_null)) result }
+    ensures { Follows pair_of (rules.met at (left_of pair left_null) (right_of pair right_null)) result }
 {
     match (class_of(pair.left.kind), class_of(pair.right.kind)) {
         (Class::Integer, Class::Integer) => balanced(alloc, pair),
@@ -140,7 +140,7 @@ fn pointers_met(
     left_null: bool,
     right_null: bool,
 ) -> Result<Pair, Refusal>
-    ensures follows { Follows pair_of (rules.pointers_met at (left_of pair left_null) (right_of pair right_null)) result }
+    ensures { Follows pair_of (rules.pointers_met at (left_of pair left_null) (right_of pair right_null)) result }
 {
     if same_kind(pair.left.kind, pair.right.kind) {
         return Ok(pair);
@@ -156,7 +156,7 @@ fn pointers_met(
 
 // Two pointers of which one is a void pointer: the other is converted to it.
 fn beside_void(alloc: Global, at: u32, pair: Pair) -> Result<Pair, Refusal>
-    ensures follows { Follows pair_of (beside_void at (expr_of pair.left.value) (expr_of pair.right.value)) result }
+    ensures { Follows pair_of (beside_void at (expr_of pair.left.value) (expr_of pair.right.value)) result }
 {
     let Pair { left, right } = pair;
     if is_void_pointer(left.kind) {

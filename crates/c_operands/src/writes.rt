@@ -56,7 +56,7 @@ fn given_boxed(
     at: u32,
     x: Operand,
 ) -> Result<Box<TypedExpr>, Refusal>
-    ensures follows { Follows (λ e. expr_of e.value) (rules.given kind at (operand_of x)) result }
+    ensures { Follows (λ e. expr_of e.value) (rules.given kind at (operand_of x)) result }
 {
     let value = given(alloc, kind, at, x)?;
     Ok(Box::new(alloc, value)?)
@@ -64,7 +64,7 @@ fn given_boxed(
 
 /// `=`: 6.3.16.1.
 pub fn assigned(alloc: Global, at: u32, to: TypedExpr, value: Operand) -> Result<TypedExpr, Refusal>
-    ensures follows { Follows expr_of (rules.assigned at (expr_of to) (operand_of value)) result }
+    ensures { Follows expr_of (rules.assigned at (expr_of to) (operand_of value)) result }
 {
     let kind = to.kind;
     let target = target_of(at, to);
@@ -108,7 +108,7 @@ pub fn assigned_by(
     to: TypedExpr,
     value: TypedExpr,
 ) -> Result<TypedExpr, Refusal>
-    ensures follows { Follows expr_of (rules.assigned_by op at (expr_of to) (expr_of value)) result }
+    ensures { Follows expr_of (rules.assigned_by op at (expr_of to) (expr_of value)) result }
 {
     let kind = to.kind;
     let target = target_of(at, to);
@@ -126,7 +126,7 @@ pub fn assigned_by(
 
 /// `++` or `--` before its operand: 6.3.3.1.
 pub fn stepped_before(up: bool, at: u32, value: TypedExpr) -> Result<TypedExpr, Refusal>
-    ensures follows { Follows expr_of (rules.stepped_before up at (expr_of value)) result }
+    ensures { Follows expr_of (rules.stepped_before up at (expr_of value)) result }
 {
     let kind = value.kind;
     let target = target_of(at, value);
@@ -139,7 +139,7 @@ pub fn stepped_before(up: bool, at: u32, value: TypedExpr) -> Result<TypedExpr, 
 
 /// `++` or `--` behind its operand: 6.3.2.4.
 pub fn stepped_after(up: bool, at: u32, value: TypedExpr) -> Result<TypedExpr, Refusal>
-    ensures follows { Follows expr_of (rules.stepped_after up at (expr_of value)) result }
+    ensures { Follows expr_of (rules.stepped_after up at (expr_of value)) result }
 {
     let kind = value.kind;
     let target = target_of(at, value);
@@ -152,7 +152,7 @@ pub fn stepped_after(up: bool, at: u32, value: TypedExpr) -> Result<TypedExpr, R
 
 /// `&`: 6.3.3.2. That of what a pointer points to is the pointer itself.
 pub fn address(is_array: bool, at: u32, value: TypedExpr) -> Result<TypedExpr, Refusal>
-    ensures follows { Follows expr_of (rules.address is_array at (expr_of value)) result }
+    ensures { Follows expr_of (rules.address is_array at (expr_of value)) result }
 {
     let kind = value.kind;
     let target = target_of(at, value);
@@ -183,7 +183,7 @@ fn address_of(kind: ScalarType, at: u32, reference: VarRef) -> Result<TypedExpr,
 
 /// `*`: 6.3.3.2.
 pub fn loaded(alloc: Global, at: u32, value: TypedExpr) -> Result<TypedExpr, Refusal>
-    ensures follows { Follows expr_of (rules.loaded at (expr_of value)) result }
+    ensures { Follows expr_of (rules.loaded at (expr_of value)) result }
 {
     let pointer = Box::new(alloc, value)?;
     let kind = match pointer.kind {
@@ -207,7 +207,7 @@ pub fn indexed(
     left: TypedExpr,
     right: TypedExpr,
 ) -> Result<TypedExpr, Refusal>
-    ensures follows { Follows expr_of (rules.indexed at (expr_of left) (expr_of right)) result }
+    ensures { Follows expr_of (rules.indexed at (expr_of left) (expr_of right)) result }
 {
     let pair = boxed(alloc, left, right)?;
     let cell = sum(alloc, at, pair)?;

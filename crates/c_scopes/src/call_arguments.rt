@@ -36,7 +36,7 @@ impl<'a> Scopes<'a> {
     /// The typed tree of a call.
     #[cycle(expressions)]
     pub(crate) fn call(&self, name: &str, at: u32, list: &[Expr]) -> Result<TypedExpr, Refusal>
-        ensures follows { Follows expr_of (rules.typing_form (scope_of self.now) (tree.Call name.now (trees_of list.now)) at) result }
+        ensures { Follows expr_of (rules.typing_form (scope_of self.now) (tree.Call name.now (trees_of list.now)) at) result }
     {
         let arguments = self.arguments(name, list)?;
         self.call_of(name, at, arguments)
@@ -45,7 +45,7 @@ impl<'a> Scopes<'a> {
     // What stands between the parentheses of a call.
     #[cycle(expressions)]
     fn arguments(&self, name: &str, list: &[Expr]) -> Result<Arguments, Refusal>
-        ensures follows { Follows arguments_of (rules.arguments (scope_of self.now) name.now (trees_of list.now)) result }
+        ensures { Follows arguments_of (rules.arguments (scope_of self.now) name.now (trees_of list.now)) result }
     {
         if is_in(name) || is_out(name) {
             return self.port_arguments(list);
@@ -56,7 +56,7 @@ impl<'a> Scopes<'a> {
     // The number of a port, which has to be constant, and the operands behind it.
     #[cycle(expressions)]
     fn port_arguments(&self, list: &[Expr]) -> Result<Arguments, Refusal>
-        ensures follows { Follows arguments_of (rules.port_arguments (scope_of self.now) (trees_of list.now)) result }
+        ensures { Follows arguments_of (rules.port_arguments (scope_of self.now) (trees_of list.now)) result }
     {
         let Some((first, rest)) = list.split_first() else {
             return Ok(Arguments::NoPort);
@@ -73,7 +73,7 @@ impl<'a> Scopes<'a> {
     /// Arguments, from left to right.
     #[cycle(expressions)]
     pub(crate) fn operands(&self, list: &[Expr]) -> Result<Vec<Operand>, Refusal>
-        ensures follows { Follows (λ xs. map operand_of xs.items) (rules.operands (scope_of self.now) (trees_of list.now)) result }
+        ensures { Follows (λ xs. map operand_of xs.items) (rules.operands (scope_of self.now) (trees_of list.now)) result }
     {
         let mut operands = Vec::new(self.alloc);
         for e in list {
@@ -85,7 +85,7 @@ impl<'a> Scopes<'a> {
     /// The typed tree of an expression that has to be constant.
     #[cycle(expressions)]
     pub fn constant_tree(&self, e: &Expr) -> Result<TypedExpr, Refusal>
-        ensures follows { Follows expr_of (rules.constant_typing (scope_of self.now) (expression_of e.now)) result }
+        ensures { Follows expr_of (rules.constant_typing (scope_of self.now) (expression_of e.now)) result }
     {
         match &e.kind {
             ExprKind::Call { name, arguments } => {
@@ -98,7 +98,7 @@ impl<'a> Scopes<'a> {
     // The typed tree of a call that has to be constant.
     #[cycle(expressions)]
     fn constant_call(&self, name: &str, at: u32, list: &[Expr]) -> Result<TypedExpr, Refusal>
-        ensures follows { Follows expr_of (rules.constant_typing (scope_of self.now) (tree.Node (tree.Call name.now (trees_of list.now)) at)) result }
+        ensures { Follows expr_of (rules.constant_typing (scope_of self.now) (tree.Node (tree.Call name.now (trees_of list.now)) at)) result }
     {
         let arguments = self.arguments(name, list)?;
         self.constant_call_of(name, at, arguments)
@@ -106,7 +106,7 @@ impl<'a> Scopes<'a> {
 
     // A call with these arguments.
     fn call_of(&self, name: &str, at: u32, arguments: Arguments) -> Result<TypedExpr, Refusal>
-        ensures follows { Follows expr_of (rules.call_of (scope_of self.now) name.now at (arguments_of arguments)) result }
+        ensures { Follows expr_of (rules.call_of (scope_of self.now) name.now at (arguments_of arguments)) result }
     {
         match arguments {
             Arguments::Operands(operands) => self.called(name, at, operands),
@@ -131,7 +131,7 @@ impl<'a> Scopes<'a> {
         at: u32,
         arguments: Arguments,
     ) -> Result<TypedExpr, Refusal>
-        ensures follows { Follows expr_of (rules.no_constant (rules.call_of (scope_of self.now) name.now at (arguments_of arguments))) result }
+        ensures { Follows expr_of (rules.no_constant (rules.call_of (scope_of self.now) name.now at (arguments_of arguments))) result }
     {
         match self.call_of(name, at, arguments) {
             Ok(value) => Ok(value),
@@ -174,7 +174,7 @@ fn is_of_calls(rule: Rule) -> bool
 
 /// The word of an expression that has to be constant, which is typed as this.
 pub fn word_at(e: &Expr, x: &TypedExpr) -> Result<u16, Refusal>
-    ensures follows { Follows (λ w. w) (rules.word_at (expression_of e.now) (expr_of x.now)) result }
+    ensures { Follows (λ w. w) (rules.word_at (expression_of e.now) (expr_of x.now)) result }
 {
     constant(e, x).ok_or(Refusal::Broken {
         rule: Rule::NotConstant,

@@ -21,7 +21,7 @@ use word_base::{Items, Text};
 impl<'a> Scopes<'a> {
     /// A constant length, where it may be one.
     pub(crate) fn length(&self, e: &Expr) -> Result<Option<u16>, Refusal>
-        ensures follows { Follows (λ n. n) (rules.typed_length (scope_of self.now) (expression_of e.now)) result }
+        ensures { Follows (λ n. n) (rules.typed_length (scope_of self.now) (expression_of e.now)) result }
     {
         let value = self.constant_tree(e)?;
         let word = word_at(e, &value)?;
@@ -30,7 +30,7 @@ impl<'a> Scopes<'a> {
 
     // Whether the length of a parameter that is an array can't be one.
     fn is_bad_length(&self, array: &Option<Brackets>) -> Result<bool, Refusal>
-        ensures follows { Follows (λ bad. bad) (rules.is_bad_length (scope_of self.now) (array_of array.now)) result }
+        ensures { Follows (λ bad. bad) (rules.is_bad_length (scope_of self.now) (array_of array.now)) result }
     {
         match array {
             Some(Brackets::Sized(e)) => {
@@ -52,7 +52,7 @@ impl<'a> Scopes<'a> {
 
     // The type of a parameter, whose length is only looked at.
     fn parameter(&self, naming: Naming, parameter: &Param) -> Result<ScalarType, Refusal>
-        ensures follows { Follows (λ kind. kind) (rules.parameter (scope_of self.now) naming (parameter_of parameter.now)) result }
+        ensures { Follows (λ kind. kind) (rules.parameter (scope_of self.now) naming (parameter_of parameter.now)) result }
     {
         let base = plain(&parameter.specs)?;
         let is_bad = self.is_bad_length(&parameter.array)?;

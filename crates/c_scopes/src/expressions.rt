@@ -27,7 +27,7 @@ impl<'a> Scopes<'a> {
     /// The typed tree of an expression.
     #[cycle(expressions)]
     pub fn expression(&self, e: &Expr) -> Result<TypedExpr, Refusal>
-        ensures follows { Follows expr_of (rules.typing (scope_of self.now) (expression_of e.now)) result }
+        ensures { Follows expr_of (rules.typing (scope_of self.now) (expression_of e.now)) result }
     {
         let at = e.at;
         match &e.kind {
@@ -69,7 +69,7 @@ impl<'a> Scopes<'a> {
 
     #[cycle(expressions)]
     fn index(&self, at: u32, operand: &Expr, index: &Expr) -> Result<TypedExpr, Refusal>
-        ensures follows { Follows expr_of (rules.typing_form (scope_of self.now) (tree.Index (expression_of operand.now) (expression_of index.now)) at) result }
+        ensures { Follows expr_of (rules.typing_form (scope_of self.now) (tree.Index (expression_of operand.now) (expression_of index.now)) at) result }
     {
         let left = self.expression(operand)?;
         let right = self.expression(index)?;
@@ -78,7 +78,7 @@ impl<'a> Scopes<'a> {
 
     #[cycle(expressions)]
     fn step_after(&self, up: bool, at: u32, operand: &Expr) -> Result<TypedExpr, Refusal>
-        ensures follows { Follows expr_of (rules.typing_form (scope_of self.now) (tree.StepAfter up (expression_of operand.now)) at) result }
+        ensures { Follows expr_of (rules.typing_form (scope_of self.now) (tree.StepAfter up (expression_of operand.now)) at) result }
     {
         let stepped = stepped_after(up, at, self.expression(operand)?)?;
         of_object(is_address(operand), at, stepped)
@@ -86,7 +86,7 @@ impl<'a> Scopes<'a> {
 
     #[cycle(expressions)]
     fn step_before(&self, up: bool, at: u32, operand: &Expr) -> Result<TypedExpr, Refusal>
-        ensures follows { Follows expr_of (rules.typing_form (scope_of self.now) (tree.StepBefore up (expression_of operand.now)) at) result }
+        ensures { Follows expr_of (rules.typing_form (scope_of self.now) (tree.StepBefore up (expression_of operand.now)) at) result }
     {
         let stepped = stepped_before(up, at, self.expression(operand)?)?;
         of_object(is_address(operand), at, stepped)
@@ -94,7 +94,7 @@ impl<'a> Scopes<'a> {
 
     #[cycle(expressions)]
     fn prefix(&self, op: PrefixOp, at: u32, operand: &Expr) -> Result<TypedExpr, Refusal>
-        ensures follows { Follows expr_of (rules.typing_form (scope_of self.now) (tree.Prefix op (expression_of operand.now)) at) result }
+        ensures { Follows expr_of (rules.typing_form (scope_of self.now) (tree.Prefix op (expression_of operand.now)) at) result }
     {
         let value = self.expression(operand)?;
         let is_array = self.array_length(operand).is_some();
@@ -104,7 +104,7 @@ impl<'a> Scopes<'a> {
 
     #[cycle(expressions)]
     fn size(&self, at: u32, operand: &Expr) -> Result<TypedExpr, Refusal>
-        ensures follows { Follows expr_of (rules.typing_form (scope_of self.now) (tree.SizeofValue (expression_of operand.now)) at) result }
+        ensures { Follows expr_of (rules.typing_form (scope_of self.now) (tree.SizeofValue (expression_of operand.now)) at) result }
     {
         let value = self.expression(operand)?;
         sized(self.array_length(operand), at, &value)
@@ -112,7 +112,7 @@ impl<'a> Scopes<'a> {
 
     #[cycle(expressions)]
     fn cast(&self, to: &TypeName, at: u32, operand: &Expr) -> Result<TypedExpr, Refusal>
-        ensures follows { Follows expr_of (rules.typing_form (scope_of self.now) (tree.Cast (type_of to.now) (expression_of operand.now)) at) result }
+        ensures { Follows expr_of (rules.typing_form (scope_of self.now) (tree.Cast (type_of to.now) (expression_of operand.now)) at) result }
     {
         let kind = type_named(to)?;
         let operand = self.operand(operand)?;
@@ -121,7 +121,7 @@ impl<'a> Scopes<'a> {
 
     #[cycle(expressions)]
     fn binary(&self, op: BinaryOp, at: u32, left: &Expr, right: &Expr) -> Result<TypedExpr, Refusal>
-        ensures follows { Follows expr_of (rules.typing_form (scope_of self.now) (tree.Binary op (expression_of left.now) (expression_of right.now)) at) result }
+        ensures { Follows expr_of (rules.typing_form (scope_of self.now) (tree.Binary op (expression_of left.now) (expression_of right.now)) at) result }
     {
         let left = self.operand(left)?;
         let right = self.operand(right)?;
@@ -130,7 +130,7 @@ impl<'a> Scopes<'a> {
 
     #[cycle(expressions)]
     fn both(&self, at: u32, left: &Expr, right: &Expr) -> Result<TypedExpr, Refusal>
-        ensures follows { Follows expr_of (rules.typing_form (scope_of self.now) (tree.And (expression_of left.now) (expression_of right.now)) at) result }
+        ensures { Follows expr_of (rules.typing_form (scope_of self.now) (tree.And (expression_of left.now) (expression_of right.now)) at) result }
     {
         let left = self.expression(left)?;
         let right = self.expression(right)?;
@@ -139,7 +139,7 @@ impl<'a> Scopes<'a> {
 
     #[cycle(expressions)]
     fn either(&self, at: u32, left: &Expr, right: &Expr) -> Result<TypedExpr, Refusal>
-        ensures follows { Follows expr_of (rules.typing_form (scope_of self.now) (tree.Or (expression_of left.now) (expression_of right.now)) at) result }
+        ensures { Follows expr_of (rules.typing_form (scope_of self.now) (tree.Or (expression_of left.now) (expression_of right.now)) at) result }
     {
         let left = self.expression(left)?;
         let right = self.expression(right)?;
@@ -148,7 +148,7 @@ impl<'a> Scopes<'a> {
 
     #[cycle(expressions)]
     fn conditional(&self, at: u32, test: &Expr, yes: &Expr, no: &Expr) -> Result<TypedExpr, Refusal>
-        ensures follows { Follows expr_of (rules.typing_form (scope_of self.now) (tree.Conditional (expression_of test.now) (expression_of yes.now) (expression_of no.now)) at) result }
+        ensures { Follows expr_of (rules.typing_form (scope_of self.now) (tree.Conditional (expression_of test.now) (expression_of yes.now) (expression_of no.now)) at) result }
     {
         let test = self.expression(test)?;
         let yes = self.operand(yes)?;
@@ -158,7 +158,7 @@ impl<'a> Scopes<'a> {
 
     #[cycle(expressions)]
     fn assignment(&self, at: u32, left: &Expr, right: &Expr) -> Result<TypedExpr, Refusal>
-        ensures follows { Follows expr_of (rules.typing_form (scope_of self.now) (tree.Assign (expression_of left.now) (expression_of right.now)) at) result }
+        ensures { Follows expr_of (rules.typing_form (scope_of self.now) (tree.Assign (expression_of left.now) (expression_of right.now)) at) result }
     {
         let to = self.expression(left)?;
         let value = self.operand(right)?;
@@ -174,7 +174,7 @@ impl<'a> Scopes<'a> {
         left: &Expr,
         right: &Expr,
     ) -> Result<TypedExpr, Refusal>
-        ensures follows { Follows expr_of (rules.typing_form (scope_of self.now) (tree.AssignOp op (expression_of left.now) (expression_of right.now)) at) result }
+        ensures { Follows expr_of (rules.typing_form (scope_of self.now) (tree.AssignOp op (expression_of left.now) (expression_of right.now)) at) result }
     {
         let to = self.expression(left)?;
         let value = self.expression(right)?;
@@ -184,7 +184,7 @@ impl<'a> Scopes<'a> {
 
     #[cycle(expressions)]
     fn comma(&self, at: u32, left: &Expr, right: &Expr) -> Result<TypedExpr, Refusal>
-        ensures follows { Follows expr_of (rules.typing_form (scope_of self.now) (tree.Comma (expression_of left.now) (expression_of right.now)) at) result }
+        ensures { Follows expr_of (rules.typing_form (scope_of self.now) (tree.Comma (expression_of left.now) (expression_of right.now)) at) result }
     {
         let left = self.expression(left)?;
         let right = self.expression(right)?;
@@ -211,7 +211,7 @@ fn prefixed(
     at: u32,
     value: TypedExpr,
 ) -> Result<TypedExpr, Refusal>
-    ensures follows { Follows expr_of (rules.prefixed op is_array at (expr_of value)) result }
+    ensures { Follows expr_of (rules.prefixed op is_array at (expr_of value)) result }
 {
     match op {
         PrefixOp::Address => address(is_array, at, value),
@@ -225,7 +225,7 @@ fn prefixed(
 
 // `sizeof` of a type whose words stand at this place: one word.
 fn size_of_type(kind: Option<ScalarType>, words_at: u32, at: u32) -> Result<TypedExpr, Refusal>
-    ensures follows { Follows expr_of (breaks (is_void kind) rule.Mismatch words_at (Is (Node (Const 1) (Some unsigned) at))) result }
+    ensures { Follows expr_of (breaks (is_void kind) rule.Mismatch words_at (Is (Node (Const 1) (Some unsigned) at))) result }
 {
     if kind.is_none() {
         return Err(Refusal::Broken {
@@ -265,7 +265,7 @@ fn takes_address(op: PrefixOp) -> bool
 
 // What writes to an operand or takes its address, unless the operand is no object by its text: the tree of `&*e` is that of `e`.
 fn of_object(no_object: bool, at: u32, typed: TypedExpr) -> Result<TypedExpr, Refusal>
-    ensures follows { Follows expr_of (rules.of_object no_object at (expr_of typed)) result }
+    ensures { Follows expr_of (rules.of_object no_object at (expr_of typed)) result }
 {
     if no_object {
         return Err(not_lvalue(at));

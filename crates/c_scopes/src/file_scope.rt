@@ -131,7 +131,7 @@ impl<'a> Scopes<'a> {
 
     /// The initialiser of an object of file scope, where it has one.
     pub fn starts(&self, initial: &Option<Init>) -> Result<Starts, Refusal>
-        ensures follows { Follows starts_of (rules.starts (scope_of self.now) (initial_of initial.now)) result }
+        ensures { Follows starts_of (rules.starts (scope_of self.now) (initial_of initial.now)) result }
     {
         match initial {
             None => Ok(Starts::Absent),

@@ -115,7 +115,7 @@ impl<'a> Scopes<'a> {
 
     /// A static initialiser.
     pub(crate) fn entry(&self, e: &Expr) -> Result<Entry, Refusal>
-        ensures follows { Follows entry_of (rules.entry (scope_of self.now) (expression_of e.now)) result }
+        ensures { Follows entry_of (rules.entry (scope_of self.now) (expression_of e.now)) result }
     {
         let value = self.constant_tree(e)?;
         let initial = self.static_value(e, &value).ok_or(Refusal::Broken {
@@ -131,7 +131,7 @@ impl<'a> Scopes<'a> {
 
     /// Static initialisers, in order.
     pub(crate) fn entries(&self, list: &[Expr]) -> Result<Vec<Entry>, Refusal>
-        ensures follows { Follows (λ xs. map entry_of xs.items) (rules.entries (scope_of self.now) (map expression_of list.now)) result }
+        ensures { Follows (λ xs. map entry_of xs.items) (rules.entries (scope_of self.now) (map expression_of list.now)) result }
     {
         let mut entries = Vec::with_capacity(self.alloc, list.len())?;
         for e in list {
@@ -142,7 +142,7 @@ impl<'a> Scopes<'a> {
 
     // Types the values in braces of what is no array.
     fn all_typed(&self, list: &[Expr]) -> Result<(), Refusal>
-        ensures follows { Follows (λ _. blocks.Misbraced) (blocks.all_typed (scope_of self.now) (map expression_of list.now)) result }
+        ensures { Follows (λ _. blocks.Misbraced) (blocks.all_typed (scope_of self.now) (map expression_of list.now)) result }
     {
         for e in list {
             self.expression(e)?;
@@ -152,7 +152,7 @@ impl<'a> Scopes<'a> {
 
     /// The initialiser of an object of a block. The list of an array is known before the program runs.
     pub fn initialiser(&self, kind: &ItemKind, init: &Option<Init>) -> Result<Initialiser, Refusal>
-        ensures follows { Follows initialiser_of (blocks.initialiser (scope_of self.now) (blocks.is_array (item_form_of kind.now)) (initial_of init.now)) result }
+        ensures { Follows initialiser_of (blocks.initialiser (scope_of self.now) (blocks.is_array (item_form_of kind.now)) (initial_of init.now)) result }
     {
         match (init, kind) {
             (None, _) => Ok(Initialiser::Absent),

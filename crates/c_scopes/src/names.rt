@@ -18,7 +18,7 @@ use std::alloc::Global;
 impl<'a> Scopes<'a> {
     /// A name. An array is a pointer to its first cell, and a function isn't named but in calls.
     pub(crate) fn named(&self, name: &str, at: u32) -> Result<TypedExpr, Refusal>
-        ensures follows { Follows expr_of (rules.named (scope_of self.now) name.now at) result }
+        ensures { Follows expr_of (rules.named (scope_of self.now) name.now at) result }
     {
         if is_in(name) || is_out(name) {
             return Err(mismatch(at));
@@ -42,7 +42,7 @@ impl<'a> Scopes<'a> {
         at: u32,
         operands: Vec<Operand>,
     ) -> Result<TypedExpr, Refusal>
-        ensures follows { Follows expr_of (rules.called (rules.number_of (scope_of self.now) name.now) ((scope_of self.now).meaning name.now) at (map operand_of operands.items)) result }
+        ensures { Follows expr_of (rules.called (rules.number_of (scope_of self.now) name.now) ((scope_of self.now).meaning name.now) at (map operand_of operands.items)) result }
     {
         match self.find(name) {
             None => Err(undeclared(at)),
@@ -57,7 +57,7 @@ impl<'a> Scopes<'a> {
 
 // The object of a name.
 fn object(reference: VarRef, object_type: ObjectType, at: u32) -> Result<TypedExpr, Refusal>
-    ensures follows { Follows expr_of (rules.named_as at (Some (meanings.Object reference object_type))) result }
+    ensures { Follows expr_of (rules.named_as at (Some (meanings.Object reference object_type))) result }
 {
     let (form, kind) = match object_type {
         ObjectType::Single(kind) => (ExprForm::Read(reference), kind),
@@ -82,7 +82,7 @@ fn call_of(
     at: u32,
     operands: Vec<Operand>,
 ) -> Result<TypedExpr, Refusal>
-    ensures follows { Follows expr_of (rules.called number (Some (meanings.Function function.now)) at (map operand_of operands.items)) result }
+    ensures { Follows expr_of (rules.called number (Some (meanings.Function function.now)) at (map operand_of operands.items)) result }
 {
     let args = passed(alloc, function.parameters.as_slice(), at, operands)?;
     // No source that the parser gives has more functions than 16 bits number.

@@ -126,7 +126,7 @@ impl<'a> File<'a> {
 
     // An item of a declaration.
     fn item(&mut self, base: Base, item: &'a Item) -> Result<(), Refusal>
-        ensures follows { Follows (λ _. file_of self.new) (rules.file_item (file_of self.old) base (item_of item.now)) result }
+        ensures { Follows (λ _. file_of self.new) (rules.file_item (file_of self.old) base (item_of item.now)) result }
     {
         match self.scopes.declarator(base, item)? {
             Declared::Untyped => Err(self.untyped(item)),
@@ -146,7 +146,7 @@ impl<'a> File<'a> {
     }
 
     fn object(&mut self, object_type: ObjectType, item: &'a Item) -> Result<(), Refusal>
-        ensures follows { Follows (λ _. file_of self.new) (rules.item_as (file_of self.old) (declares.Object object_type) (item_of item.now)) result }
+        ensures { Follows (λ _. file_of self.new) (rules.item_as (file_of self.old) (declares.Object object_type) (item_of item.now)) result }
     {
         let name = item.name.as_str();
         let is_twice = self.is_twice(item);
@@ -191,7 +191,7 @@ impl<'a> File<'a> {
 
     // The declaration of a function without its body.
     fn prototyped(&mut self, function: FunctionType, item: &'a Item) -> Result<(), Refusal>
-        ensures follows { Follows (λ _. file_of self.new) (rules.item_as (file_of self.old) (declares.Function function) (item_of item.now)) result }
+        ensures { Follows (λ _. file_of self.new) (rules.item_as (file_of self.old) (declares.Function function) (item_of item.now)) result }
     {
         let is_twice = self.is_twice(item);
         let allowed = self.scopes.declare_function(item.name.as_str(), function)?;
@@ -206,7 +206,7 @@ impl<'a> File<'a> {
     }
 
     fn items(&mut self, base: Base, items: &'a [Item]) -> Result<(), Refusal>
-        ensures follows { Follows (λ _. file_of self.new) (rules.file_items (file_of self.old) base (map item_of items.now)) result }
+        ensures { Follows (λ _. file_of self.new) (rules.file_items (file_of self.old) base (map item_of items.now)) result }
     {
         for item in items {
             self.item(base, item)?;
@@ -216,7 +216,7 @@ impl<'a> File<'a> {
 
     // A function with its body.
     fn function(&mut self, f: &'a FunctionDef) -> Result<(), Refusal>
-        ensures follows { Follows (λ _. file_of self.new) (rules.file_function (file_of self.old) (function_of f.now)) result }
+        ensures { Follows (λ _. file_of self.new) (rules.file_function (file_of self.old) (function_of f.now)) result }
     {
         let base = spelled(&f.specs)?;
         let name = f.name.as_str();
@@ -245,7 +245,7 @@ impl<'a> File<'a> {
         kinds: &[ScalarType],
         f: &'a FunctionDef,
     ) -> Result<(), Refusal>
-        ensures follows { Follows (λ _. file_of self.new) (rules.with_body (file_of self.old) (function_of f.now) kind kinds.now) result }
+        ensures { Follows (λ _. file_of self.new) (rules.with_body (file_of self.old) (function_of f.now) kind kinds.now) result }
     {
         let alloc = self.scopes.alloc;
         let list = f.params.list.as_slice();
@@ -274,7 +274,7 @@ impl<'a> File<'a> {
     }
 
     fn external(&mut self, external: &'a External) -> Result<(), Refusal>
-        ensures follows { Follows (λ _. file_of self.new) (rules.external (file_of self.old) (external_of external.now)) result }
+        ensures { Follows (λ _. file_of self.new) (rules.external (file_of self.old) (external_of external.now)) result }
     {
         match external {
             External::Function(f) => self.function(f),
@@ -297,7 +297,7 @@ impl<'a> File<'a> {
 
     /// A whole source.
     pub(crate) fn of(alloc: Global, externals: &'a [External]) -> Result<Self, Refusal>
-        ensures follows { Follows file_of (rules.typed_unit (unit_of externals.now)) result }
+        ensures { Follows file_of (rules.typed_unit (unit_of externals.now)) result }
     {
         let mut file = File {
             scopes: Scopes::new(alloc, bodies_of(alloc, externals)?),

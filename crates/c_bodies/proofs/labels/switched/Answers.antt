@@ -6,7 +6,7 @@ use Rattle.c_bodies.specs.Bodies.{labelled_of, switched}
 use Rattle.c_rules.specs.Outcome.{Is}
 use Rattle.c_bodies.proofs.labels.switched.Goals as goal
 
-pub returns-in-Integer-clause-follows : goal.returns-in-Integer-clause-follows
-returns-in-Integer-clause-follows c =
+pub returns-in-Integer : goal.returns-in-Integer
+returns-in-Integer c =
     let e : switched c.args.place c.args.at (expr_of c.args.value) (labelled_of c.args.labelled) ≡ Is (Switch (expr_of c.args.value) (choice_list c.args.labelled.choices.items)) = search rules in
     e ∙ ap Is (sym (switch_of_list c.args.value c.args.labelled.choices))

@@ -11,23 +11,23 @@ use Rattle.c_types.proofs.program.check.Goals as goal
 
 pub program-requires : goal.program-requires
 program-requires c =
-    made_is_formed c.args.unit.now c.in_ok-file.file c.in_ok-frames.frames.items c.externals.ensures.externals c.in_ok-file.ensures.follows c.deref.ensures.value
+    made_is_formed c.args.unit.now c.in_ok-file.file c.in_ok-frames.frames.items c.externals.ensures.externals c.in_ok-file.ensures c.deref.ensures.value
     c.in_ok-frames.ensures.whole c.in_ok-frames.ensures.frames c.contents.ensures c.requires.names c.externals.ensures.limits
 
 pub returns-in_err-file-clause-refused : goal.returns-in_err-file-clause-refused
 returns-in_err-file-clause-refused c =
     let refused = refusal_says (unit_of c.args.unit.now) c.in_err-file.field-0.0
-    (subst (λ u. Refuses (typed_unit (unit_of u)) c.in_err-file.field-0.0) c.externals.ensures.externals c.in_err-file.ensures.follows)
+    (subst (λ u. Refuses (typed_unit (unit_of u)) c.in_err-file.field-0.0) c.externals.ensures.externals c.in_err-file.ensures)
     in fault_says (Says (unit_of c.args.unit.now)) (fault_of c.in_err-file.field-0.0) c.from_residual.result c.from_residual.ensures.1 refused
 
 pub returns-in_err-frames-clause-refused : goal.returns-in_err-frames-clause-refused
 returns-in_err-frames-clause-refused c =
-    let known = says_source c.args.unit.now c.in_ok-file.file c.in_err-frames.field-0.0 c.externals.ensures.externals c.in_ok-file.ensures.follows c.deref.ensures.value
+    let known = says_source c.args.unit.now c.in_ok-file.file c.in_err-frames.field-0.0 c.externals.ensures.externals c.in_ok-file.ensures c.deref.ensures.value
     c.in_err-frames.ensures.refused
     in fault_says (Says (unit_of c.args.unit.now)) c.in_err-frames.field-0.0 c.from_residual-in_err-frames.result c.from_residual-in_err-frames.ensures.1 known
 
 pub returns-clause-typed : goal.returns-clause-typed
 returns-clause-typed c =
     typed_source c.args.unit.now c.in_ok-file.file c.in_ok-frames.frames.items (program_of c.in_ok-program.field-0)
-    c.externals.ensures.externals c.in_ok-file.ensures.follows c.deref.ensures.value c.in_ok-frames.ensures.whole c.in_ok-frames.ensures.frames
+    c.externals.ensures.externals c.in_ok-file.ensures c.deref.ensures.value c.in_ok-frames.ensures.whole c.in_ok-frames.ensures.frames
     c.contents.ensures c.in_ok-program.ensures

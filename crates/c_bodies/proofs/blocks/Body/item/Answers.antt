@@ -14,7 +14,7 @@ returns-in-Function-clause-follows c =
     (scope_of c.declarator.new.self) (scope_of c.declare_object.new.self) _ c.as_str-name.result.now
     c.in_ok-declared.declared c.in-Function.field-0 (initialiser_of c.in_ok-initialiser.initialiser) c.function_in_block.result
     c.in_ok-declared.ensures.follows c.in-Function.is c.in_ok-declared.ensures.scope c.in_ok-declare_object.ensures.declared
-    c.in_ok-initialiser.ensures.follows c.as_str-name.ensures (sym c.is_taken-is_taken.ensures ∙ c.if-is_taken.false)
+    c.in_ok-initialiser.ensures c.as_str-name.ensures (sym c.is_taken-is_taken.ensures ∙ c.if-is_taken.false)
     c.function_in_block.ensures
 
 pub returns-in-Object-clause-follows : goal.returns-in-Object-clause-follows
@@ -25,5 +25,5 @@ returns-in-Object-clause-follows c =
     let same = object_same o c.args.base c.args.item.now (scope_of c.declarator.new.self) (scope_of c.declare_object.new.self) c.in-Ok.number c.as_str-name.result.now
     c.in_ok-declared.declared c.in-Object.object_type (initialiser_of c.in_ok-initialiser.initialiser)
     c.in_ok-declared.ensures.follows c.in-Object.is c.in_ok-declared.ensures.scope c.in_ok-declare_object.ensures.declared
-    c.in_ok-initialiser.ensures.follows c.as_str-name.ensures (sym c.is_taken-is_taken.ensures ∙ c.if-is_taken.false) count
+    c.in_ok-initialiser.ensures c.as_str-name.ensures (sym c.is_taken-is_taken.ensures ∙ c.if-is_taken.false) count
     in subst (λ made. Follows (opened_of c.object.new.self) made c.object.result) same c.object.ensures.follows

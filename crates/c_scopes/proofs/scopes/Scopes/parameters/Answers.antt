@@ -13,7 +13,7 @@ returns-in_err-kind-clause-follows c =
     let whole = parameters (scope_of c.args.self.now) c.args.naming (map parameter_of list) in
     let split = first_left list i c.parameter-item.result c.parameter-item.is c.loop-parameter-test.true in
     let h : Refuses whole c.in_err-kind.field-0.0 =
-    parameter_refused whole (scope_of c.loop-parameter.self) c.args.naming c.parameter-item.result (drop i list) (drop (i + 1) list) c.loop-parameter.kinds.items c.loop-parameter.invariant.typed split c.in_err-kind.field-0.0 c.in_err-kind.ensures.follows in
+    parameter_refused whole (scope_of c.loop-parameter.self) c.args.naming c.parameter-item.result (drop i list) (drop (i + 1) list) c.loop-parameter.kinds.items c.loop-parameter.invariant.typed split c.in_err-kind.field-0.0 c.in_err-kind.ensures in
     search rules
 
 pub loop-parameter-preserved : goal.loop-parameter-preserved
@@ -23,7 +23,7 @@ loop-parameter-preserved c =
     let whole = parameters (scope_of c.args.self.now) c.args.naming (map parameter_of list) in
     let split = first_left list i c.parameter-item.result c.parameter-item.is c.loop-parameter-test.true in
     record {
-      typed = parameter_typed whole (scope_of c.loop-parameter.self) c.args.naming c.parameter-item.result (drop i list) (drop (i + 1) list) c.loop-parameter.kinds.items c.loop-parameter.invariant.typed split c.in_ok-kind.kind (scope_of c.declare_single.new.self) c.push.new.self.items c.in_ok-kind.ensures.follows c.in_ok-declare_single.ensures.declared c.in_ok-push.ensures.items;
+      typed = parameter_typed whole (scope_of c.loop-parameter.self) c.args.naming c.parameter-item.result (drop i list) (drop (i + 1) list) c.loop-parameter.kinds.items c.loop-parameter.invariant.typed split c.in_ok-kind.kind (scope_of c.declare_single.new.self) c.push.new.self.items c.in_ok-kind.ensures c.in_ok-declare_single.ensures.declared c.in_ok-push.ensures.items;
       around = c.declare_single.ensures.around ∙ c.loop-parameter.invariant.around;
       bodies = c.declare_single.ensures.bodies ∙ c.loop-parameter.invariant.bodies;
     }

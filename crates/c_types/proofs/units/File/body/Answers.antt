@@ -11,8 +11,8 @@ use Rattle.c_scopes.proofs.ScopesKept.{closed_again, scope_kept}
 use Rattle.c_types.proofs.UnitLemmas.{body_typed, function_pushed}
 use Rattle.c_types.proofs.units.File.body.Goals as goal
 
-pub returns-clause-follows : goal.returns-clause-follows
-returns-clause-follows c =
+pub returns : goal.returns
+returns c =
     let f = c.args.f.now in
     let old = c.args.self.now.scopes in
     let list = c.as_slice-list.result.now in

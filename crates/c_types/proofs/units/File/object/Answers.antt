@@ -11,19 +11,19 @@ use Rattle.c_types.proofs.UnitLemmas.{starts_refused, redeclared_refused, declar
 use Rattle.c_types.proofs.units.File.object.Goals.{then-not-allowed-via-then-not-allowed, then-not-allowed-via-else-not-allowed+then-is_twice}
 use Rattle.c_types.proofs.units.File.object.Goals as goal
 
-pub returns-in_err-starts-clause-follows : goal.returns-in_err-starts-clause-follows
-returns-in_err-starts-clause-follows c =
+pub returns-in_err-starts : goal.returns-in_err-starts
+returns-in_err-starts c =
     let f = file_of c.args.self.now in
     let allowed = c.in_ok-allowed.allowed in
     let twice = c.is_twice-is_twice.result in
     let h : Refuses (item_as f (declares.Object c.args.object_type) (item_of c.args.item.now)) c.in_err-starts.field-0.0 =
     starts_refused f (item_of c.args.item.now) (declares.Object c.args.object_type) (scope_of c.declare_static.new.self) c.as_str-name.result.now c.len-next.result allowed twice
     c.as_str-name.ensures (c.len-next.ensures ∙ c.args.self.now.statics.ok.0 ∙ sym (length-map c.args.self.now.statics.items static_tree_of)) c.in_ok-allowed.ensures.declared c.in_ok-allowed.ensures.allowed c.is_twice-is_twice.ensures
-    c.in_err-starts.field-0.0 c.in_err-starts.ensures.follows in
+    c.in_err-starts.field-0.0 c.in_err-starts.ensures in
     search (rules, h)
 
-pub returns-then-not-allowed-clause-follows : goal.returns-then-not-allowed-clause-follows
-returns-then-not-allowed-clause-follows c =
+pub returns-then-not-allowed : goal.returns-then-not-allowed
+returns-then-not-allowed c =
     let f = file_of c.args.self.now in
     let allowed = c.in_ok-allowed.allowed in
     let twice = c.is_twice-is_twice.result in
@@ -33,16 +33,16 @@ returns-then-not-allowed-clause-follows c =
     ] in
     redeclared_refused f (item_of c.args.item.now) (declares.Object c.args.object_type) (scope_of c.declare_static.new.self) c.as_str-name.result.now c.len-next.result allowed twice
     c.as_str-name.ensures (c.len-next.ensures ∙ c.args.self.now.statics.ok.0 ∙ sym (length-map c.args.self.now.statics.items static_tree_of)) c.in_ok-allowed.ensures.declared c.in_ok-allowed.ensures.allowed c.is_twice-is_twice.ensures
-    (starts_of c.in_ok-starts.starts) c.in_ok-starts.ensures.follows c.redeclared.result broken c.redeclared.ensures
+    (starts_of c.in_ok-starts.starts) c.in_ok-starts.ensures c.redeclared.result broken c.redeclared.ensures
 
-pub returns-in_err-list-clause-follows : goal.returns-in_err-list-clause-follows
-returns-in_err-list-clause-follows c =
+pub returns-in_err-list : goal.returns-in_err-list
+returns-in_err-list c =
     let f = file_of c.args.self.now in
     let allowed = c.in_ok-allowed.allowed in
     let twice = c.is_twice-is_twice.result in
     let h : Refuses (item_as f (declares.Object c.args.object_type) (item_of c.args.item.now)) c.in_err-list.field-0.0 =
     declared_refused f (item_of c.args.item.now) (declares.Object c.args.object_type) (scope_of c.declare_static.new.self) c.as_str-name.result.now c.len-next.result allowed twice
     c.as_str-name.ensures (c.len-next.ensures ∙ c.args.self.now.statics.ok.0 ∙ sym (length-map c.args.self.now.statics.items static_tree_of)) c.in_ok-allowed.ensures.declared c.in_ok-allowed.ensures.allowed c.is_twice-is_twice.ensures
-    (starts_of c.in_ok-starts.starts) c.in_ok-starts.ensures.follows c.in_err-list.field-0.0 (allowed_once allowed twice c.if-not-allowed.false c.if-is_twice.false)
-    (refused_first (static_list c.args.object_type c.args.item.now.at (starts_of c.in_ok-starts.starts)) _ c.in_err-list.field-0.0 c.in_err-list.ensures.follows) in
+    (starts_of c.in_ok-starts.starts) c.in_ok-starts.ensures c.in_err-list.field-0.0 (allowed_once allowed twice c.if-not-allowed.false c.if-is_twice.false)
+    (refused_first (static_list c.args.object_type c.args.item.now.at (starts_of c.in_ok-starts.starts)) _ c.in_err-list.field-0.0 c.in_err-list.ensures) in
     search (rules, h)

@@ -8,8 +8,8 @@ use Rattle.c_types.specs.View.{file_of}
 use Rattle.c_types.proofs.UnitLemmas.{refused_first}
 use Rattle.c_types.proofs.units.File.of.Goals as goal
 
-pub returns-in_err-external-clause-follows : goal.returns-in_err-external-clause-follows
-returns-in_err-external-clause-follows c =
+pub returns-in_err-external : goal.returns-in_err-external
+returns-in_err-external c =
     let list = c.args.externals.now in
     let n = c.loop-external.external-index in
     let file = file_of c.loop-external.file in
@@ -18,5 +18,5 @@ returns-in_err-external-clause-follows c =
     let here : typed_unit (unit_of list) ≡ externals file (unit_of (item ∷ drop (n + 1) list)) =
     c.loop-external.invariant ∙ ap (λ l. externals file (unit_of l)) (drop_more list n item c.loop-external-test.true ∙ ap (λ x. x ∷ drop (n + 1) list) (sym c.external-item.is)) in
     let P : Outcome File → Type 0 = λ o. Refuses o c.in_err-external.field-0.0 in
-    let h : P (typed_unit (unit_of list)) = subst P (sym here) (refused_first (external file (external_of item)) rest c.in_err-external.field-0.0 c.in_err-external.ensures.follows) in
+    let h : P (typed_unit (unit_of list)) = subst P (sym here) (refused_first (external file (external_of item)) rest c.in_err-external.field-0.0 c.in_err-external.ensures) in
     search (rules, h)
