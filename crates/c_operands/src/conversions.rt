@@ -21,6 +21,14 @@ pub struct Operand {
     pub null: bool,
 }
 
+/// A value in a box. Where there is no memory, the value is let go here.
+pub(crate) fn in_box(alloc: Global, e: TypedExpr) -> Result<Box<TypedExpr>, Refusal>
+    ensures value { IfOk result (λ b. b.value ≡ e) }
+    ensures memory { IfErr result (λ f. f ≡ refusals.NoMemory) }
+{
+    Ok(Box::new(alloc, e)?)
+}
+
 /// A value as one of this type: a conversion stands where the types differ.
 pub(crate) fn converted(alloc: Global, kind: ScalarType, e: TypedExpr) -> Result<TypedExpr, Refusal>
     ensures typed { IfOk result (λ x. expr_of x ≡ rules.converted kind (expr_of e)) }
@@ -29,8 +37,17 @@ pub(crate) fn converted(alloc: Global, kind: ScalarType, e: TypedExpr) -> Result
     if same_kind(e.kind, Some(kind)) {
         return Ok(e);
     }
+    differing(alloc, kind, e)
+}
+
+// A value of another type as one of this type.
+fn differing(alloc: Global, kind: ScalarType, e: TypedExpr) -> Result<TypedExpr, Refusal>
+    ensures typed { IfOk result (λ x. expr_of x ≡ Node (Convert (expr_of e)) (Some kind) e.at) }
+    ensures memory { IfErr result (λ f. f ≡ refusals.NoMemory) }
+{
     let at = e.at;
-    conversion(alloc, Some(kind), at, e)
+    let value = in_box(alloc, e)?;
+    Ok(conversion(Some(kind), at, value))
 }
 
 /// A word of a type.
@@ -88,18 +105,15 @@ fn null_given(kind: ScalarType, at: u32, x: Operand) -> Result<TypedExpr, Refusa
     }
 }
 
-// A value as one of another type, or as none, at this place.
-fn conversion(
-    alloc: Global,
-    kind: Option<ScalarType>,
-    at: u32,
-    value: TypedExpr,
-) -> Result<TypedExpr, Refusal>
-    ensures typed { IfOk result (λ e. expr_of e ≡ Node (Convert (expr_of value)) kind at) }
-    ensures memory { IfErr result (λ f. f ≡ refusals.NoMemory) }
+/// A value as one of another type, or as none, at this place.
+pub(crate) fn conversion(kind: Option<ScalarType>, at: u32, value: Box<TypedExpr>) -> TypedExpr
+    ensures { expr_of result ≡ Node (Convert (expr_of value.value)) kind at }
 {
-    let form = ExprForm::Convert(Box::new(alloc, value)?);
-    Ok(TypedExpr { form, kind, at })
+    TypedExpr {
+        form: ExprForm::Convert(value),
+        kind,
+        at,
+    }
 }
 
 /// A cast, between integers, between pointers, to void, and of 0 to a void pointer: 6.3.4.
@@ -112,12 +126,13 @@ pub fn cast(
     ensures typed { IfOk result (λ e. rules.cast to at (operand_of x) ≡ Is (expr_of e)) }
     ensures refused { IfErr result (Refuses (rules.cast to at (operand_of x))) }
 {
+    let value = in_box(alloc, x.value)?;
     let Some(kind) = to else {
-        return conversion(alloc, None, at, x.value);
+        return Ok(conversion(None, at, value));
     };
-    match (class_of(Some(kind)), class_of(x.value.kind)) {
+    match (class_of(Some(kind)), class_of(value.kind)) {
         (Class::Integer, Class::Integer) | (Class::Pointer, Class::Pointer) => {
-            conversion(alloc, Some(kind), at, x.value)
+            Ok(conversion(Some(kind), at, value))
         }
         (Class::Pointer, Class::Integer) if x.null && same_type(kind, VOID_POINTER) => {
             Ok(null_of(kind, at))

@@ -11,7 +11,7 @@ ghost use Rattle.c_rules.specs.Answers.{Refuses};
 ghost use Rattle.c_rules.specs.Operands as rules;
 ghost use Rattle.c_operands.specs.OperandView.{operand_of, pair_of, left_of, right_of};
 
-use crate::conversions::{Operand, word};
+use crate::conversions::{Operand, in_box, word};
 use crate::kinds::{INT, UNSIGNED, class_of, same_kind};
 use crate::pairs::{Pair, balanced, boxed, met};
 use c_rules::{Class, Refusal, Rule, mismatch};
@@ -252,8 +252,9 @@ pub fn picked(
     ensures typed { IfOk result (λ e. rules.picked at (expr_of test) (operand_of yes) (operand_of no) ≡ Is (expr_of e)) }
     ensures refused { IfErr result (Refuses (rules.picked at (expr_of test) (operand_of yes) (operand_of no))) }
 {
+    let test = in_box(alloc, test);
     let pair = boxed(alloc, yes.value, no.value)?;
-    let test = Box::new(alloc, test)?;
+    let test = test?;
     if test.kind.is_none() {
         return Err(mismatch(at));
     }
