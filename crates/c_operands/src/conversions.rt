@@ -1,11 +1,12 @@
 //! Conversions of values: ISO 9899:1990 6.2.1.5, 6.2.2.3, 6.3.4 and 6.3.16.1.
-ghost use Rattle.std.specs.Prelude.{◌≡◌, Some, not, IfOk, IfErr};
+ghost use Rattle.std.specs.Prelude.{◌≡◌, ◌||◌, Some, not, IfOk, IfErr};
 ghost use Rattle.c_tree.specs.View.{expr_of};
 ghost use Rattle.c_tree.specs.TypedTree.{Node, Const, Convert};
 ghost use Rattle.c_rules.specs.declared.fault.Refusal.TheVariants as refusals;
 ghost use Rattle.c_rules.specs.declared.fault.Rule.TheVariants as rule;
 ghost use Rattle.c_rules.specs.Outcome.{Is, breaks};
 ghost use Rattle.c_rules.specs.Answers.{Refuses};
+ghost use Rattle.c_rules.specs.Kinds as kinds;
 ghost use Rattle.c_rules.specs.Operands as rules;
 ghost use Rattle.c_operands.specs.OperandView.{operand_of};
 
@@ -75,28 +76,25 @@ pub fn given(alloc: Global, kind: ScalarType, at: u32, x: Operand) -> Result<Typ
 {
     match (class_of(Some(kind)), class_of(x.value.kind)) {
         (Class::Integer, Class::Integer) => converted(alloc, kind, x.value),
-        (Class::Pointer, Class::Integer) => null_given(kind, at, x),
-        (Class::Pointer, Class::Pointer) => pointer_given(alloc, kind, at, x),
+        (Class::Pointer, Class::Pointer) if !x.null && goes_with(kind, x.value.kind) => {
+            converted(alloc, kind, x.value)
+        }
+        (Class::Pointer, Class::Integer | Class::Pointer) => null_given(kind, at, &x),
         _ => Err(mismatch(at)),
     }
 }
 
-// A pointer where one of this type is wanted: a void pointer goes with any, both ways.
-fn pointer_given(alloc: Global, kind: ScalarType, at: u32, x: Operand) -> Result<TypedExpr, Refusal>
-    ensures typed { IfOk result (λ e. rules.pointer_given kind at (operand_of x) ≡ Is (expr_of e)) }
-    ensures refused { IfErr result (Refuses (rules.pointer_given kind at (operand_of x))) }
+// Whether a pointer goes where one of this type is wanted: a void pointer goes with any, both ways.
+fn goes_with(kind: ScalarType, other: Option<ScalarType>) -> bool
+    ensures { result ≡ (kinds.is_void_pointer (Some kind) || kinds.is_void_pointer other || kinds.same_kind other (Some kind)) }
 {
-    let either_void = is_void_pointer(Some(kind)) || is_void_pointer(x.value.kind);
-    if !x.null && (either_void || same_kind(x.value.kind, Some(kind))) {
-        return converted(alloc, kind, x.value);
-    }
-    null_given(kind, at, x)
+    is_void_pointer(Some(kind)) || is_void_pointer(other) || same_kind(other, Some(kind))
 }
 
 // The null pointer of a type, where the operand is one.
-fn null_given(kind: ScalarType, at: u32, x: Operand) -> Result<TypedExpr, Refusal>
-    ensures typed { IfOk result (λ e. breaks (not x.null) rule.Mismatch at (Is (rules.null_of kind (expr_of x.value))) ≡ Is (expr_of e)) }
-    ensures refused { IfErr result (Refuses (breaks (not x.null) rule.Mismatch at (Is (rules.null_of kind (expr_of x.value))))) }
+fn null_given(kind: ScalarType, at: u32, x: &Operand) -> Result<TypedExpr, Refusal>
+    ensures typed { IfOk result (λ e. breaks (not x.now.null) rule.Mismatch at (Is (rules.null_of kind (expr_of x.now.value))) ≡ Is (expr_of e)) }
+    ensures refused { IfErr result (Refuses (breaks (not x.now.null) rule.Mismatch at (Is (rules.null_of kind (expr_of x.now.value))))) }
 {
     if x.null {
         Ok(null_of(kind, x.value.at))

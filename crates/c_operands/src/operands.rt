@@ -166,7 +166,7 @@ pub fn unary(alloc: Global, op: UnaryOp, at: u32, value: TypedExpr) -> Result<Ty
     ensures typed { IfOk result (λ e. rules.unary op at (expr_of value) ≡ Is (expr_of e)) }
     ensures refused { IfErr result (Refuses (rules.unary op at (expr_of value))) }
 {
-    let value = Box::new(alloc, value)?;
+    let value = in_box(alloc, value)?;
     let kind = value.kind;
     if class_of(kind) != Class::Integer {
         return Err(mismatch(at));
@@ -180,7 +180,7 @@ pub fn negated(alloc: Global, at: u32, value: TypedExpr) -> Result<TypedExpr, Re
     ensures typed { IfOk result (λ e. rules.negated at (expr_of value) ≡ Is (expr_of e)) }
     ensures refused { IfErr result (Refuses (rules.negated at (expr_of value))) }
 {
-    let value = Box::new(alloc, value)?;
+    let value = in_box(alloc, value)?;
     if value.kind.is_none() {
         return Err(mismatch(at));
     }

@@ -11,7 +11,7 @@ ghost use Rattle.c_operands.specs.OperandView.{operand_of};
 ghost use Rattle.c_rules.specs.declared.fault.Refusal.TheVariants as refusals;
 ghost use Rattle.c_rules.specs.declared.fault.Rule.TheVariants as rule;
 
-use crate::conversions::{Operand, given};
+use crate::conversions::{Operand, given, in_box};
 use crate::kinds::{class_of, pointed, pointer_to};
 use crate::operands::sum;
 use crate::pairs::boxed;
@@ -61,7 +61,7 @@ fn given_boxed(
     ensures refused { IfErr result (Refuses (rules.given kind at (operand_of x))) }
 {
     let value = given(alloc, kind, at, x)?;
-    Ok(Box::new(alloc, value)?)
+    in_box(alloc, value)
 }
 
 /// `=`: 6.3.16.1.
@@ -116,7 +116,7 @@ pub fn assigned_by(
 {
     let kind = to.kind;
     let target = target_of(at, to);
-    let value = Box::new(alloc, value)?;
+    let value = in_box(alloc, value)?;
     if !takes(op, class_of(kind), class_of(value.kind)) {
         return Err(mismatch(at));
     }
@@ -193,7 +193,7 @@ pub fn loaded(alloc: Global, at: u32, value: TypedExpr) -> Result<TypedExpr, Ref
     ensures typed { IfOk result (λ e. rules.loaded at (expr_of value) ≡ Is (expr_of e)) }
     ensures refused { IfErr result (Refuses (rules.loaded at (expr_of value))) }
 {
-    let pointer = Box::new(alloc, value)?;
+    let pointer = in_box(alloc, value)?;
     let kind = match pointer.kind {
         Some(kind) if kind.stars > 0 => pointed(kind),
         _ => None,
