@@ -12,7 +12,7 @@ ghost use Rattle.c_operands.specs.OperandView.{operand_of};
 ghost use Rattle.c_rules.specs.declared.fault.Refusal.TheVariants as refusals;
 ghost use Rattle.c_rules.specs.declared.fault.Rule.TheVariants as rule;
 
-use crate::conversions::{Operand, given};
+use crate::conversions::{Operand, given, in_box};
 use crate::kinds::{INT, class_of};
 use c_rules::{Class, Refusal, Rule, mismatch};
 use c_tree::{ExprForm, ScalarType, TypedExpr};
@@ -126,7 +126,7 @@ fn sent_word(alloc: Global, at: u32, port: u8, word: Operand) -> Result<TypedExp
     ensures typed { IfOk result (λ e. expr_of e ≡ Node (Out port (expr_of word.value)) None at) }
     ensures memory { IfErr result (λ f. f ≡ refusals.NoMemory) }
 {
-    let value = Box::new(alloc, word.value)?;
+    let value = in_box(alloc, word.value)?;
     Ok(TypedExpr {
         form: ExprForm::Out { port, value },
         kind: None,

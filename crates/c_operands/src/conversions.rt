@@ -1,11 +1,12 @@
 //! Conversions of values: ISO 9899:1990 6.2.1.5, 6.2.2.3, 6.3.4 and 6.3.16.1.
 ghost use Rattle.c_rules.specs.Answers.{Follows};
-ghost use Rattle.std.specs.Prelude.{◌≡◌, Some, not, IfOk, IfErr};
+ghost use Rattle.std.specs.Prelude.{◌≡◌, ◌||◌, Some, not, IfOk, IfErr};
 ghost use Rattle.c_tree.specs.View.{expr_of};
 ghost use Rattle.c_tree.specs.TypedTree.{Node, Const, Convert};
 ghost use Rattle.c_rules.specs.declared.fault.Refusal.TheVariants as refusals;
 ghost use Rattle.c_rules.specs.declared.fault.Rule.TheVariants as rule;
 ghost use Rattle.c_rules.specs.Outcome.{Is, breaks};
+ghost use Rattle.c_rules.specs.Kinds as kinds;
 ghost use Rattle.c_rules.specs.Operands as rules;
 ghost use Rattle.c_operands.specs.OperandView.{operand_of};
 
@@ -21,6 +22,14 @@ pub struct Operand {
     pub null: bool,
 }
 
+/// A value in a box. Where there is no memory, the value is let go here.
+pub(crate) fn in_box(alloc: Global, e: TypedExpr) -> Result<Box<TypedExpr>, Refusal>
+    ensures value { IfOk result (λ b. b.value ≡ e) }
+    ensures memory { IfErr result (λ f. f ≡ refusals.NoMemory) }
+{
+    Ok(Box::new(alloc, e)?)
+}
+
 /// A value as one of this type: a conversion stands where the types differ.
 pub(crate) fn converted(alloc: Global, kind: ScalarType, e: TypedExpr) -> Result<TypedExpr, Refusal>
     ensures typed { IfOk result (λ x. expr_of x ≡ rules.converted kind (expr_of e)) }
@@ -29,8 +38,17 @@ pub(crate) fn converted(alloc: Global, kind: ScalarType, e: TypedExpr) -> Result
     if same_kind(e.kind, Some(kind)) {
         return Ok(e);
     }
+    differing(alloc, kind, e)
+}
+
+// A value of another type as one of this type.
+fn differing(alloc: Global, kind: ScalarType, e: TypedExpr) -> Result<TypedExpr, Refusal>
+    ensures typed { IfOk result (λ x. expr_of x ≡ Node (Convert (expr_of e)) (Some kind) e.at) }
+    ensures memory { IfErr result (λ f. f ≡ refusals.NoMemory) }
+{
     let at = e.at;
-    conversion(alloc, Some(kind), at, e)
+    let value = in_box(alloc, e)?;
+    Ok(conversion(Some(kind), at, value))
 }
 
 /// A word of a type.
@@ -57,26 +75,24 @@ pub fn given(alloc: Global, kind: ScalarType, at: u32, x: Operand) -> Result<Typ
 {
     match (class_of(Some(kind)), class_of(x.value.kind)) {
         (Class::Integer, Class::Integer) => converted(alloc, kind, x.value),
-        (Class::Pointer, Class::Integer) => null_given(kind, at, x),
-        (Class::Pointer, Class::Pointer) => pointer_given(alloc, kind, at, x),
+        (Class::Pointer, Class::Pointer) if !x.null && goes_with(kind, x.value.kind) => {
+            converted(alloc, kind, x.value)
+        }
+        (Class::Pointer, Class::Integer | Class::Pointer) => null_given(kind, at, &x),
         _ => Err(mismatch(at)),
     }
 }
 
-// A pointer where one of this type is wanted: a void pointer goes with any, both ways.
-fn pointer_given(alloc: Global, kind: ScalarType, at: u32, x: Operand) -> Result<TypedExpr, Refusal>
-    ensures { Follows expr_of (rules.pointer_given kind at (operand_of x)) result }
+// Whether a pointer goes where one of this type is wanted: a void pointer goes with any, both ways.
+fn goes_with(kind: ScalarType, other: Option<ScalarType>) -> bool
+    ensures { result ≡ (kinds.is_void_pointer (Some kind) || kinds.is_void_pointer other || kinds.same_kind other (Some kind)) }
 {
-    let either_void = is_void_pointer(Some(kind)) || is_void_pointer(x.value.kind);
-    if !x.null && (either_void || same_kind(x.value.kind, Some(kind))) {
-        return converted(alloc, kind, x.value);
-    }
-    null_given(kind, at, x)
+    is_void_pointer(Some(kind)) || is_void_pointer(other) || same_kind(other, Some(kind))
 }
 
 // The null pointer of a type, where the operand is one.
-fn null_given(kind: ScalarType, at: u32, x: Operand) -> Result<TypedExpr, Refusal>
-    ensures { Follows expr_of (breaks (not x.null) rule.Mismatch at (Is (rules.null_of kind (expr_of x.value)))) result }
+fn null_given(kind: ScalarType, at: u32, x: &Operand) -> Result<TypedExpr, Refusal>
+    ensures { Follows expr_of (breaks (not x.now.null) rule.Mismatch at (Is (rules.null_of kind (expr_of x.now.value)))) result }
 {
     if x.null {
         Ok(null_of(kind, x.value.at))
@@ -85,18 +101,15 @@ fn null_given(kind: ScalarType, at: u32, x: Operand) -> Result<TypedExpr, Refusa
     }
 }
 
-// A value as one of another type, or as none, at this place.
-fn conversion(
-    alloc: Global,
-    kind: Option<ScalarType>,
-    at: u32,
-    value: TypedExpr,
-) -> Result<TypedExpr, Refusal>
-    ensures typed { IfOk result (λ e. expr_of e ≡ Node (Convert (expr_of value)) kind at) }
-    ensures memory { IfErr result (λ f. f ≡ refusals.NoMemory) }
+/// A value as one of another type, or as none, at this place.
+pub(crate) fn conversion(kind: Option<ScalarType>, at: u32, value: Box<TypedExpr>) -> TypedExpr
+    ensures { expr_of result ≡ Node (Convert (expr_of value.value)) kind at }
 {
-    let form = ExprForm::Convert(Box::new(alloc, value)?);
-    Ok(TypedExpr { form, kind, at })
+    TypedExpr {
+        form: ExprForm::Convert(value),
+        kind,
+        at,
+    }
 }
 
 /// A cast, between integers, between pointers, to void, and of 0 to a void pointer: 6.3.4.
@@ -108,12 +121,13 @@ pub fn cast(
 ) -> Result<TypedExpr, Refusal>
     ensures { Follows expr_of (rules.cast to at (operand_of x)) result }
 {
+    let value = in_box(alloc, x.value)?;
     let Some(kind) = to else {
-        return conversion(alloc, None, at, x.value);
+        return Ok(conversion(None, at, value));
     };
-    match (class_of(Some(kind)), class_of(x.value.kind)) {
+    match (class_of(Some(kind)), class_of(value.kind)) {
         (Class::Integer, Class::Integer) | (Class::Pointer, Class::Pointer) => {
-            conversion(alloc, Some(kind), at, x.value)
+            Ok(conversion(Some(kind), at, value))
         }
         (Class::Pointer, Class::Integer) if x.null && same_type(kind, VOID_POINTER) => {
             Ok(null_of(kind, at))

@@ -10,7 +10,7 @@ ghost use Rattle.c_rules.specs.Kinds.{class_of};
 ghost use Rattle.c_rules.specs.Operands as rules;
 ghost use Rattle.c_operands.specs.OperandView.{operand_of, pair_of, left_of, right_of};
 
-use crate::conversions::{Operand, word};
+use crate::conversions::{Operand, in_box, word};
 use crate::kinds::{INT, UNSIGNED, class_of, same_kind};
 use crate::pairs::{Pair, balanced, boxed, met};
 use c_rules::{Class, Refusal, Rule, mismatch};
@@ -156,7 +156,7 @@ pub fn binary(
 pub fn unary(alloc: Global, op: UnaryOp, at: u32, value: TypedExpr) -> Result<TypedExpr, Refusal>
     ensures { Follows expr_of (rules.unary op at (expr_of value)) result }
 {
-    let value = Box::new(alloc, value)?;
+    let value = in_box(alloc, value)?;
     let kind = value.kind;
     if class_of(kind) != Class::Integer {
         return Err(mismatch(at));
@@ -169,7 +169,7 @@ pub fn unary(alloc: Global, op: UnaryOp, at: u32, value: TypedExpr) -> Result<Ty
 pub fn negated(alloc: Global, at: u32, value: TypedExpr) -> Result<TypedExpr, Refusal>
     ensures { Follows expr_of (rules.negated at (expr_of value)) result }
 {
-    let value = Box::new(alloc, value)?;
+    let value = in_box(alloc, value)?;
     if value.kind.is_none() {
         return Err(mismatch(at));
     }
@@ -238,8 +238,9 @@ pub fn picked(
 ) -> Result<TypedExpr, Refusal>
     ensures { Follows expr_of (rules.picked at (expr_of test) (operand_of yes) (operand_of no)) result }
 {
+    let test = in_box(alloc, test);
     let pair = boxed(alloc, yes.value, no.value)?;
-    let test = Box::new(alloc, test)?;
+    let test = test?;
     if test.kind.is_none() {
         return Err(mismatch(at));
     }

@@ -6,10 +6,10 @@ ghost use Rattle.c_rules.specs.declared.fault.Refusal.TheVariants as refusals;
 ghost use Rattle.c_rules.specs.Operands as rules;
 ghost use Rattle.c_operands.specs.OperandView.{pair_of, left_of, right_of, beside_void};
 
-use crate::conversions::null_of;
+use crate::conversions::{conversion, in_box, null_of};
 use crate::kinds::{INT, class_of, common, is_void_pointer, same_kind};
 use c_rules::{Class, Refusal, mismatch};
-use c_tree::{ExprForm, ScalarType, TypedExpr};
+use c_tree::{ScalarType, TypedExpr};
 use std::alloc::Global;
 
 /// The two values below a node.
@@ -19,15 +19,19 @@ pub(crate) struct Pair {
     pub(crate) right: Box<TypedExpr>,
 }
 
-/// Two values as they are. What is refused behind this drops boxes, which is cheaper to prove than trees by value.
+/// Two values as they are, each in a box. What is refused behind this drops boxes alone: a tree by value that may be dropped
+/// is dear to prove.
 pub(crate) fn boxed(alloc: Global, left: TypedExpr, right: TypedExpr) -> Result<Pair, Refusal>
     ensures left { IfOk result (λ p. p.left.value ≡ left) }
     ensures right { IfOk result (λ p. p.right.value ≡ right) }
     ensures memory { IfErr result (λ f. f ≡ refusals.NoMemory) }
 {
-    let left = Box::new(alloc, left)?;
-    let right = Box::new(alloc, right)?;
-    Ok(Pair { left, right })
+    let left = in_box(alloc, left);
+    let right = in_box(alloc, right);
+    Ok(Pair {
+        left: left?,
+        right: right?,
+    })
 }
 
 // A value as one of this type: a conversion stands where the types differ.
@@ -39,12 +43,7 @@ fn converted(alloc: Global, kind: ScalarType, e: Box<TypedExpr>) -> Result<Box<T
         return Ok(e);
     }
     let at = e.at;
-    let converted = TypedExpr {
-        form: ExprForm::Convert(e),
-        kind: Some(kind),
-        at,
-    };
-    Ok(Box::new(alloc, converted)?)
+    Ok(Box::new(alloc, conversion(Some(kind), at, e))?)
 }
 
 /// Two integers as their common type: 6.2.1.5.

@@ -10,7 +10,7 @@ ghost use Rattle.c_operands.specs.OperandView.{operand_of};
 ghost use Rattle.c_rules.specs.declared.fault.Refusal.TheVariants as refusals;
 ghost use Rattle.c_rules.specs.declared.fault.Rule.TheVariants as rule;
 
-use crate::conversions::{Operand, given};
+use crate::conversions::{Operand, given, in_box};
 use crate::kinds::{class_of, pointed, pointer_to};
 use crate::operands::sum;
 use crate::pairs::boxed;
@@ -59,7 +59,7 @@ fn given_boxed(
     ensures { Follows (λ e. expr_of e.value) (rules.given kind at (operand_of x)) result }
 {
     let value = given(alloc, kind, at, x)?;
-    Ok(Box::new(alloc, value)?)
+    in_box(alloc, value)
 }
 
 /// `=`: 6.3.16.1.
@@ -112,7 +112,7 @@ pub fn assigned_by(
 {
     let kind = to.kind;
     let target = target_of(at, to);
-    let value = Box::new(alloc, value)?;
+    let value = in_box(alloc, value)?;
     if !takes(op, class_of(kind), class_of(value.kind)) {
         return Err(mismatch(at));
     }
@@ -185,7 +185,7 @@ fn address_of(kind: ScalarType, at: u32, reference: VarRef) -> Result<TypedExpr,
 pub fn loaded(alloc: Global, at: u32, value: TypedExpr) -> Result<TypedExpr, Refusal>
     ensures { Follows expr_of (rules.loaded at (expr_of value)) result }
 {
-    let pointer = Box::new(alloc, value)?;
+    let pointer = in_box(alloc, value)?;
     let kind = match pointer.kind {
         Some(kind) if kind.stars > 0 => pointed(kind),
         _ => None,

@@ -2,7 +2,7 @@
 use Rattle.std.proofs.Common.{◌≡◌, List, ◌++◌, map}
 use Rattle.c_syntax.specs.declared.expr.Expr.{Expr}
 use Rattle.c_syntax.specs.SyntaxView.{trees_of}
-use Rattle.c_operands.specs.declared.operands.Operand.{Operand}
+use Rattle.c_operands.specs.declared.conversions.Operand.{Operand}
 use Rattle.c_rules.specs.Outcome.{Is, ◌>>=◌}
 use Rattle.c_rules.specs.Scopes.{Scope}
 use Rattle.c_rules.specs.Typing.{operands}
