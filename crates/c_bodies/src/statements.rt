@@ -23,7 +23,7 @@ use crate::blocks::{Body, Opening};
 use crate::labels::{Labelled, switched};
 use c_operands::{Operand, given};
 use c_rules::{Refusal, Rule, mismatch};
-use c_scopes::word_at;
+use c_scopes::{constant_tree, expression, operand, word_at};
 use c_syntax::{Decl, Expr, Stmt, StmtKind, SwitchPart};
 use c_tree::{Choice, Enclosing, ScalarType, TypedExpr, TypedStmt, points};
 use std::alloc::Global;
@@ -55,13 +55,13 @@ impl<'a> Body<'a> {
         ensures typed { IfOk result (λ t. statement_in self.old enclosing (statement_of s.now.kind s.now.at) ≡ just (stmt_of t) (locals_of self.new)) }
         ensures refused { IfErr result (Refuses (statement_in self.old enclosing (statement_of s.now.kind s.now.at))) }
         ensures tables { OnOk result (tables_of self.new.scopes ≡ tables_of self.old.scopes) }
-        ensures bodies { self.new.scopes.bodies ≡ self.old.scopes.bodies }
+        ensures bodies { (scope_of self.new.scopes).bodies ≡ (scope_of self.old.scopes).bodies }
         ensures returned { self.new.result ≡ self.old.result }
     {
         let at = s.at;
         match &s.kind {
             StmtKind::Empty => Ok(empty(self.scopes.alloc)),
-            StmtKind::Evaluate(e) => Ok(TypedStmt::Expr(self.scopes.expression(e)?)),
+            StmtKind::Evaluate(e) => Ok(TypedStmt::Expr(expression(&self.scopes, e)?)),
             StmtKind::Block {
                 declarations,
                 statements,
@@ -94,7 +94,7 @@ impl<'a> Body<'a> {
         ensures typed { IfOk result (λ t. statement_in self.old enclosing (statement_of s.now.kind s.now.at) ≡ just (stmt_of t.value) (locals_of self.new)) }
         ensures refused { IfErr result (Refuses (statement_in self.old enclosing (statement_of s.now.kind s.now.at))) }
         ensures tables { OnOk result (tables_of self.new.scopes ≡ tables_of self.old.scopes) }
-        ensures bodies { self.new.scopes.bodies ≡ self.old.scopes.bodies }
+        ensures bodies { (scope_of self.new.scopes).bodies ≡ (scope_of self.old.scopes).bodies }
         ensures returned { self.new.result ≡ self.old.result }
     {
         let typed = self.statement(s, enclosing)?;
@@ -113,7 +113,7 @@ impl<'a> Body<'a> {
         ensures typed { IfOk result (λ t. statement_in self.old enclosing (tree.Block (map declaration_of declarations.now) (body_of statements.now) at) ≡ just (stmt_of t) (locals_of self.new)) }
         ensures refused { IfErr result (Refuses (statement_in self.old enclosing (tree.Block (map declaration_of declarations.now) (body_of statements.now) at))) }
         ensures tables { OnOk result (tables_of self.new.scopes ≡ tables_of self.old.scopes) }
-        ensures bodies { self.new.scopes.bodies ≡ self.old.scopes.bodies }
+        ensures bodies { (scope_of self.new.scopes).bodies ≡ (scope_of self.old.scopes).bodies }
         ensures returned { self.new.result ≡ self.old.result }
     {
         self.scopes.open()?;
@@ -131,7 +131,7 @@ impl<'a> Body<'a> {
         ensures typed { IfOk result (λ t. rules.typed_body self.old.result (scope_of self.old.scopes) (locals_of self.old) (map declaration_of declarations.now) (body_of statements.now) ≡ just (stmt_of t) (locals_of self.new)) }
         ensures refused { IfErr result (Refuses (rules.typed_body self.old.result (scope_of self.old.scopes) (locals_of self.old) (map declaration_of declarations.now) (body_of statements.now))) }
         ensures around { OnOk result (around_of self.new.scopes ≡ around_of self.old.scopes) }
-        ensures bodies { self.new.scopes.bodies ≡ self.old.scopes.bodies }
+        ensures bodies { (scope_of self.new.scopes).bodies ≡ (scope_of self.old.scopes).bodies }
     {
         self.block_here(declarations, statements, Enclosing::Body)
     }
@@ -147,7 +147,7 @@ impl<'a> Body<'a> {
         ensures typed { IfOk result (λ t. block_in self.old enclosing (map declaration_of declarations.now) (body_of statements.now) ≡ just (stmt_of t) (locals_of self.new)) }
         ensures refused { IfErr result (Refuses (block_in self.old enclosing (map declaration_of declarations.now) (body_of statements.now))) }
         ensures around { OnOk result (around_of self.new.scopes ≡ around_of self.old.scopes) }
-        ensures bodies { self.new.scopes.bodies ≡ self.old.scopes.bodies }
+        ensures bodies { (scope_of self.new.scopes).bodies ≡ (scope_of self.old.scopes).bodies }
         ensures returned { self.new.result ≡ self.old.result }
     {
         let alloc = self.scopes.alloc;
@@ -174,7 +174,7 @@ impl<'a> Body<'a> {
         ensures typed { IfOk result (λ all. behind into.items (statements_in self.old enclosing (body_of list.now)) ≡ just (statement_list all.items) (locals_of self.new)) }
         ensures refused { IfErr result (Refuses (statements_in self.old enclosing (body_of list.now))) }
         ensures tables { OnOk result (tables_of self.new.scopes ≡ tables_of self.old.scopes) }
-        ensures bodies { self.new.scopes.bodies ≡ self.old.scopes.bodies }
+        ensures bodies { (scope_of self.new.scopes).bodies ≡ (scope_of self.old.scopes).bodies }
         ensures returned { self.new.result ≡ self.old.result }
     {
         for s in list {
@@ -199,7 +199,7 @@ impl<'a> Body<'a> {
         ensures typed { IfOk result (λ t. statement_in self.now enclosings.Body (tree.Return (Some (expression_of value.now)) at) ≡ just (stmt_of t) (locals_of self.now)) }
         ensures refused { IfErr result (Refuses (statement_in self.now enclosings.Body (tree.Return (Some (expression_of value.now)) at))) }
     {
-        let value = self.scopes.operand(value)?;
+        let value = operand(&self.scopes, value)?;
         let value = returned(self.scopes.alloc, self.result, at, value)?;
         Ok(TypedStmt::Return(Some(value)))
     }
@@ -216,10 +216,10 @@ impl<'a> Body<'a> {
         ensures typed { IfOk result (λ t. statement_in self.old enclosing (tree.If (expression_of test.now) (statement_of yes.now.kind yes.now.at) at) ≡ just (stmt_of t) (locals_of self.new)) }
         ensures refused { IfErr result (Refuses (statement_in self.old enclosing (tree.If (expression_of test.now) (statement_of yes.now.kind yes.now.at) at))) }
         ensures tables { OnOk result (tables_of self.new.scopes ≡ tables_of self.old.scopes) }
-        ensures bodies { self.new.scopes.bodies ≡ self.old.scopes.bodies }
+        ensures bodies { (scope_of self.new.scopes).bodies ≡ (scope_of self.old.scopes).bodies }
         ensures returned { self.new.result ≡ self.old.result }
     {
-        let test = self.scopes.expression(test)?;
+        let test = expression(&self.scopes, test)?;
         let yes = self.inner(yes, enclosing)?;
         self.one_armed(test, yes, at)
     }
@@ -250,10 +250,10 @@ impl<'a> Body<'a> {
         ensures typed { IfOk result (λ t. statement_in self.old enclosing (tree.IfElse (expression_of test.now) (statement_of yes.now.kind yes.now.at) (statement_of no.now.kind no.now.at) at) ≡ just (stmt_of t) (locals_of self.new)) }
         ensures refused { IfErr result (Refuses (statement_in self.old enclosing (tree.IfElse (expression_of test.now) (statement_of yes.now.kind yes.now.at) (statement_of no.now.kind no.now.at) at))) }
         ensures tables { OnOk result (tables_of self.new.scopes ≡ tables_of self.old.scopes) }
-        ensures bodies { self.new.scopes.bodies ≡ self.old.scopes.bodies }
+        ensures bodies { (scope_of self.new.scopes).bodies ≡ (scope_of self.old.scopes).bodies }
         ensures returned { self.new.result ≡ self.old.result }
     {
-        let test = self.scopes.expression(test)?;
+        let test = expression(&self.scopes, test)?;
         let yes = self.inner(yes, enclosing)?;
         self.otherwise(test, yes, no, enclosing, at)
     }
@@ -271,7 +271,7 @@ impl<'a> Body<'a> {
         ensures typed { IfOk result (λ t. else_in self.old enclosing at (expr_of test) (stmt_of yes.value) (statement_of no.now.kind no.now.at) ≡ just (stmt_of t) (locals_of self.new)) }
         ensures refused { IfErr result (Refuses (else_in self.old enclosing at (expr_of test) (stmt_of yes.value) (statement_of no.now.kind no.now.at))) }
         ensures tables { OnOk result (tables_of self.new.scopes ≡ tables_of self.old.scopes) }
-        ensures bodies { self.new.scopes.bodies ≡ self.old.scopes.bodies }
+        ensures bodies { (scope_of self.new.scopes).bodies ≡ (scope_of self.old.scopes).bodies }
         ensures returned { self.new.result ≡ self.old.result }
     {
         let no = self.inner(no, enclosing)?;
@@ -310,10 +310,10 @@ impl<'a> Body<'a> {
         ensures typed { IfOk result (λ t. statement_in self.old enclosing (tree.Switch (expression_of value.now) (parts_of parts.now) place at) ≡ just (stmt_of t) (locals_of self.new)) }
         ensures refused { IfErr result (Refuses (statement_in self.old enclosing (tree.Switch (expression_of value.now) (parts_of parts.now) place at))) }
         ensures tables { OnOk result (tables_of self.new.scopes ≡ tables_of self.old.scopes) }
-        ensures bodies { self.new.scopes.bodies ≡ self.old.scopes.bodies }
+        ensures bodies { (scope_of self.new.scopes).bodies ≡ (scope_of self.old.scopes).bodies }
         ensures returned { self.new.result ≡ self.old.result }
     {
-        let value = self.scopes.expression(value)?;
+        let value = expression(&self.scopes, value)?;
         let labelled = self.choices(parts, enclosing.in_switch())?;
         switched(self.scopes.alloc, place, at, value, labelled)
     }
@@ -328,7 +328,7 @@ impl<'a> Body<'a> {
         ensures typed { IfOk result (λ l. choices_in self.old enclosing (parts_of parts.now) ≡ just (labelled_of l) (locals_of self.new)) }
         ensures refused { IfErr result (Refuses (choices_in self.old enclosing (parts_of parts.now))) }
         ensures tables { OnOk result (tables_of self.new.scopes ≡ tables_of self.old.scopes) }
-        ensures bodies { self.new.scopes.bodies ≡ self.old.scopes.bodies }
+        ensures bodies { (scope_of self.new.scopes).bodies ≡ (scope_of self.old.scopes).bodies }
         ensures returned { self.new.result ≡ self.old.result }
     {
         let mut labelled = Labelled {
@@ -353,12 +353,12 @@ impl<'a> Body<'a> {
         ensures typed { IfOk result (λ f. (rest : tree.Choices) → choices_in self.old enclosing (part_before part.now rest) ≡ behind_choices (f.choice ∷ []) f.pointer (choices_in self.new enclosing rest)) }
         ensures refused { IfErr result (λ f. (rest : tree.Choices) → Refuses (choices_in self.old enclosing (part_before part.now rest)) f) }
         ensures tables { OnOk result (tables_of self.new.scopes ≡ tables_of self.old.scopes) }
-        ensures bodies { self.new.scopes.bodies ≡ self.old.scopes.bodies }
+        ensures bodies { (scope_of self.new.scopes).bodies ≡ (scope_of self.old.scopes).bodies }
         ensures returned { self.new.result ≡ self.old.result }
     {
         match part {
             SwitchPart::Case(label) => {
-                let value = self.scopes.constant_tree(label)?;
+                let value = constant_tree(&self.scopes, label)?;
                 let word = word_at(label, &value)?;
                 Ok(LabelOrBody {
                     choice: Choice::Case(word),
@@ -382,10 +382,10 @@ impl<'a> Body<'a> {
         ensures typed { IfOk result (λ t. statement_in self.old enclosings.Loop (tree.While (expression_of test.now) (statement_of body.now.kind body.now.at) at) ≡ just (stmt_of t) (locals_of self.new)) }
         ensures refused { IfErr result (Refuses (statement_in self.old enclosings.Loop (tree.While (expression_of test.now) (statement_of body.now.kind body.now.at) at))) }
         ensures tables { OnOk result (tables_of self.new.scopes ≡ tables_of self.old.scopes) }
-        ensures bodies { self.new.scopes.bodies ≡ self.old.scopes.bodies }
+        ensures bodies { (scope_of self.new.scopes).bodies ≡ (scope_of self.old.scopes).bodies }
         ensures returned { self.new.result ≡ self.old.result }
     {
-        let test = self.scopes.expression(test)?;
+        let test = expression(&self.scopes, test)?;
         let body = self.inner(body, Enclosing::Loop)?;
         self.while_over(test, body, at)
     }
@@ -410,7 +410,7 @@ impl<'a> Body<'a> {
         ensures typed { IfOk result (λ t. statement_in self.old enclosings.Loop (tree.DoWhile (statement_of body.now.kind body.now.at) (expression_of test.now) at) ≡ just (stmt_of t) (locals_of self.new)) }
         ensures refused { IfErr result (Refuses (statement_in self.old enclosings.Loop (tree.DoWhile (statement_of body.now.kind body.now.at) (expression_of test.now) at))) }
         ensures tables { OnOk result (tables_of self.new.scopes ≡ tables_of self.old.scopes) }
-        ensures bodies { self.new.scopes.bodies ≡ self.old.scopes.bodies }
+        ensures bodies { (scope_of self.new.scopes).bodies ≡ (scope_of self.old.scopes).bodies }
         ensures returned { self.new.result ≡ self.old.result }
     {
         let body = self.inner(body, Enclosing::Loop)?;
@@ -422,7 +422,7 @@ impl<'a> Body<'a> {
         ensures typed { IfOk result (λ t. test_in self.now at (stmt_of body.value) (expression_of test.now) ≡ just (stmt_of t) (locals_of self.now)) }
         ensures refused { IfErr result (Refuses (test_in self.now at (stmt_of body.value) (expression_of test.now))) }
     {
-        let test = self.scopes.expression(test)?;
+        let test = expression(&self.scopes, test)?;
         not_void(&test, at)?;
         Ok(TypedStmt::Do { body, test })
     }
@@ -440,7 +440,7 @@ impl<'a> Body<'a> {
         ensures typed { IfOk result (λ t. statement_in self.old enclosings.Loop (tree.For (optional_of first.now) (optional_of test.now) (optional_of third.now) (statement_of body.now.kind body.now.at) at) ≡ just (stmt_of t) (locals_of self.new)) }
         ensures refused { IfErr result (Refuses (statement_in self.old enclosings.Loop (tree.For (optional_of first.now) (optional_of test.now) (optional_of third.now) (statement_of body.now.kind body.now.at) at))) }
         ensures tables { OnOk result (tables_of self.new.scopes ≡ tables_of self.old.scopes) }
-        ensures bodies { self.new.scopes.bodies ≡ self.old.scopes.bodies }
+        ensures bodies { (scope_of self.new.scopes).bodies ≡ (scope_of self.old.scopes).bodies }
         ensures returned { self.new.result ≡ self.old.result }
     {
         let first = self.optional(first)?;
@@ -472,7 +472,7 @@ impl<'a> Body<'a> {
     {
         match e {
             None => Ok(None),
-            Some(e) => Ok(Some(self.scopes.expression(e)?)),
+            Some(e) => Ok(Some(expression(&self.scopes, e)?)),
         }
     }
 }
