@@ -16,13 +16,13 @@ use Rattle.c_rules.specs.Outcome.{Outcome, Is, Broken}
 use Rattle.c_rules.specs.Statements.{LocalTree, Labelled, Typed, just, typed_choices}
 use Rattle.c_scopes.specs.Tables.{scope_of, tables_of}
 use Rattle.c_bodies.specs.BodyView.{locals_of}
-use Rattle.c_scopes.proofs.KeptScopes.{scope_kept}
+use Rattle.c_scopes.proofs.ScopesKept.{scope_kept}
 
 -- what was typed of a list, what is left of it, and what stays as it was
 pub record ChoicesSoFar (first now : Body) (c : Enclosing) (all rest : List SwitchPart) (so_far : List Choice) (pointer : Bool) : Type 0 where
   pub typed : choices_in first c (parts_of all) ≡ behind_choices so_far pointer (choices_in now c (parts_of rest))
   pub tables : tables_of now.scopes ≡ tables_of first.scopes
-  pub bodies : now.scopes.bodies ≡ first.scopes.bodies
+  pub bodies : (scope_of now.scopes).bodies ≡ (scope_of first.scopes).bodies
   pub returned : now.result ≡ first.result
 
 -- none at first
@@ -53,7 +53,7 @@ one_more there p x q (Broken rule at) = refl
 pub from_here : (list : List SwitchPart) (i : ℕ) (s : SwitchPart) → s ≡ get_or list i s → i < length list → drop i list ≡ s ∷ drop (i + 1) list
 from_here list i s is within = drop_more list i s within ∙ ap (λ x. x ∷ drop (i + 1) list) (sym is)
 
-module _ (b n : Body) (tables : tables_of n.scopes ≡ tables_of b.scopes) (bodies : n.scopes.bodies ≡ b.scopes.bodies) (returned : n.result ≡ b.result) where
+module _ (b n : Body) (tables : tables_of n.scopes ≡ tables_of b.scopes) (bodies : (scope_of n.scopes).bodies ≡ (scope_of b.scopes).bodies) (returned : n.result ≡ b.result) where
   pub choices_kept : (c : Enclosing) (ls : List LocalTree) (cs : tree.Choices) → typed_choices n.result (scope_of n.scopes) c ls cs ≡ typed_choices b.result (scope_of b.scopes) c ls cs
   choices_kept c ls cs = λ i. typed_choices (returned i) (scope_kept n.scopes b.scopes tables bodies i) c ls cs
 

@@ -34,14 +34,14 @@ use Rattle.c_rules.specs.Statements.{LocalTree, Opened, Typed, just, before, dec
 use Rattle.c_scopes.specs.Tables.{scope_of, tables_of}
 use Rattle.c_rules.specs.Typing.{typing}
 use Rattle.c_bodies.specs.BodyView.{locals_of, opened_of, typed_in}
-use Rattle.c_scopes.proofs.KeptScopes.{scope_kept}
+use Rattle.c_scopes.proofs.ScopesKept.{scope_kept}
 use Rattle.c_bodies.proofs.SyntaxRows.{block_of}
 
 -- what was typed of a list, what is left of it, and what stays as it was
 pub record StatementsSoFar (first now : Body) (c : Enclosing) (all rest : List Stmt) (there so_far : List TypedStmt) : Type 0 where
   pub typed : behind there (statements_in first c (body_of all)) ≡ behind so_far (statements_in now c (body_of rest))
   pub tables : tables_of now.scopes ≡ tables_of first.scopes
-  pub bodies : now.scopes.bodies ≡ first.scopes.bodies
+  pub bodies : (scope_of now.scopes).bodies ≡ (scope_of first.scopes).bodies
   pub returned : now.result ≡ first.result
 
 before_more : (there : List TypedStmt) (t : TypedStmt) (rest : Stmts) → before (map stmt_of there) (both (stmt_of t) rest) ≡ before (map stmt_of (there ++ t ∷ [])) rest
@@ -94,7 +94,7 @@ pub arms_rest : (n m : Body) (c : Enclosing) (s : Statement) (at : ℕ) (x : Exp
     → tested_in m at x (If x p q) ≡ else_in n c at x p s
 arms_rest n m c s at x p q h = sym (ap (λ o. o >>= λ q. breaks (is_void (kind_of x)) Mismatch at (just (If x p q.tree) q.locals)) h)
 
-module _ (b n : Body) (tables : tables_of n.scopes ≡ tables_of b.scopes) (bodies : n.scopes.bodies ≡ b.scopes.bodies) where
+module _ (b n : Body) (tables : tables_of n.scopes ≡ tables_of b.scopes) (bodies : (scope_of n.scopes).bodies ≡ (scope_of b.scopes).bodies) where
   -- the test of a do behind its body
   pub do_rest : (c : Enclosing) (s : Statement) (e : Expression) (at : ℕ) (p : typed.Stmt) → statement_in b around.Loop s ≡ just p (locals_of n)
       → (typing (scope_of n.scopes) e >>= λ x. breaks (is_void (kind_of x)) Mismatch at (just (Do_while p x) (locals_of n))) ≡ statement_in b c (tree.DoWhile s e at)

@@ -54,7 +54,7 @@ refused_here o n c list i s there p (refusals.Broken rule at) is within before h
     ∙ ap (behind_choices there p) (h (parts_of (drop (i + 1) list)))
 
 -- a statement among the choices
-pub body_typed : (b n : Body) → tables_of n.scopes ≡ tables_of b.scopes → n.scopes.bodies ≡ b.scopes.bodies → n.result ≡ b.result
+pub body_typed : (b n : Body) → tables_of n.scopes ≡ tables_of b.scopes → (scope_of n.scopes).bodies ≡ (scope_of b.scopes).bodies → n.result ≡ b.result
     → (c : Enclosing) (x : SwitchPart) (s : Stmt) (t : TypedStmt) → x ≡ part.Body s → statement_in b c (statement_of s.kind s.at) ≡ just (stmt_of t) (locals_of n)
     → (rest : tree.Choices) → choices_in b c (part_before x rest) ≡ behind_choices (choice.Body t ∷ []) false (choices_in n c rest)
 body_typed b n tables bodies returned c x s t is h rest =

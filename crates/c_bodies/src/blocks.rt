@@ -11,7 +11,7 @@ ghost use Rattle.c_bodies.specs.BodyView.{opened_of};
 
 use c_objects::{Initialiser, plain, redeclared, started};
 use c_rules::{Declared, Local, ObjectType, Refusal, Rule, mismatch};
-use c_scopes::Scopes;
+use c_scopes::{Scopes, declarator, declare_object, initialiser};
 use c_syntax::{Decl, Item};
 use c_tree::{Base, ScalarType, TypedStmt, VarRef};
 use word_base::Text;
@@ -55,7 +55,7 @@ impl<'a> Body<'a> {
     ) -> Result<Opening, Refusal>
         ensures follows { Follows (opened_of self.new) (rules.block_item (opened_of self.old opening) base (item_of item.now)) result }
         ensures around { OnOk result (around_of self.new.scopes ≡ around_of self.old.scopes) }
-        ensures bodies { self.new.scopes.bodies ≡ self.old.scopes.bodies }
+        ensures bodies { (scope_of self.new.scopes).bodies ≡ (scope_of self.old.scopes).bodies }
         ensures returned { self.new.result ≡ self.old.result }
     {
         // No source that the parser gives has more objects than can be counted.
@@ -64,10 +64,10 @@ impl<'a> Body<'a> {
         };
         let reference = VarRef::Local(number);
         let name = item.name.as_str();
-        let declared = self.scopes.declarator(base, item)?;
+        let declared = declarator(&mut self.scopes, base, item)?;
         let is_taken = self.scopes.is_taken(name);
-        self.scopes.declare_object(name, reference, &declared)?;
-        let initialiser = self.scopes.initialiser(&item.kind, &item.init)?;
+        declare_object(&mut self.scopes, name, reference, &declared)?;
+        let initialiser = initialiser(&self.scopes, &item.kind, &item.init)?;
         if is_taken {
             return Err(redeclared(item.at));
         }
@@ -116,7 +116,7 @@ impl<'a> Body<'a> {
     ) -> Result<Opening, Refusal>
         ensures follows { Follows (opened_of self.new) (rules.block_items (opened_of self.old opening) base (map item_of list.now)) result }
         ensures around { OnOk result (around_of self.new.scopes ≡ around_of self.old.scopes) }
-        ensures bodies { self.new.scopes.bodies ≡ self.old.scopes.bodies }
+        ensures bodies { (scope_of self.new.scopes).bodies ≡ (scope_of self.old.scopes).bodies }
         ensures returned { self.new.result ≡ self.old.result }
     {
         for item in list {
@@ -133,7 +133,7 @@ impl<'a> Body<'a> {
     ) -> Result<Opening, Refusal>
         ensures follows { Follows (opened_of self.new) (rules.declarations (opened_of self.old opening) (map declaration_of list.now)) result }
         ensures around { OnOk result (around_of self.new.scopes ≡ around_of self.old.scopes) }
-        ensures bodies { self.new.scopes.bodies ≡ self.old.scopes.bodies }
+        ensures bodies { (scope_of self.new.scopes).bodies ≡ (scope_of self.old.scopes).bodies }
         ensures returned { self.new.result ≡ self.old.result }
     {
         for declaration in list {

@@ -22,7 +22,7 @@ use crate::blocks::{Body, Opening};
 use crate::labels::{Labelled, switched};
 use c_operands::{Operand, given};
 use c_rules::{Refusal, Rule, mismatch};
-use c_scopes::word_at;
+use c_scopes::{constant_tree, expression, operand, word_at};
 use c_syntax::{Decl, Expr, Stmt, StmtKind, SwitchPart};
 use c_tree::{Choice, Enclosing, ScalarType, TypedExpr, TypedStmt, points};
 use std::alloc::Global;
@@ -53,13 +53,13 @@ impl<'a> Body<'a> {
     ) -> Result<TypedStmt, Refusal>
         ensures follows { Follows (λ t. typed_in self.new (stmt_of t)) (statement_in self.old enclosing (statement_of s.now.kind s.now.at)) result }
         ensures tables { OnOk result (tables_of self.new.scopes ≡ tables_of self.old.scopes) }
-        ensures bodies { self.new.scopes.bodies ≡ self.old.scopes.bodies }
+        ensures bodies { (scope_of self.new.scopes).bodies ≡ (scope_of self.old.scopes).bodies }
         ensures returned { self.new.result ≡ self.old.result }
     {
         let at = s.at;
         match &s.kind {
             StmtKind::Empty => Ok(empty(self.scopes.alloc)),
-            StmtKind::Evaluate(e) => Ok(TypedStmt::Expr(self.scopes.expression(e)?)),
+            StmtKind::Evaluate(e) => Ok(TypedStmt::Expr(expression(&self.scopes, e)?)),
             StmtKind::Block {
                 declarations,
                 statements,
@@ -91,7 +91,7 @@ impl<'a> Body<'a> {
     fn inner(&mut self, s: &'a Stmt, enclosing: Enclosing) -> Result<Box<TypedStmt>, Refusal>
         ensures follows { Follows (λ t. typed_in self.new (stmt_of t.value)) (statement_in self.old enclosing (statement_of s.now.kind s.now.at)) result }
         ensures tables { OnOk result (tables_of self.new.scopes ≡ tables_of self.old.scopes) }
-        ensures bodies { self.new.scopes.bodies ≡ self.old.scopes.bodies }
+        ensures bodies { (scope_of self.new.scopes).bodies ≡ (scope_of self.old.scopes).bodies }
         ensures returned { self.new.result ≡ self.old.result }
     {
         let typed = self.statement(s, enclosing)?;
@@ -109,7 +109,7 @@ impl<'a> Body<'a> {
     ) -> Result<TypedStmt, Refusal>
         ensures follows { Follows (λ t. typed_in self.new (stmt_of t)) (statement_in self.old enclosing (tree.Block (map declaration_of declarations.now) (body_of statements.now) at)) result }
         ensures tables { OnOk result (tables_of self.new.scopes ≡ tables_of self.old.scopes) }
-        ensures bodies { self.new.scopes.bodies ≡ self.old.scopes.bodies }
+        ensures bodies { (scope_of self.new.scopes).bodies ≡ (scope_of self.old.scopes).bodies }
         ensures returned { self.new.result ≡ self.old.result }
     {
         self.scopes.open()?;
@@ -126,7 +126,7 @@ impl<'a> Body<'a> {
     ) -> Result<TypedStmt, Refusal>
         ensures follows { Follows (λ t. typed_in self.new (stmt_of t)) (rules.typed_body self.old.result (scope_of self.old.scopes) (locals_of self.old) (map declaration_of declarations.now) (body_of statements.now)) result }
         ensures around { OnOk result (around_of self.new.scopes ≡ around_of self.old.scopes) }
-        ensures bodies { self.new.scopes.bodies ≡ self.old.scopes.bodies }
+        ensures bodies { (scope_of self.new.scopes).bodies ≡ (scope_of self.old.scopes).bodies }
     {
         self.block_here(declarations, statements, Enclosing::Body)
     }
@@ -141,7 +141,7 @@ impl<'a> Body<'a> {
     ) -> Result<TypedStmt, Refusal>
         ensures follows { Follows (λ t. typed_in self.new (stmt_of t)) (block_in self.old enclosing (map declaration_of declarations.now) (body_of statements.now)) result }
         ensures around { OnOk result (around_of self.new.scopes ≡ around_of self.old.scopes) }
-        ensures bodies { self.new.scopes.bodies ≡ self.old.scopes.bodies }
+        ensures bodies { (scope_of self.new.scopes).bodies ≡ (scope_of self.old.scopes).bodies }
         ensures returned { self.new.result ≡ self.old.result }
     {
         let alloc = self.scopes.alloc;
@@ -168,7 +168,7 @@ impl<'a> Body<'a> {
         ensures typed { IfOk result (λ all. behind into.items (statements_in self.old enclosing (body_of list.now)) ≡ just (statement_list all.items) (locals_of self.new)) }
         ensures refused { IfErr result (Refuses (statements_in self.old enclosing (body_of list.now))) }
         ensures tables { OnOk result (tables_of self.new.scopes ≡ tables_of self.old.scopes) }
-        ensures bodies { self.new.scopes.bodies ≡ self.old.scopes.bodies }
+        ensures bodies { (scope_of self.new.scopes).bodies ≡ (scope_of self.old.scopes).bodies }
         ensures returned { self.new.result ≡ self.old.result }
     {
         for s in list {
@@ -191,7 +191,7 @@ impl<'a> Body<'a> {
     fn value_return(&self, value: &Expr, at: u32) -> Result<TypedStmt, Refusal>
         ensures { Follows (λ t. typed_in self.now (stmt_of t)) (statement_in self.now enclosings.Body (tree.Return (Some (expression_of value.now)) at)) result }
     {
-        let value = self.scopes.operand(value)?;
+        let value = operand(&self.scopes, value)?;
         let value = returned(self.scopes.alloc, self.result, at, value)?;
         Ok(TypedStmt::Return(Some(value)))
     }
@@ -207,10 +207,10 @@ impl<'a> Body<'a> {
     ) -> Result<TypedStmt, Refusal>
         ensures follows { Follows (λ t. typed_in self.new (stmt_of t)) (statement_in self.old enclosing (tree.If (expression_of test.now) (statement_of yes.now.kind yes.now.at) at)) result }
         ensures tables { OnOk result (tables_of self.new.scopes ≡ tables_of self.old.scopes) }
-        ensures bodies { self.new.scopes.bodies ≡ self.old.scopes.bodies }
+        ensures bodies { (scope_of self.new.scopes).bodies ≡ (scope_of self.old.scopes).bodies }
         ensures returned { self.new.result ≡ self.old.result }
     {
-        let test = self.scopes.expression(test)?;
+        let test = expression(&self.scopes, test)?;
         let yes = self.inner(yes, enclosing)?;
         self.one_armed(test, yes, at)
     }
@@ -239,10 +239,10 @@ impl<'a> Body<'a> {
     ) -> Result<TypedStmt, Refusal>
         ensures follows { Follows (λ t. typed_in self.new (stmt_of t)) (statement_in self.old enclosing (tree.IfElse (expression_of test.now) (statement_of yes.now.kind yes.now.at) (statement_of no.now.kind no.now.at) at)) result }
         ensures tables { OnOk result (tables_of self.new.scopes ≡ tables_of self.old.scopes) }
-        ensures bodies { self.new.scopes.bodies ≡ self.old.scopes.bodies }
+        ensures bodies { (scope_of self.new.scopes).bodies ≡ (scope_of self.old.scopes).bodies }
         ensures returned { self.new.result ≡ self.old.result }
     {
-        let test = self.scopes.expression(test)?;
+        let test = expression(&self.scopes, test)?;
         let yes = self.inner(yes, enclosing)?;
         self.otherwise(test, yes, no, enclosing, at)
     }
@@ -259,7 +259,7 @@ impl<'a> Body<'a> {
     ) -> Result<TypedStmt, Refusal>
         ensures follows { Follows (λ t. typed_in self.new (stmt_of t)) (else_in self.old enclosing at (expr_of test) (stmt_of yes.value) (statement_of no.now.kind no.now.at)) result }
         ensures tables { OnOk result (tables_of self.new.scopes ≡ tables_of self.old.scopes) }
-        ensures bodies { self.new.scopes.bodies ≡ self.old.scopes.bodies }
+        ensures bodies { (scope_of self.new.scopes).bodies ≡ (scope_of self.old.scopes).bodies }
         ensures returned { self.new.result ≡ self.old.result }
     {
         let no = self.inner(no, enclosing)?;
@@ -296,10 +296,10 @@ impl<'a> Body<'a> {
     ) -> Result<TypedStmt, Refusal>
         ensures follows { Follows (λ t. typed_in self.new (stmt_of t)) (statement_in self.old enclosing (tree.Switch (expression_of value.now) (parts_of parts.now) place at)) result }
         ensures tables { OnOk result (tables_of self.new.scopes ≡ tables_of self.old.scopes) }
-        ensures bodies { self.new.scopes.bodies ≡ self.old.scopes.bodies }
+        ensures bodies { (scope_of self.new.scopes).bodies ≡ (scope_of self.old.scopes).bodies }
         ensures returned { self.new.result ≡ self.old.result }
     {
-        let value = self.scopes.expression(value)?;
+        let value = expression(&self.scopes, value)?;
         let labelled = self.choices(parts, enclosing.in_switch())?;
         switched(self.scopes.alloc, place, at, value, labelled)
     }
@@ -313,7 +313,7 @@ impl<'a> Body<'a> {
     ) -> Result<Labelled, Refusal>
         ensures follows { Follows (λ l. typed_in self.new (labelled_of l)) (choices_in self.old enclosing (parts_of parts.now)) result }
         ensures tables { OnOk result (tables_of self.new.scopes ≡ tables_of self.old.scopes) }
-        ensures bodies { self.new.scopes.bodies ≡ self.old.scopes.bodies }
+        ensures bodies { (scope_of self.new.scopes).bodies ≡ (scope_of self.old.scopes).bodies }
         ensures returned { self.new.result ≡ self.old.result }
     {
         let mut labelled = Labelled {
@@ -338,12 +338,12 @@ impl<'a> Body<'a> {
         ensures typed { IfOk result (λ f. (rest : tree.Choices) → choices_in self.old enclosing (part_before part.now rest) ≡ behind_choices (f.choice ∷ []) f.pointer (choices_in self.new enclosing rest)) }
         ensures refused { IfErr result (λ f. (rest : tree.Choices) → Refuses (choices_in self.old enclosing (part_before part.now rest)) f) }
         ensures tables { OnOk result (tables_of self.new.scopes ≡ tables_of self.old.scopes) }
-        ensures bodies { self.new.scopes.bodies ≡ self.old.scopes.bodies }
+        ensures bodies { (scope_of self.new.scopes).bodies ≡ (scope_of self.old.scopes).bodies }
         ensures returned { self.new.result ≡ self.old.result }
     {
         match part {
             SwitchPart::Case(label) => {
-                let value = self.scopes.constant_tree(label)?;
+                let value = constant_tree(&self.scopes, label)?;
                 let word = word_at(label, &value)?;
                 Ok(LabelOrBody {
                     choice: Choice::Case(word),
@@ -366,10 +366,10 @@ impl<'a> Body<'a> {
     fn while_loop(&mut self, test: &Expr, body: &'a Stmt, at: u32) -> Result<TypedStmt, Refusal>
         ensures follows { Follows (λ t. typed_in self.new (stmt_of t)) (statement_in self.old enclosings.Loop (tree.While (expression_of test.now) (statement_of body.now.kind body.now.at) at)) result }
         ensures tables { OnOk result (tables_of self.new.scopes ≡ tables_of self.old.scopes) }
-        ensures bodies { self.new.scopes.bodies ≡ self.old.scopes.bodies }
+        ensures bodies { (scope_of self.new.scopes).bodies ≡ (scope_of self.old.scopes).bodies }
         ensures returned { self.new.result ≡ self.old.result }
     {
-        let test = self.scopes.expression(test)?;
+        let test = expression(&self.scopes, test)?;
         let body = self.inner(body, Enclosing::Loop)?;
         self.while_over(test, body, at)
     }
@@ -392,7 +392,7 @@ impl<'a> Body<'a> {
     fn do_loop(&mut self, body: &'a Stmt, test: &Expr, at: u32) -> Result<TypedStmt, Refusal>
         ensures follows { Follows (λ t. typed_in self.new (stmt_of t)) (statement_in self.old enclosings.Loop (tree.DoWhile (statement_of body.now.kind body.now.at) (expression_of test.now) at)) result }
         ensures tables { OnOk result (tables_of self.new.scopes ≡ tables_of self.old.scopes) }
-        ensures bodies { self.new.scopes.bodies ≡ self.old.scopes.bodies }
+        ensures bodies { (scope_of self.new.scopes).bodies ≡ (scope_of self.old.scopes).bodies }
         ensures returned { self.new.result ≡ self.old.result }
     {
         let body = self.inner(body, Enclosing::Loop)?;
@@ -403,7 +403,7 @@ impl<'a> Body<'a> {
     fn do_test(&self, body: Box<TypedStmt>, test: &Expr, at: u32) -> Result<TypedStmt, Refusal>
         ensures { Follows (λ t. typed_in self.now (stmt_of t)) (test_in self.now at (stmt_of body.value) (expression_of test.now)) result }
     {
-        let test = self.scopes.expression(test)?;
+        let test = expression(&self.scopes, test)?;
         not_void(&test, at)?;
         Ok(TypedStmt::Do { body, test })
     }
@@ -420,7 +420,7 @@ impl<'a> Body<'a> {
     ) -> Result<TypedStmt, Refusal>
         ensures follows { Follows (λ t. typed_in self.new (stmt_of t)) (statement_in self.old enclosings.Loop (tree.For (optional_of first.now) (optional_of test.now) (optional_of third.now) (statement_of body.now.kind body.now.at) at)) result }
         ensures tables { OnOk result (tables_of self.new.scopes ≡ tables_of self.old.scopes) }
-        ensures bodies { self.new.scopes.bodies ≡ self.old.scopes.bodies }
+        ensures bodies { (scope_of self.new.scopes).bodies ≡ (scope_of self.old.scopes).bodies }
         ensures returned { self.new.result ≡ self.old.result }
     {
         let first = self.optional(first)?;
@@ -450,7 +450,7 @@ impl<'a> Body<'a> {
     {
         match e {
             None => Ok(None),
-            Some(e) => Ok(Some(self.scopes.expression(e)?)),
+            Some(e) => Ok(Some(expression(&self.scopes, e)?)),
         }
     }
 }

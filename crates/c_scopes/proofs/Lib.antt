@@ -4,6 +4,5 @@ pub mod OperandsSoFar
 pub mod CallForms
 pub mod SoFar
 pub mod ScopesKept
-pub mod KeptScopes
 pub mod ParameterLemmas
 pub mod FileScopeLemmas

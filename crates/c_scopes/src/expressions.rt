@@ -1,20 +1,24 @@
-//! The typed tree of an expression: ISO 9899:1990 6.3.
-ghost use Rattle.std.specs.Prelude.{◌≡◌, IfOk, Some};
+//! The typed tree of an expression: ISO 9899:1990 6.3, and of one that has to be constant: 6.4.
+ghost use Rattle.c_rules.specs.Answers.{Follows};
+ghost use Rattle.std.specs.Prelude.{◌≡◌, IfOk, Some, map};
 ghost use Rattle.c_tree.specs.View.{expr_of};
 ghost use Rattle.c_tree.specs.TypedTree.{Node, Const};
 ghost use Rattle.c_syntax.specs.SyntaxTree as tree;
-ghost use Rattle.c_syntax.specs.SyntaxView.{expression_of, type_of};
+ghost use Rattle.c_syntax.specs.SyntaxView.{expression_of, trees_of, type_of};
 ghost use Rattle.c_rules.specs.declared.fault.Rule.TheVariants as rule;
 ghost use Rattle.c_rules.specs.Outcome.{Is, breaks};
-ghost use Rattle.c_rules.specs.Answers.{Follows};
 ghost use Rattle.c_rules.specs.Kinds.{int, is_void, unsigned};
+ghost use Rattle.c_operands.specs.OperandView.{operand_of};
+ghost use Rattle.c_scopes.specs.ArgumentView.{arguments_of};
 ghost use Rattle.c_scopes.specs.Tables.{scope_of};
 ghost use Rattle.c_rules.specs.Typing as rules;
 
-use crate::scopes::Scopes;
+use crate::call_arguments::{Arguments, call_of, constant_call_of, word_at};
+use crate::names::named;
+use crate::scopes::{Scopes, is_in, is_out};
 use c_objects::{is_null, type_named};
 use c_operands::{
-    INT, Operand, UNSIGNED, address, assigned, assigned_by, behind, binary, both_true, cast,
+    INT, Operand, UNSIGNED, address, assigned, assigned_by, behind, both_true, class_of,
     either_true, indexed, loaded, negated, not_lvalue, number, picked, sized, stepped_after,
     stepped_before, unary,
 };
@@ -23,173 +27,264 @@ use c_syntax::{BinaryOp, Expr, ExprKind, PrefixOp, TypeName, UnaryOp};
 use c_tree::{ExprForm, ScalarType, TypedExpr};
 use std::alloc::Global;
 
-impl<'a> Scopes<'a> {
-    /// The typed tree of an expression.
-    #[cycle(expressions)]
-    pub fn expression(&self, e: &Expr) -> Result<TypedExpr, Refusal>
-        ensures { Follows expr_of (rules.typing (scope_of self.now) (expression_of e.now)) result }
-    {
-        let at = e.at;
-        match &e.kind {
-            ExprKind::Name(name) => self.named(name.as_str(), at),
-            ExprKind::Number {
-                value,
-                unsigned_mark,
-                decimal,
-            } => number(*value, *unsigned_mark, *decimal, at),
-            ExprKind::Char(value) => Ok(character(*value, at)),
-            ExprKind::Index { operand, index } => self.index(at, operand, index),
-            ExprKind::Call { name, arguments } => self.call(name.as_str(), at, arguments),
-            ExprKind::StepAfter { up, operand } => self.step_after(*up, at, operand),
-            ExprKind::StepBefore { up, operand } => self.step_before(*up, at, operand),
-            ExprKind::Prefix { op, operand } => self.prefix(*op, at, operand),
-            ExprKind::SizeofValue(operand) => self.size(at, operand),
-            ExprKind::SizeofType(to) => size_of_type(type_named(to)?, to.specs.at, at),
-            ExprKind::Cast { to, operand } => self.cast(to, at, operand),
-            ExprKind::Binary { op, left, right } => self.binary(*op, at, left, right),
-            ExprKind::And { left, right } => self.both(at, left, right),
-            ExprKind::Or { left, right } => self.either(at, left, right),
-            ExprKind::Conditional { test, yes, no } => self.conditional(at, test, yes, no),
-            ExprKind::Assign { left, right } => self.assignment(at, left, right),
-            ExprKind::AssignOp { op, left, right } => self.assignment_by(*op, at, left, right),
-            ExprKind::Comma { left, right } => self.comma(at, left, right),
+/// The typed tree of an expression.
+#[cycle(expressions)]
+pub fn expression(scopes: &Scopes<'_>, e: &Expr) -> Result<TypedExpr, Refusal>
+    ensures { Follows expr_of (rules.typing (scope_of scopes.now) (expression_of e.now)) result }
+{
+    let at = e.at;
+    match &e.kind {
+        ExprKind::Name(name) => named(scopes, name.as_str(), at),
+        ExprKind::Number {
+            value,
+            unsigned_mark,
+            decimal,
+        } => number(*value, *unsigned_mark, *decimal, at),
+        ExprKind::Char(value) => Ok(character(*value, at)),
+        ExprKind::Index { operand, index } => subscript(scopes, at, operand, index),
+        ExprKind::Call { name, arguments } => call(scopes, name.as_str(), at, arguments),
+        ExprKind::StepAfter { up, operand } => step_after(scopes, *up, at, operand),
+        ExprKind::StepBefore { up, operand } => step_before(scopes, *up, at, operand),
+        ExprKind::Prefix { op, operand } => prefix(scopes, *op, at, operand),
+        ExprKind::SizeofValue(operand) => size(scopes, at, operand),
+        ExprKind::SizeofType(to) => size_of_type(type_named(to)?, to.specs.at, at),
+        ExprKind::Cast { to, operand } => cast(scopes, to, at, operand),
+        ExprKind::Binary { op, left, right } => binary(scopes, *op, at, left, right),
+        ExprKind::And { left, right } => both(scopes, at, left, right),
+        ExprKind::Or { left, right } => either(scopes, at, left, right),
+        ExprKind::Conditional { test, yes, no } => conditional(scopes, at, test, yes, no),
+        ExprKind::Assign { left, right } => assignment(scopes, at, left, right),
+        ExprKind::AssignOp { op, left, right } => assignment_by(scopes, *op, at, left, right),
+        ExprKind::Comma { left, right } => comma(scopes, at, left, right),
+    }
+}
+
+/// A value, and whether its text is that of a null pointer.
+#[cycle(expressions)]
+pub fn operand(scopes: &Scopes<'_>, e: &Expr) -> Result<Operand, Refusal>
+    ensures follows { Follows (λ x. expr_of x.value) (rules.typing (scope_of scopes.now) (expression_of e.now)) result }
+    ensures null { IfOk result (λ x. x.null ≡ rules.is_null (expression_of e.now)) }
+{
+    let value = expression(scopes, e)?;
+    let null = is_null(e);
+    Ok(Operand { value, null })
+}
+
+#[cycle(expressions)]
+fn subscript(
+    scopes: &Scopes<'_>,
+    at: u32,
+    operand: &Expr,
+    index: &Expr,
+) -> Result<TypedExpr, Refusal>
+    ensures { Follows expr_of (rules.typing_form (scope_of scopes.now) (tree.Index (expression_of operand.now) (expression_of index.now)) at) result }
+{
+    let left = expression(scopes, operand)?;
+    let right = expression(scopes, index)?;
+    indexed(scopes.alloc, at, left, right)
+}
+
+#[cycle(expressions)]
+fn step_after(scopes: &Scopes<'_>, up: bool, at: u32, operand: &Expr) -> Result<TypedExpr, Refusal>
+    ensures { Follows expr_of (rules.typing_form (scope_of scopes.now) (tree.StepAfter up (expression_of operand.now)) at) result }
+{
+    let stepped = stepped_after(up, at, expression(scopes, operand)?)?;
+    of_object(is_address(operand), at, stepped)
+}
+
+#[cycle(expressions)]
+fn step_before(scopes: &Scopes<'_>, up: bool, at: u32, operand: &Expr) -> Result<TypedExpr, Refusal>
+    ensures { Follows expr_of (rules.typing_form (scope_of scopes.now) (tree.StepBefore up (expression_of operand.now)) at) result }
+{
+    let stepped = stepped_before(up, at, expression(scopes, operand)?)?;
+    of_object(is_address(operand), at, stepped)
+}
+
+#[cycle(expressions)]
+fn prefix(scopes: &Scopes<'_>, op: PrefixOp, at: u32, operand: &Expr) -> Result<TypedExpr, Refusal>
+    ensures { Follows expr_of (rules.typing_form (scope_of scopes.now) (tree.Prefix op (expression_of operand.now)) at) result }
+{
+    let value = expression(scopes, operand)?;
+    let is_array = scopes.array_length(operand).is_some();
+    let typed = prefixed(scopes.alloc, op, is_array, at, value)?;
+    of_object(takes_address(op) && is_address(operand), at, typed)
+}
+
+#[cycle(expressions)]
+fn size(scopes: &Scopes<'_>, at: u32, operand: &Expr) -> Result<TypedExpr, Refusal>
+    ensures { Follows expr_of (rules.typing_form (scope_of scopes.now) (tree.SizeofValue (expression_of operand.now)) at) result }
+{
+    let value = expression(scopes, operand)?;
+    sized(scopes.array_length(operand), at, &value)
+}
+
+#[cycle(expressions)]
+fn cast(scopes: &Scopes<'_>, to: &TypeName, at: u32, value: &Expr) -> Result<TypedExpr, Refusal>
+    ensures { Follows expr_of (rules.typing_form (scope_of scopes.now) (tree.Cast (type_of to.now) (expression_of value.now)) at) result }
+{
+    let kind = type_named(to)?;
+    let value = operand(scopes, value)?;
+    c_operands::cast(scopes.alloc, kind, at, value)
+}
+
+#[cycle(expressions)]
+fn binary(
+    scopes: &Scopes<'_>,
+    op: BinaryOp,
+    at: u32,
+    left: &Expr,
+    right: &Expr,
+) -> Result<TypedExpr, Refusal>
+    ensures { Follows expr_of (rules.typing_form (scope_of scopes.now) (tree.Binary op (expression_of left.now) (expression_of right.now)) at) result }
+{
+    let left = operand(scopes, left)?;
+    let right = operand(scopes, right)?;
+    c_operands::binary(scopes.alloc, op, at, left, right)
+}
+
+#[cycle(expressions)]
+fn both(scopes: &Scopes<'_>, at: u32, left: &Expr, right: &Expr) -> Result<TypedExpr, Refusal>
+    ensures { Follows expr_of (rules.typing_form (scope_of scopes.now) (tree.And (expression_of left.now) (expression_of right.now)) at) result }
+{
+    let left = expression(scopes, left)?;
+    let right = expression(scopes, right)?;
+    both_true(scopes.alloc, at, left, right)
+}
+
+#[cycle(expressions)]
+fn either(scopes: &Scopes<'_>, at: u32, left: &Expr, right: &Expr) -> Result<TypedExpr, Refusal>
+    ensures { Follows expr_of (rules.typing_form (scope_of scopes.now) (tree.Or (expression_of left.now) (expression_of right.now)) at) result }
+{
+    let left = expression(scopes, left)?;
+    let right = expression(scopes, right)?;
+    either_true(scopes.alloc, at, left, right)
+}
+
+#[cycle(expressions)]
+fn conditional(
+    scopes: &Scopes<'_>,
+    at: u32,
+    test: &Expr,
+    yes: &Expr,
+    no: &Expr,
+) -> Result<TypedExpr, Refusal>
+    ensures { Follows expr_of (rules.typing_form (scope_of scopes.now) (tree.Conditional (expression_of test.now) (expression_of yes.now) (expression_of no.now)) at) result }
+{
+    let test = expression(scopes, test)?;
+    let yes = operand(scopes, yes)?;
+    let no = operand(scopes, no)?;
+    picked(scopes.alloc, at, test, yes, no)
+}
+
+#[cycle(expressions)]
+fn assignment(scopes: &Scopes<'_>, at: u32, left: &Expr, right: &Expr) -> Result<TypedExpr, Refusal>
+    ensures { Follows expr_of (rules.typing_form (scope_of scopes.now) (tree.Assign (expression_of left.now) (expression_of right.now)) at) result }
+{
+    let to = expression(scopes, left)?;
+    let value = operand(scopes, right)?;
+    let written = assigned(scopes.alloc, at, to, value)?;
+    of_object(is_address(left), at, written)
+}
+
+#[cycle(expressions)]
+fn assignment_by(
+    scopes: &Scopes<'_>,
+    op: BinaryOp,
+    at: u32,
+    left: &Expr,
+    right: &Expr,
+) -> Result<TypedExpr, Refusal>
+    ensures { Follows expr_of (rules.typing_form (scope_of scopes.now) (tree.AssignOp op (expression_of left.now) (expression_of right.now)) at) result }
+{
+    let to = expression(scopes, left)?;
+    let value = expression(scopes, right)?;
+    let written = assigned_by(scopes.alloc, op, at, to, value)?;
+    of_object(is_address(left), at, written)
+}
+
+#[cycle(expressions)]
+fn comma(scopes: &Scopes<'_>, at: u32, left: &Expr, right: &Expr) -> Result<TypedExpr, Refusal>
+    ensures { Follows expr_of (rules.typing_form (scope_of scopes.now) (tree.Comma (expression_of left.now) (expression_of right.now)) at) result }
+{
+    let left = expression(scopes, left)?;
+    let right = expression(scopes, right)?;
+    behind(scopes.alloc, at, left, right)
+}
+
+// The typed tree of a call.
+#[cycle(expressions)]
+fn call(scopes: &Scopes<'_>, name: &str, at: u32, list: &[Expr]) -> Result<TypedExpr, Refusal>
+    ensures { Follows expr_of (rules.typing_form (scope_of scopes.now) (tree.Call name.now (trees_of list.now)) at) result }
+{
+    let arguments = arguments(scopes, name, list)?;
+    call_of(scopes, name, at, arguments)
+}
+
+// What stands between the parentheses of a call.
+#[cycle(expressions)]
+fn arguments(scopes: &Scopes<'_>, name: &str, list: &[Expr]) -> Result<Arguments, Refusal>
+    ensures { Follows arguments_of (rules.arguments (scope_of scopes.now) name.now (trees_of list.now)) result }
+{
+    if is_in(name) || is_out(name) {
+        return port_arguments(scopes, list);
+    }
+    Ok(Arguments::Operands(operands(scopes, list)?))
+}
+
+// The number of a port, which has to be constant, and the operands behind it.
+#[cycle(expressions)]
+fn port_arguments(scopes: &Scopes<'_>, list: &[Expr]) -> Result<Arguments, Refusal>
+    ensures { Follows arguments_of (rules.port_arguments (scope_of scopes.now) (trees_of list.now)) result }
+{
+    let Some((first, rest)) = list.split_first() else {
+        return Ok(Arguments::NoPort);
+    };
+    let value = constant_tree(scopes, first)?;
+    let port = word_at(first, &value)?;
+    Ok(Arguments::Port {
+        class: class_of(value.kind),
+        port,
+        behind: operands(scopes, rest)?,
+    })
+}
+
+// Arguments, from left to right.
+#[cycle(expressions)]
+fn operands(scopes: &Scopes<'_>, list: &[Expr]) -> Result<Vec<Operand>, Refusal>
+    ensures { Follows (λ xs. map operand_of xs.items) (rules.operands (scope_of scopes.now) (trees_of list.now)) result }
+{
+    let mut operands = Vec::new(scopes.alloc);
+    for e in list {
+        operands.push(operand(scopes, e)?)?;
+    }
+    Ok(operands)
+}
+
+/// The typed tree of an expression that has to be constant.
+#[cycle(expressions)]
+pub fn constant_tree(scopes: &Scopes<'_>, e: &Expr) -> Result<TypedExpr, Refusal>
+    ensures { Follows expr_of (rules.constant_typing (scope_of scopes.now) (expression_of e.now)) result }
+{
+    match &e.kind {
+        ExprKind::Call { name, arguments } => {
+            constant_call(scopes, name.as_str(), e.at, arguments)
         }
+        _ => expression(scopes, e),
     }
+}
 
-    /// A value, and whether its text is that of a null pointer.
-    #[cycle(expressions)]
-    pub fn operand(&self, e: &Expr) -> Result<Operand, Refusal>
-        ensures follows { Follows (λ x. expr_of x.value) (rules.typing (scope_of self.now) (expression_of e.now)) result }
-        ensures null { IfOk result (λ x. x.null ≡ rules.is_null (expression_of e.now)) }
-    {
-        let value = self.expression(e)?;
-        let null = is_null(e);
-        Ok(Operand { value, null })
-    }
-
-    #[cycle(expressions)]
-    fn index(&self, at: u32, operand: &Expr, index: &Expr) -> Result<TypedExpr, Refusal>
-        ensures { Follows expr_of (rules.typing_form (scope_of self.now) (tree.Index (expression_of operand.now) (expression_of index.now)) at) result }
-    {
-        let left = self.expression(operand)?;
-        let right = self.expression(index)?;
-        indexed(self.alloc, at, left, right)
-    }
-
-    #[cycle(expressions)]
-    fn step_after(&self, up: bool, at: u32, operand: &Expr) -> Result<TypedExpr, Refusal>
-        ensures { Follows expr_of (rules.typing_form (scope_of self.now) (tree.StepAfter up (expression_of operand.now)) at) result }
-    {
-        let stepped = stepped_after(up, at, self.expression(operand)?)?;
-        of_object(is_address(operand), at, stepped)
-    }
-
-    #[cycle(expressions)]
-    fn step_before(&self, up: bool, at: u32, operand: &Expr) -> Result<TypedExpr, Refusal>
-        ensures { Follows expr_of (rules.typing_form (scope_of self.now) (tree.StepBefore up (expression_of operand.now)) at) result }
-    {
-        let stepped = stepped_before(up, at, self.expression(operand)?)?;
-        of_object(is_address(operand), at, stepped)
-    }
-
-    #[cycle(expressions)]
-    fn prefix(&self, op: PrefixOp, at: u32, operand: &Expr) -> Result<TypedExpr, Refusal>
-        ensures { Follows expr_of (rules.typing_form (scope_of self.now) (tree.Prefix op (expression_of operand.now)) at) result }
-    {
-        let value = self.expression(operand)?;
-        let is_array = self.array_length(operand).is_some();
-        let typed = prefixed(self.alloc, op, is_array, at, value)?;
-        of_object(takes_address(op) && is_address(operand), at, typed)
-    }
-
-    #[cycle(expressions)]
-    fn size(&self, at: u32, operand: &Expr) -> Result<TypedExpr, Refusal>
-        ensures { Follows expr_of (rules.typing_form (scope_of self.now) (tree.SizeofValue (expression_of operand.now)) at) result }
-    {
-        let value = self.expression(operand)?;
-        sized(self.array_length(operand), at, &value)
-    }
-
-    #[cycle(expressions)]
-    fn cast(&self, to: &TypeName, at: u32, operand: &Expr) -> Result<TypedExpr, Refusal>
-        ensures { Follows expr_of (rules.typing_form (scope_of self.now) (tree.Cast (type_of to.now) (expression_of operand.now)) at) result }
-    {
-        let kind = type_named(to)?;
-        let operand = self.operand(operand)?;
-        cast(self.alloc, kind, at, operand)
-    }
-
-    #[cycle(expressions)]
-    fn binary(&self, op: BinaryOp, at: u32, left: &Expr, right: &Expr) -> Result<TypedExpr, Refusal>
-        ensures { Follows expr_of (rules.typing_form (scope_of self.now) (tree.Binary op (expression_of left.now) (expression_of right.now)) at) result }
-    {
-        let left = self.operand(left)?;
-        let right = self.operand(right)?;
-        binary(self.alloc, op, at, left, right)
-    }
-
-    #[cycle(expressions)]
-    fn both(&self, at: u32, left: &Expr, right: &Expr) -> Result<TypedExpr, Refusal>
-        ensures { Follows expr_of (rules.typing_form (scope_of self.now) (tree.And (expression_of left.now) (expression_of right.now)) at) result }
-    {
-        let left = self.expression(left)?;
-        let right = self.expression(right)?;
-        both_true(self.alloc, at, left, right)
-    }
-
-    #[cycle(expressions)]
-    fn either(&self, at: u32, left: &Expr, right: &Expr) -> Result<TypedExpr, Refusal>
-        ensures { Follows expr_of (rules.typing_form (scope_of self.now) (tree.Or (expression_of left.now) (expression_of right.now)) at) result }
-    {
-        let left = self.expression(left)?;
-        let right = self.expression(right)?;
-        either_true(self.alloc, at, left, right)
-    }
-
-    #[cycle(expressions)]
-    fn conditional(&self, at: u32, test: &Expr, yes: &Expr, no: &Expr) -> Result<TypedExpr, Refusal>
-        ensures { Follows expr_of (rules.typing_form (scope_of self.now) (tree.Conditional (expression_of test.now) (expression_of yes.now) (expression_of no.now)) at) result }
-    {
-        let test = self.expression(test)?;
-        let yes = self.operand(yes)?;
-        let no = self.operand(no)?;
-        picked(self.alloc, at, test, yes, no)
-    }
-
-    #[cycle(expressions)]
-    fn assignment(&self, at: u32, left: &Expr, right: &Expr) -> Result<TypedExpr, Refusal>
-        ensures { Follows expr_of (rules.typing_form (scope_of self.now) (tree.Assign (expression_of left.now) (expression_of right.now)) at) result }
-    {
-        let to = self.expression(left)?;
-        let value = self.operand(right)?;
-        let written = assigned(self.alloc, at, to, value)?;
-        of_object(is_address(left), at, written)
-    }
-
-    #[cycle(expressions)]
-    fn assignment_by(
-        &self,
-        op: BinaryOp,
-        at: u32,
-        left: &Expr,
-        right: &Expr,
-    ) -> Result<TypedExpr, Refusal>
-        ensures { Follows expr_of (rules.typing_form (scope_of self.now) (tree.AssignOp op (expression_of left.now) (expression_of right.now)) at) result }
-    {
-        let to = self.expression(left)?;
-        let value = self.expression(right)?;
-        let written = assigned_by(self.alloc, op, at, to, value)?;
-        of_object(is_address(left), at, written)
-    }
-
-    #[cycle(expressions)]
-    fn comma(&self, at: u32, left: &Expr, right: &Expr) -> Result<TypedExpr, Refusal>
-        ensures { Follows expr_of (rules.typing_form (scope_of self.now) (tree.Comma (expression_of left.now) (expression_of right.now)) at) result }
-    {
-        let left = self.expression(left)?;
-        let right = self.expression(right)?;
-        behind(self.alloc, at, left, right)
-    }
+// The typed tree of a call that has to be constant.
+#[cycle(expressions)]
+fn constant_call(
+    scopes: &Scopes<'_>,
+    name: &str,
+    at: u32,
+    list: &[Expr],
+) -> Result<TypedExpr, Refusal>
+    ensures { Follows expr_of (rules.constant_typing (scope_of scopes.now) (tree.Node (tree.Call name.now (trees_of list.now)) at)) result }
+{
+    let arguments = arguments(scopes, name, list)?;
+    constant_call_of(scopes, name, at, arguments)
 }
 
 // A character constant, which is an int.

@@ -12,4 +12,11 @@ mod names;
 mod scopes;
 
 pub use call_arguments::word_at;
+pub use declarations::{declarator, declare_object};
+pub use expressions::{constant_tree, expression, operand};
+pub use file_scope::{
+    declare_function, declare_parameters, declare_static, defined_parameters, starts,
+    static_number, without_type,
+};
+pub use initialisers::initialiser;
 pub use scopes::{Scopes, is_in, is_out};

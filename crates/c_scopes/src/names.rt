@@ -15,42 +15,40 @@ use c_rules::{FunctionType, Meaning, ObjectType, Refusal, Rule, mismatch};
 use c_tree::{ExprForm, TypedExpr, VarRef};
 use std::alloc::Global;
 
-impl<'a> Scopes<'a> {
-    /// A name. An array is a pointer to its first cell, and a function isn't named but in calls.
-    pub(crate) fn named(&self, name: &str, at: u32) -> Result<TypedExpr, Refusal>
-        ensures { Follows expr_of (rules.named (scope_of self.now) name.now at) result }
-    {
-        if is_in(name) || is_out(name) {
-            return Err(mismatch(at));
-        }
-        match self.find(name) {
-            None => Err(undeclared(at)),
-            Some(
-                Meaning::Object {
-                    reference,
-                    object_type,
-                },
-            ) => object(*reference, *object_type, at),
-            Some(Meaning::Function(_)) => Err(mismatch(at)),
-        }
+/// A name. An array is a pointer to its first cell, and a function isn't named but in calls.
+pub(crate) fn named(scopes: &Scopes<'_>, name: &str, at: u32) -> Result<TypedExpr, Refusal>
+    ensures { Follows expr_of (rules.named (scope_of scopes.now) name.now at) result }
+{
+    if is_in(name) || is_out(name) {
+        return Err(mismatch(at));
     }
+    match scopes.find(name) {
+        None => Err(undeclared(at)),
+        Some(
+            Meaning::Object {
+                reference,
+                object_type,
+            },
+        ) => object(*reference, *object_type, at),
+        Some(Meaning::Function(_)) => Err(mismatch(at)),
+    }
+}
 
-    /// A call by a name.
-    pub(crate) fn called(
-        &self,
-        name: &str,
-        at: u32,
-        operands: Vec<Operand>,
-    ) -> Result<TypedExpr, Refusal>
-        ensures { Follows expr_of (rules.called (rules.number_of (scope_of self.now) name.now) ((scope_of self.now).meaning name.now) at (map operand_of operands.items)) result }
-    {
-        match self.find(name) {
-            None => Err(undeclared(at)),
-            Some(Meaning::Object { .. }) => Err(mismatch(at)),
-            Some(Meaning::Function(function)) => {
-                let number = self.number_of(name);
-                call_of(self.alloc, function, number, at, operands)
-            }
+/// A call by a name.
+pub(crate) fn called(
+    scopes: &Scopes<'_>,
+    name: &str,
+    at: u32,
+    operands: Vec<Operand>,
+) -> Result<TypedExpr, Refusal>
+    ensures { Follows expr_of (rules.called (rules.number_of (scope_of scopes.now) name.now) ((scope_of scopes.now).meaning name.now) at (map operand_of operands.items)) result }
+{
+    match scopes.find(name) {
+        None => Err(undeclared(at)),
+        Some(Meaning::Object { .. }) => Err(mismatch(at)),
+        Some(Meaning::Function(function)) => {
+            let number = scopes.number_of(name);
+            function_call(scopes.alloc, function, number, at, operands)
         }
     }
 }
@@ -75,7 +73,7 @@ fn object(reference: VarRef, object_type: ObjectType, at: u32) -> Result<TypedEx
 }
 
 // A call of the function of this number.
-fn call_of(
+fn function_call(
     alloc: Global,
     function: &FunctionType,
     number: usize,

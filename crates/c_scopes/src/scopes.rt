@@ -40,7 +40,7 @@ impl<'a> Scopes<'a> {
     pub fn open(&mut self) -> Result<(), Refusal>
         ensures opened { OnOk result (scope_of self.new ≡ rules.open_scope (scope_of self.old)) }
         ensures around { OnOk result (around_of self.new ≡ tables_of self.old) }
-        ensures bodies { self.new.bodies ≡ self.old.bodies }
+        ensures bodies { (scope_of self.new).bodies ≡ (scope_of self.old).bodies }
         ensures memory { IfErr result (λ f. f ≡ refusals.NoMemory) }
     {
         let inner = mem::replace(&mut self.innermost, IndexMap::new(self.alloc));
@@ -51,7 +51,7 @@ impl<'a> Scopes<'a> {
     /// Closes the innermost scope, where one is around it.
     pub fn close(&mut self)
         ensures closed { tables_of self.new ≡ closed (tables_of self.old) }
-        ensures bodies { self.new.bodies ≡ self.old.bodies }
+        ensures bodies { (scope_of self.new).bodies ≡ (scope_of self.old).bodies }
     {
         if let Some(table) = self.outer.pop() {
             drop(mem::replace(&mut self.innermost, table));
@@ -62,7 +62,7 @@ impl<'a> Scopes<'a> {
     pub(crate) fn declare(&mut self, name: &'a str, meaning: Meaning) -> Result<(), Refusal>
         ensures declared { OnOk result (scope_of self.new ≡ rules.declare (scope_of self.old) name.now meaning) }
         ensures around { around_of self.new ≡ around_of self.old }
-        ensures bodies { self.new.bodies ≡ self.old.bodies }
+        ensures bodies { (scope_of self.new).bodies ≡ (scope_of self.old).bodies }
         ensures memory { IfErr result (λ f. f ≡ refusals.NoMemory) }
     {
         self.innermost.insert(name, meaning)?;

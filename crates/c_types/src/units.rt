@@ -15,7 +15,10 @@ use c_frames::TypedFunction;
 use c_objects::{redeclared, spelled, static_list};
 use c_operands::starred;
 use c_rules::{Declared, FunctionType, Local, ObjectType, Refusal, mismatch};
-use c_scopes::Scopes;
+use c_scopes::{
+    Scopes, declarator, declare_function, declare_parameters, declare_static, defined_parameters,
+    starts, static_number, without_type,
+};
 use c_syntax::{External, FunctionDef, Item, Param};
 use c_tree::{Base, Initial, ScalarType};
 use indexmap::IndexSet;
@@ -115,7 +118,7 @@ impl<'a> File<'a> {
         if item.init.is_none() {
             return false;
         }
-        match self.scopes.static_number(item.name.as_str()) {
+        match static_number(&self.scopes, item.name.as_str()) {
             Some(number) => match self.statics.get(number as usize) {
                 Some(object) => object.initial.is_some(),
                 None => false,
@@ -128,7 +131,7 @@ impl<'a> File<'a> {
     fn item(&mut self, base: Base, item: &'a Item) -> Result<(), Refusal>
         ensures { Follows (λ _. file_of self.new) (rules.file_item (file_of self.old) base (item_of item.now)) result }
     {
-        match self.scopes.declarator(base, item)? {
+        match declarator(&mut self.scopes, base, item)? {
             Declared::Untyped => Err(self.untyped(item)),
             Declared::Object(object_type) => self.object(object_type, item),
             Declared::Function(function) => self.prototyped(function, item),
@@ -139,10 +142,10 @@ impl<'a> File<'a> {
     fn untyped(&self, item: &Item) -> Refusal
         ensures { Refuses (rules.item_as (file_of self.now) declares.Untyped (item_of item.now)) result }
     {
-        if let Err(refusal) = self.scopes.starts(&item.init) {
+        if let Err(refusal) = starts(&self.scopes, &item.init) {
             return refusal;
         }
-        self.scopes.without_type(item)
+        without_type(&self.scopes, item)
     }
 
     fn object(&mut self, object_type: ObjectType, item: &'a Item) -> Result<(), Refusal>
@@ -150,10 +153,10 @@ impl<'a> File<'a> {
     {
         let name = item.name.as_str();
         let is_twice = self.is_twice(item);
-        let number = self.scopes.static_number(name);
+        let number = static_number(&self.scopes, name);
         let next = self.statics.len();
-        let allowed = self.scopes.declare_static(name, next, object_type)?;
-        let starts = self.scopes.starts(&item.init)?;
+        let allowed = declare_static(&mut self.scopes, name, next, object_type)?;
+        let starts = starts(&self.scopes, &item.init)?;
         if !allowed || is_twice {
             return Err(redeclared(item.at));
         }
@@ -194,8 +197,8 @@ impl<'a> File<'a> {
         ensures { Follows (λ _. file_of self.new) (rules.item_as (file_of self.old) (declares.Function function) (item_of item.now)) result }
     {
         let is_twice = self.is_twice(item);
-        let allowed = self.scopes.declare_function(item.name.as_str(), function)?;
-        self.scopes.starts(&item.init)?;
+        let allowed = declare_function(&mut self.scopes, item.name.as_str(), function)?;
+        starts(&self.scopes, &item.init)?;
         if !allowed || is_twice {
             return Err(redeclared(item.at));
         }
@@ -221,14 +224,14 @@ impl<'a> File<'a> {
         let base = spelled(&f.specs)?;
         let name = f.name.as_str();
         let list = f.params.list.as_slice();
-        let kinds = self.scopes.defined_parameters(list)?;
+        let kinds = defined_parameters(&mut self.scopes, list)?;
         let result = starred(base, f.stars);
         let parameters = copy_of(self.scopes.alloc, &kinds)?;
         let function = FunctionType {
             result,
             parameters: Items::new(parameters),
         };
-        let allowed = self.scopes.declare_function(name, function)?;
+        let allowed = declare_function(&mut self.scopes, name, function)?;
         let is_defined = self.scopes.number_of(name) < self.functions.len();
         self.body(result, &kinds, f)?;
         if !allowed || is_defined {
@@ -250,7 +253,7 @@ impl<'a> File<'a> {
         let alloc = self.scopes.alloc;
         let list = f.params.list.as_slice();
         self.scopes.open()?;
-        self.scopes.declare_parameters(list, kinds)?;
+        declare_parameters(&mut self.scopes, list, kinds)?;
         let locals = parameter_locals(alloc, list, kinds)?;
         let name = Text::copy_of(alloc, f.name.as_str())?;
         let none = Scopes::new(alloc, IndexSet::new(alloc));

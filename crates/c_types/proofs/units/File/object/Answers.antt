@@ -17,7 +17,7 @@ returns-in_err-starts c =
     let allowed = c.in_ok-allowed.allowed in
     let twice = c.is_twice-is_twice.result in
     let h : Refuses (item_as f (declares.Object c.args.object_type) (item_of c.args.item.now)) c.in_err-starts.field-0.0 =
-    starts_refused f (item_of c.args.item.now) (declares.Object c.args.object_type) (scope_of c.declare_static.new.self) c.as_str-name.result.now c.len-next.result allowed twice
+    starts_refused f (item_of c.args.item.now) (declares.Object c.args.object_type) (scope_of c.declare_static.new.scopes) c.as_str-name.result.now c.len-next.result allowed twice
     c.as_str-name.ensures (c.len-next.ensures ∙ c.args.self.now.statics.ok.0 ∙ sym (length-map c.args.self.now.statics.items static_tree_of)) c.in_ok-allowed.ensures.declared c.in_ok-allowed.ensures.allowed c.is_twice-is_twice.ensures
     c.in_err-starts.field-0.0 c.in_err-starts.ensures in
     search (rules, h)
@@ -31,7 +31,7 @@ returns-then-not-allowed c =
       | then-not-allowed-via-then-not-allowed w ↦ not_allowed allowed twice w.if-not-allowed.true
       | then-not-allowed-via-else-not-allowed+then-is_twice w ↦ allowed_twice allowed twice w.if-not-allowed.false w.if-is_twice.true
     ] in
-    redeclared_refused f (item_of c.args.item.now) (declares.Object c.args.object_type) (scope_of c.declare_static.new.self) c.as_str-name.result.now c.len-next.result allowed twice
+    redeclared_refused f (item_of c.args.item.now) (declares.Object c.args.object_type) (scope_of c.declare_static.new.scopes) c.as_str-name.result.now c.len-next.result allowed twice
     c.as_str-name.ensures (c.len-next.ensures ∙ c.args.self.now.statics.ok.0 ∙ sym (length-map c.args.self.now.statics.items static_tree_of)) c.in_ok-allowed.ensures.declared c.in_ok-allowed.ensures.allowed c.is_twice-is_twice.ensures
     (starts_of c.in_ok-starts.starts) c.in_ok-starts.ensures c.redeclared.result broken c.redeclared.ensures
 
@@ -41,7 +41,7 @@ returns-in_err-list c =
     let allowed = c.in_ok-allowed.allowed in
     let twice = c.is_twice-is_twice.result in
     let h : Refuses (item_as f (declares.Object c.args.object_type) (item_of c.args.item.now)) c.in_err-list.field-0.0 =
-    declared_refused f (item_of c.args.item.now) (declares.Object c.args.object_type) (scope_of c.declare_static.new.self) c.as_str-name.result.now c.len-next.result allowed twice
+    declared_refused f (item_of c.args.item.now) (declares.Object c.args.object_type) (scope_of c.declare_static.new.scopes) c.as_str-name.result.now c.len-next.result allowed twice
     c.as_str-name.ensures (c.len-next.ensures ∙ c.args.self.now.statics.ok.0 ∙ sym (length-map c.args.self.now.statics.items static_tree_of)) c.in_ok-allowed.ensures.declared c.in_ok-allowed.ensures.allowed c.is_twice-is_twice.ensures
     (starts_of c.in_ok-starts.starts) c.in_ok-starts.ensures c.in_err-list.field-0.0 (allowed_once allowed twice c.if-not-allowed.false c.if-is_twice.false)
     (refused_first (static_list c.args.object_type c.args.item.now.at (starts_of c.in_ok-starts.starts)) _ c.in_err-list.field-0.0 c.in_err-list.ensures) in

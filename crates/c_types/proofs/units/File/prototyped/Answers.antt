@@ -16,7 +16,7 @@ pub returns-in_err-starts : goal.returns-in_err-starts
 returns-in_err-starts c =
     let f = file_of c.args.self.now in
     let h : Refuses (item_as f (declares.Function c.args.function) (item_of c.args.item.now)) c.in_err-starts.field-0.0 =
-    starts_refused f (item_of c.args.item.now) (declares.Function c.args.function) (scope_of c.declare_function.new.self) c.as_str.result.now (length f.statics) c.in_ok-allowed.allowed c.is_twice-is_twice.result
+    starts_refused f (item_of c.args.item.now) (declares.Function c.args.function) (scope_of c.declare_function.new.scopes) c.as_str.result.now (length f.statics) c.in_ok-allowed.allowed c.is_twice-is_twice.result
     c.as_str.ensures refl c.in_ok-allowed.ensures.declared c.in_ok-allowed.ensures.allowed c.is_twice-is_twice.ensures
     c.in_err-starts.field-0.0 c.in_err-starts.ensures in
     search (rules, h)
@@ -30,7 +30,7 @@ returns-then-not-allowed c =
       | then-not-allowed-via-then-not-allowed w ↦ not_allowed allowed twice w.if-not-allowed.true
       | then-not-allowed-via-else-not-allowed+then-is_twice w ↦ allowed_twice allowed twice w.if-not-allowed.false w.if-is_twice.true
     ] in
-    redeclared_refused f (item_of c.args.item.now) (declares.Function c.args.function) (scope_of c.declare_function.new.self) c.as_str.result.now (length f.statics) allowed twice
+    redeclared_refused f (item_of c.args.item.now) (declares.Function c.args.function) (scope_of c.declare_function.new.scopes) c.as_str.result.now (length f.statics) allowed twice
     c.as_str.ensures refl c.in_ok-allowed.ensures.declared c.in_ok-allowed.ensures.allowed c.is_twice-is_twice.ensures
     (starts_of c.in_ok-starts.field-0) c.in_ok-starts.ensures c.redeclared.result broken c.redeclared.ensures
 
@@ -39,7 +39,7 @@ returns-then-is_some c =
     let f = file_of c.args.self.now in
     let allowed = c.in_ok-allowed.allowed in
     let twice = c.is_twice-is_twice.result in
-    declared_refused f (item_of c.args.item.now) (declares.Function c.args.function) (scope_of c.declare_function.new.self) c.as_str.result.now (length f.statics) allowed twice
+    declared_refused f (item_of c.args.item.now) (declares.Function c.args.function) (scope_of c.declare_function.new.scopes) c.as_str.result.now (length f.statics) allowed twice
     c.as_str.ensures refl c.in_ok-allowed.ensures.declared c.in_ok-allowed.ensures.allowed c.is_twice-is_twice.ensures
     (starts_of c.in_ok-starts.field-0) c.in_ok-starts.ensures c.mismatch.result (allowed_once allowed twice c.if-not-allowed.false c.if-is_twice.false)
     (breaks_mismatch _ _ _ _ (initial_given c.args.item.now.init c.is_some.result c.is_some.ensures ∙ c.if-is_some.true) c.mismatch.ensures)
@@ -49,7 +49,7 @@ returns c =
     let f = file_of c.args.self.now in
     let allowed = c.in_ok-allowed.allowed in
     let twice = c.is_twice-is_twice.result in
-    declared_item f (item_of c.args.item.now) (declares.Function c.args.function) (scope_of c.declare_function.new.self) c.as_str.result.now (length f.statics) allowed twice
+    declared_item f (item_of c.args.item.now) (declares.Function c.args.function) (scope_of c.declare_function.new.scopes) c.as_str.result.now (length f.statics) allowed twice
     c.as_str.ensures refl c.in_ok-allowed.ensures.declared c.in_ok-allowed.ensures.allowed c.is_twice-is_twice.ensures
     (starts_of c.in_ok-starts.field-0) c.in_ok-starts.ensures (allowed_once allowed twice c.if-not-allowed.false c.if-is_twice.false)
-    ∙ ap (λ b. breaks b Mismatch c.args.item.now.at (Is (file_of (record { scopes = c.declare_function.new.self; statics = c.args.self.now.statics; functions = c.args.self.now.functions })))) (initial_given c.args.item.now.init c.is_some.result c.is_some.ensures ∙ c.if-is_some.false)
+    ∙ ap (λ b. breaks b Mismatch c.args.item.now.at (Is (file_of (record { scopes = c.declare_function.new.scopes; statics = c.args.self.now.statics; functions = c.args.self.now.functions })))) (initial_given c.args.item.now.init c.is_some.result c.is_some.ensures ∙ c.if-is_some.false)

@@ -2,7 +2,7 @@ use Rattle.std.proofs.Common.{◌+◌, ◌*◌, max, drop}
 use Rattle.c_syntax.specs.declared.expr.ExprKind.{size-ExprKind}
 use Rattle.c_scopes.specs.Tables.{scope_of}
 use Rattle.c_scopes.proofs.OperandsSoFar.{OperandsSoFar}
-use Rattle.c_scopes.proofs.scopes.Scopes.+expressions.Given as goal
+use Rattle.c_scopes.proofs.expressions.+expressions.Given as goal
 
 -- an expression has the height of its tree as its measure, a form that of its highest part, and a list that of its highest
 -- element; what calls another on the same tree stands above it
@@ -12,8 +12,8 @@ decreases-expression l = 8 * size-ExprKind l.e.now.kind
 abbrev pub decreases-operand : goal.decreases-operand
 decreases-operand l = 8 * size-ExprKind l.e.now.kind + 1
 
-abbrev pub decreases-index : goal.decreases-index
-decreases-index l = 8 * max (size-ExprKind l.operand.now.kind) (size-ExprKind l.index.now.kind) + 2
+abbrev pub decreases-subscript : goal.decreases-subscript
+decreases-subscript l = 8 * max (size-ExprKind l.operand.now.kind) (size-ExprKind l.index.now.kind) + 2
 
 abbrev pub decreases-step_after : goal.decreases-step_after
 decreases-step_after l = 8 * size-ExprKind l.operand.now.kind + 2
@@ -28,7 +28,7 @@ abbrev pub decreases-size : goal.decreases-size
 decreases-size l = 8 * size-ExprKind l.operand.now.kind + 2
 
 abbrev pub decreases-cast : goal.decreases-cast
-decreases-cast l = 8 * size-ExprKind l.operand.now.kind + 2
+decreases-cast l = 8 * size-ExprKind l.value.now.kind + 2
 
 abbrev pub decreases-binary : goal.decreases-binary
 decreases-binary l = 8 * max (size-ExprKind l.left.now.kind) (size-ExprKind l.right.now.kind) + 2
@@ -71,4 +71,4 @@ decreases-constant_call l = 8 * goal.size-constant_call l + 5
 
 -- what the operands so far and those of the rest make together
 abbrev pub invariant-operands-loop-e : goal.invariant-operands-loop-e
-invariant-operands-loop-e l = OperandsSoFar (scope_of l.self) l.list (drop l.e-index l.list) l.operands.items
+invariant-operands-loop-e l = OperandsSoFar (scope_of l.scopes) l.list (drop l.e-index l.list) l.operands.items

@@ -1,6 +1,6 @@
 use Rattle.std.proofs.Common.{rules}
 use Rattle.c_scopes.proofs.CallForms.{call_typed}
-use Rattle.c_scopes.proofs.names.call_of.Goals as goal
+use Rattle.c_scopes.proofs.names.function_call.Goals as goal
 
 pub returns : goal.returns
 returns c =
