@@ -49,11 +49,11 @@ impl<'a> Body<'a> {
     /// An item of a block.
     pub(crate) fn item(
         &mut self,
-        opening: Opening,
+        opening: &mut Opening,
         base: Base,
         item: &'a Item,
-    ) -> Result<Opening, Refusal>
-        ensures follows { Follows (opened_of self.new) (rules.block_item (opened_of self.old opening) base (item_of item.now)) result }
+    ) -> Result<(), Refusal>
+        ensures follows { Follows (λ _. opened_of self.new opening.new) (rules.block_item (opened_of self.old opening.old) base (item_of item.now)) result }
         ensures around { OnOk result (around_of self.new.scopes ≡ around_of self.old.scopes) }
         ensures bodies { (scope_of self.new.scopes).bodies ≡ (scope_of self.old.scopes).bodies }
         ensures returned { self.new.result ≡ self.old.result }
@@ -83,13 +83,13 @@ impl<'a> Body<'a> {
     // An object that is declared, with its start.
     fn object(
         &mut self,
-        mut opening: Opening,
+        opening: &mut Opening,
         item: &Item,
         reference: VarRef,
         object_type: ObjectType,
         initialiser: Initialiser,
-    ) -> Result<Opening, Refusal>
-        ensures follows { Follows (opened_of self.new) (rules.declared_as (opened_of self.old opening) (scope_of self.old.scopes) reference (Declared.Object object_type) (item_of item.now) (initialiser_of initialiser)) result }
+    ) -> Result<(), Refusal>
+        ensures follows { Follows (λ _. opened_of self.new opening.new) (rules.declared_as (opened_of self.old opening.old) (scope_of self.old.scopes) reference (Declared.Object object_type) (item_of item.now) (initialiser_of initialiser)) result }
         ensures scopes { self.new.scopes ≡ self.old.scopes }
         ensures returned { self.new.result ≡ self.old.result }
     {
@@ -104,42 +104,42 @@ impl<'a> Body<'a> {
         if let Some(statement) = start.statement {
             opening.statements.push(statement)?;
         }
-        Ok(opening)
+        Ok(())
     }
 
     /// The items of a declaration of this base, in order.
     pub(crate) fn items(
         &mut self,
-        mut opening: Opening,
+        opening: &mut Opening,
         base: Base,
         list: &'a [Item],
-    ) -> Result<Opening, Refusal>
-        ensures follows { Follows (opened_of self.new) (rules.block_items (opened_of self.old opening) base (map item_of list.now)) result }
+    ) -> Result<(), Refusal>
+        ensures follows { Follows (λ _. opened_of self.new opening.new) (rules.block_items (opened_of self.old opening.old) base (map item_of list.now)) result }
         ensures around { OnOk result (around_of self.new.scopes ≡ around_of self.old.scopes) }
         ensures bodies { (scope_of self.new.scopes).bodies ≡ (scope_of self.old.scopes).bodies }
         ensures returned { self.new.result ≡ self.old.result }
     {
         for item in list {
-            opening = self.item(opening, base, item)?;
+            self.item(opening, base, item)?;
         }
-        Ok(opening)
+        Ok(())
     }
 
     /// The declarations of a block, in order.
     pub(crate) fn declarations(
         &mut self,
-        mut opening: Opening,
+        opening: &mut Opening,
         list: &'a [Decl],
-    ) -> Result<Opening, Refusal>
-        ensures follows { Follows (opened_of self.new) (rules.declarations (opened_of self.old opening) (map declaration_of list.now)) result }
+    ) -> Result<(), Refusal>
+        ensures follows { Follows (λ _. opened_of self.new opening.new) (rules.declarations (opened_of self.old opening.old) (map declaration_of list.now)) result }
         ensures around { OnOk result (around_of self.new.scopes ≡ around_of self.old.scopes) }
         ensures bodies { (scope_of self.new.scopes).bodies ≡ (scope_of self.old.scopes).bodies }
         ensures returned { self.new.result ≡ self.old.result }
     {
         for declaration in list {
             let base = plain(&declaration.specs)?;
-            opening = self.items(opening, base, declaration.items.as_slice())?;
+            self.items(opening, base, declaration.items.as_slice())?;
         }
-        Ok(opening)
+        Ok(())
     }
 }

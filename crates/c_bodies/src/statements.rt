@@ -145,15 +145,15 @@ impl<'a> Body<'a> {
         ensures returned { self.new.result ≡ self.old.result }
     {
         let alloc = self.scopes.alloc;
-        let opening = Opening {
+        let mut opening = Opening {
             declared: Vec::new(alloc),
             statements: Vec::new(alloc),
         };
-        let opening = self.declarations(opening, declarations)?;
-        let body = self.statements(statements, enclosing, opening.statements)?;
+        self.declarations(&mut opening, declarations)?;
+        self.statements(statements, enclosing, &mut opening.statements)?;
         Ok(TypedStmt::Block {
             declared: opening.declared,
-            body,
+            body: opening.statements,
         })
     }
 
@@ -163,9 +163,9 @@ impl<'a> Body<'a> {
         &mut self,
         list: &'a [Stmt],
         enclosing: Enclosing,
-        mut into: Vec<TypedStmt>,
-    ) -> Result<Vec<TypedStmt>, Refusal>
-        ensures typed { IfOk result (λ all. behind into.items (statements_in self.old enclosing (body_of list.now)) ≡ just (statement_list all.items) (locals_of self.new)) }
+        into: &mut Vec<TypedStmt>,
+    ) -> Result<(), Refusal>
+        ensures typed { OnOk result (behind into.old.items (statements_in self.old enclosing (body_of list.now)) ≡ just (statement_list into.new.items) (locals_of self.new)) }
         ensures refused { IfErr result (Refuses (statements_in self.old enclosing (body_of list.now))) }
         ensures tables { OnOk result (tables_of self.new.scopes ≡ tables_of self.old.scopes) }
         ensures bodies { (scope_of self.new.scopes).bodies ≡ (scope_of self.old.scopes).bodies }
@@ -174,7 +174,7 @@ impl<'a> Body<'a> {
         for s in list {
             into.push(self.statement(s, enclosing)?)?;
         }
-        Ok(into)
+        Ok(())
     }
 
     // A return without a value: 6.6.6.4.

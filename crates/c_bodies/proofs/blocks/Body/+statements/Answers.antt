@@ -12,8 +12,8 @@ use Rattle.c_bodies.proofs.blocks.Body.+statements.Goals as goal
 
 pub block_here-returns-clause-follows : goal.block_here-returns-clause-follows
 block_here-returns-clause-follows t c =
-    block_typed c.args.self.now c.declarations.new.self c.statements.new.self (record { declared = c.new.result; statements = c.new-2.result }) c.in_ok-opening.opening c.in_ok-body.body c.args.enclosing (map declaration_of c.args.declarations.now) (body_of c.args.statements.now)
-    c.new.ensures.items c.new-2.ensures.items c.in_ok-opening.ensures.returned c.in_ok-opening.ensures.follows c.in_ok-body.ensures.typed
+    block_typed c.args.self.now c.declarations.new.self c.statements.new.self (record { declared = c.new.result; statements = c.new-2.result }) c.declarations.new.opening c.statements.new.into c.args.enclosing (map declaration_of c.args.declarations.now) (body_of c.args.statements.now)
+    c.new.ensures.items c.new-2.ensures.items c.in_ok-declarations.ensures.returned c.in_ok-declarations.ensures.follows c.in_ok-statements.ensures.typed
 
 pub statement-returns-in-Block-clause-follows : goal.statement-returns-in-Block-clause-follows
 statement-returns-in-Block-clause-follows t c =
@@ -37,7 +37,7 @@ statements-returns-clause-typed t c =
 pub statements-returns-in_err-statement-clause-refused : goal.statements-returns-in_err-statement-clause-refused
 statements-returns-in_err-statement-clause-refused t c =
     let h : Refuses (statements_in c.args.self.now c.args.enclosing (body_of c.args.list.now)) c.in_err-statement.field-0.0 =
-    refused_here (statements_in c.args.self.now c.args.enclosing (body_of c.args.list.now)) c.loop-s.self c.args.enclosing c.args.list.now c.loop-s.s-index c.s-item.result c.args.into.items c.loop-s.into.items c.in_err-statement.field-0.0 c.s-item.is c.loop-s-test.true c.loop-s.invariant.typed c.in_err-statement.ensures.follows in
+    refused_here (statements_in c.args.self.now c.args.enclosing (body_of c.args.list.now)) c.loop-s.self c.args.enclosing c.args.list.now c.loop-s.s-index c.s-item.result c.args.into.now.items c.loop-s.into.items c.in_err-statement.field-0.0 c.s-item.is c.loop-s-test.true c.loop-s.invariant.typed c.in_err-statement.ensures.follows in
     search (rules, h)
 
 pub do_loop-returns-clause-follows : goal.do_loop-returns-clause-follows

@@ -7,7 +7,7 @@ use Rattle.c_bodies.proofs.blocks.Body.items.Given as goal
 
 abbrev pub invariant-loop-item : goal.invariant-loop-item
 invariant-loop-item l = record {
-  typed : block_items (opened_of l.initial.self l.fn.opening) l.base (map item_of l.list) ≡ block_items (opened_of l.self l.opening) l.base (map item_of (drop l.item-index l.list));
+  typed : block_items (opened_of l.initial.self l.initial.opening) l.base (map item_of l.list) ≡ block_items (opened_of l.self l.opening) l.base (map item_of (drop l.item-index l.list));
   around : around_of l.self.scopes ≡ around_of l.initial.self.scopes;
   bodies : (scope_of l.self.scopes).bodies ≡ (scope_of l.initial.self.scopes).bodies;
   value : l.self.result ≡ l.initial.self.result;
