@@ -5,11 +5,11 @@ use Rattle.word_base.specs.Counts.{Counts, FetchFailed, StoreFailed}
 use Rattle.word_base.specs.Files.{Files}
 use Rattle.cc_driver.specs.Build.{IsTooLong, IsAccepted, IsWithoutTypes, IsRefusedFor, IsToldWith, ReadCause, TooLongCause, BuildRefused, Builds, build_status}
 use Rattle.cc_driver.specs.BuildAnswer.{PutsFault, SourceRefused, RefusesFor}
-use Rattle.cc_driver.specs.Line.{Puts, Sinks, build_line}
-use Rattle.cc_driver.specs.declared.fault.SourceFault.{SourceFault}
-use Rattle.cc_driver.specs.declared.fault.BuildFault.{BuildFault}
-use Rattle.cc_driver.specs.declared.fault.BuildFault.TheVariants.{Read, TooLong, Source, Write, NoMemory}
-use Rattle.cc_driver.specs.SourceFaults.{IsOfTypes, IsSameFault}
+use Rattle.cc_text.specs.Line.{Puts, Sinks, build_line}
+use Rattle.cc_text.specs.declared.fault.SourceFault.{SourceFault}
+use Rattle.cc_text.specs.declared.fault.BuildFault.{BuildFault}
+use Rattle.cc_text.specs.declared.fault.BuildFault.TheVariants.{Read, TooLong, Source, Write, NoMemory}
+use Rattle.cc_text.specs.SourceFaults.{IsOfTypes, IsSameFault}
 use Rattle.cc_driver.proofs.SourceFaultLemmas.{one_fault, accepted_no_fault, untyped_fault, untyped_not_accepted}
 
 -- of one file one text is told

@@ -8,19 +8,20 @@ use Rattle.c25_image.proofs.PortLines.{bad_no_text}
 use Rattle.cc_driver.specs.Answer.{AnswerPut, PutWhole, PutPart, PutNothing}
 use Rattle.cc_driver.specs.Build.{source_limit}
 use Rattle.cc_driver.specs.Fetches.{IsFetched, AreFetched, AreBadPorts, FetchCause, ports_limit}
-use Rattle.cc_driver.specs.Line.{Sinks}
-use Rattle.cc_driver.specs.SourceFaults.{FrontRefused}
-use Rattle.cc_driver.specs.Means.{Meant, MeansTo, MeansRefused, AtSourceFetch, AtTexts, of_untyped}
+use Rattle.cc_text.specs.Line.{Sinks}
+use Rattle.cc_text.specs.SourceFaults.{FrontRefused}
+use Rattle.cc_driver.specs.Means.{Meant, MeansTo, MeansRefused, AtSourceFetch, AtTexts}
+use Rattle.cc_text.specs.CommandFaults.{of_untyped}
 use Rattle.cc_driver.specs.MeansAnswer.{MeansAnswers, Meaning, NoMeaning, FileRefused, NoFile, LongFile, TextRefused, BadPorts, NoProgram, RefusedWith, OfSource, OfPorts, OfTexts}
-use Rattle.cc_driver.specs.MeansText.{means_status, outcome_status}
-use Rattle.cc_driver.specs.RunText.{file_status}
-use Rattle.cc_driver.specs.declared.fault.FileFault.{FileFault}
-use Rattle.cc_driver.specs.declared.fault.FileFault.TheVariants.{Read, TooLong, BadLine, BadRange, TooManyWords}
-use Rattle.cc_driver.specs.declared.fault.FrontFault.{FrontFault}
-use Rattle.cc_driver.specs.declared.fault.FrontFault.TheVariants as front
-use Rattle.cc_driver.specs.declared.fault.RunFault.TheVariants as fault
-use Rattle.cc_driver.specs.declared.fault.MeansFault.{MeansFault}
-use Rattle.cc_driver.specs.declared.fault.MeansFault.TheVariants as means
+use Rattle.cc_text.specs.MeansText.{means_status, outcome_status}
+use Rattle.cc_text.specs.RunText.{file_status}
+use Rattle.cc_text.specs.declared.fault.FileFault.{FileFault}
+use Rattle.cc_text.specs.declared.fault.FileFault.TheVariants.{Read, TooLong, BadLine, BadRange, TooManyWords}
+use Rattle.cc_text.specs.declared.fault.FrontFault.{FrontFault}
+use Rattle.cc_text.specs.declared.fault.FrontFault.TheVariants as front
+use Rattle.cc_text.specs.declared.fault.RunFault.TheVariants as fault
+use Rattle.cc_text.specs.declared.fault.MeansFault.{MeansFault}
+use Rattle.cc_text.specs.declared.fault.MeansFault.TheVariants as means
 use Rattle.cc_driver.proofs.SourceFaultLemmas.{program_no_fault}
 
 -- of one file one text is told

@@ -12,14 +12,14 @@ use Rattle.c_tree.specs.TypedTree.{ProgramTree}
 use Rattle.c_syntax.specs.Source.{IsSource, NoSource}
 use Rattle.c_syntax.proofs.Rows.UnitOne.{one_source}
 use Rattle.c_rules.specs.declared.fault.TypeFault.{TypeFault}
-use Rattle.cc_driver.specs.Thin.{IsThinProgram}
-use Rattle.cc_driver.specs.SourceFaults.{HasFault, HasNoProgramFor, HasProgram, HasTree, IsTypedWith, IsUntyped, IsTypeFault, IsOfTypes, IsSameFault, of_lex_fault}
+use Rattle.cc_thin.specs.Thin.{IsThinProgram}
+use Rattle.cc_text.specs.SourceFaults.{HasFault, HasNoProgramFor, HasProgram, HasTree, IsTypedWith, IsUntyped, IsTypeFault, IsOfTypes, IsSameFault, of_lex_fault}
 use Rattle.cc_driver.specs.Build.{IsAccepted, IsWithoutTypes}
 use Rattle.cc_driver.proofs.TypedLemmas.{typed_no_fault}
 use Rattle.c_rules.proofs.LawLemmas.{one_program}
-use Rattle.cc_driver.specs.declared.fault.SourceFault.{SourceFault}
-use Rattle.cc_driver.specs.declared.fault.SourceFault.TheVariants.{BadByte, OpenComment, BadConstant, LongName, TooManyTokens, Syntax, Types, NotYet}
-use Rattle.cc_driver.specs.declared.fault.FrontFault.TheVariants as fault
+use Rattle.cc_text.specs.declared.fault.SourceFault.{SourceFault}
+use Rattle.cc_text.specs.declared.fault.SourceFault.TheVariants.{BadByte, OpenComment, BadConstant, LongName, TooManyTokens, Syntax, Types, NotYet}
+use Rattle.cc_text.specs.declared.fault.FrontFault.TheVariants as fault
 
 -- the fault of the lexer that a fault of a source is, or tokens without a tree, or a fault of a tree's types, or a typed program that
 -- isn't thin

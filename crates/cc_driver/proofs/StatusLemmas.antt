@@ -9,17 +9,17 @@ use Rattle.cc_driver.specs.Build.{build_status}
 use Rattle.cc_driver.specs.RunAnswer.{RunAnswers, Answer, Refuse}
 use Rattle.cc_driver.specs.Answer.{AnswerPut, PutWhole, PutPart, PutNothing}
 use Rattle.cc_driver.specs.MeansAnswer.{MeansAnswers, Meaning, NoMeaning}
-use Rattle.cc_driver.specs.MeansText.{outcome_status, means_status}
-use Rattle.cc_driver.specs.Line.{Sinks}
-use Rattle.cc_driver.specs.RunText.{stop_status, file_status, fault_status}
-use Rattle.cc_driver.specs.declared.fault.BuildFault.{BuildFault}
-use Rattle.cc_driver.specs.declared.fault.BuildFault.TheVariants as build_fault
-use Rattle.cc_driver.specs.declared.fault.FileFault.{FileFault}
-use Rattle.cc_driver.specs.declared.fault.FileFault.TheVariants as file_fault
-use Rattle.cc_driver.specs.declared.fault.RunFault.{RunFault}
-use Rattle.cc_driver.specs.declared.fault.RunFault.TheVariants as fault
-use Rattle.cc_driver.specs.declared.fault.MeansFault.{MeansFault}
-use Rattle.cc_driver.specs.declared.fault.MeansFault.TheVariants as means_fault
+use Rattle.cc_text.specs.MeansText.{outcome_status, means_status}
+use Rattle.cc_text.specs.Line.{Sinks}
+use Rattle.cc_text.specs.RunText.{stop_status, file_status, fault_status}
+use Rattle.cc_text.specs.declared.fault.BuildFault.{BuildFault}
+use Rattle.cc_text.specs.declared.fault.BuildFault.TheVariants as build_fault
+use Rattle.cc_text.specs.declared.fault.FileFault.{FileFault}
+use Rattle.cc_text.specs.declared.fault.FileFault.TheVariants as file_fault
+use Rattle.cc_text.specs.declared.fault.RunFault.{RunFault}
+use Rattle.cc_text.specs.declared.fault.RunFault.TheVariants as fault
+use Rattle.cc_text.specs.declared.fault.MeansFault.{MeansFault}
+use Rattle.cc_text.specs.declared.fault.MeansFault.TheVariants as means_fault
 use Rattle.word_base.specs.declared.outcome.Outcome.{Outcome}
 use Rattle.word_base.specs.declared.outcome.Outcome.TheVariants as outcome
 

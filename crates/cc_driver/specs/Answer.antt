@@ -1,7 +1,7 @@
 -- What the put of an answer makes of the status and of the sink (docs/COMMANDS.md, "Statuses and lines").
 use Rattle.std.specs.Prelude.{◌≡◌, ℕ, IsTrue, List, ◌++◌, take, codes, Some}
 use Rattle.word_base.specs.Counts.{Rose}
-use Rattle.cc_driver.specs.Line.{Puts, Sinks}
+use Rattle.cc_text.specs.Line.{Puts, Sinks}
 
 -- an answer of this text, whose status is this where all of it is put
 pub data AnswerPut (text : List ℕ) (ends : ℕ) (sinks : Sinks) (status : ℕ) : Type 0 where

@@ -4,10 +4,10 @@ use Rattle.word_base.specs.Counts.{Counts}
 use Rattle.word_base.specs.Files.{Files}
 use Rattle.c25_image.specs.PortText.{IsFirstBad}
 use Rattle.cc_driver.specs.Build.{ReadCause, LongCause}
-use Rattle.cc_driver.specs.declared.fault.FileFault.{FileFault}
-use Rattle.cc_driver.specs.declared.fault.FileFault.TheVariants.{Read, TooLong, BadLine, BadRange, TooManyWords}
-use Rattle.cc_driver.specs.declared.fault.RunFault.{RunFault}
-use Rattle.cc_driver.specs.declared.fault.RunFault.TheVariants as fault
+use Rattle.cc_text.specs.declared.fault.FileFault.{FileFault}
+use Rattle.cc_text.specs.declared.fault.FileFault.TheVariants.{Read, TooLong, BadLine, BadRange, TooManyWords}
+use Rattle.cc_text.specs.declared.fault.RunFault.{RunFault}
+use Rattle.cc_text.specs.declared.fault.RunFault.TheVariants as fault
 
 -- the greatest length of a port file, in bytes
 abbrev pub ports_limit : ℕ

@@ -8,13 +8,11 @@ use Rattle.c_tree.specs.TypedTree.{ProgramTree}
 use Rattle.c_tree.specs.SourceRun.{source_run}
 use Rattle.c25_image.specs.PortText.{PortText}
 use Rattle.cc_driver.specs.Build.{source_limit}
-use Rattle.cc_driver.specs.SourceFaults.{HasProgram, HasNoProgramFor}
+use Rattle.cc_text.specs.SourceFaults.{HasProgram, HasNoProgramFor}
 use Rattle.cc_driver.specs.Fetches.{AreFetched, AreBadPorts, FetchesRefused}
-use Rattle.cc_driver.specs.declared.fault.FrontFault.{FrontFault}
-use Rattle.cc_driver.specs.declared.fault.FrontFault.TheVariants as front
-use Rattle.cc_driver.specs.declared.fault.RunFault.TheVariants as file
-use Rattle.cc_driver.specs.declared.fault.MeansFault.{MeansFault}
-use Rattle.cc_driver.specs.declared.fault.MeansFault.TheVariants as means
+use Rattle.cc_text.specs.declared.fault.RunFault.TheVariants as file
+use Rattle.cc_text.specs.declared.fault.MeansFault.{MeansFault}
+use Rattle.cc_text.specs.declared.fault.MeansFault.TheVariants as means
 
 -- the source has a typed program, and its run on what the port lines give comes to this with so many turns
 pub record MeansTo (source_bytes port_bytes : List ℕ) (turns : ℕ) (outcome : Outcome) : Type 0 where
@@ -48,8 +46,3 @@ SourceFetchRefused tells files source ports before now (means.Source why) = ⊥
 pub data MeansRefused (tells : Bool) (files : Files) (source ports : List ℕ) (before now : Counts) (why : MeansFault) : Type 0 where
   AtSourceFetch : SourceFetchRefused tells files source ports before now why → MeansRefused tells files source ports before now why
   AtTexts : (IsTrue tells → AreFetched files source source_limit ports (λ s p. TextsRefused s p why)) → MeansRefused tells files source ports before now why
-
--- how a source without a typed program refuses it
-abbrev pub of_untyped : FrontFault → MeansFault
-of_untyped (front.Source why) = means.Source why
-of_untyped front.NoMemory = means.Files file.NoMemory

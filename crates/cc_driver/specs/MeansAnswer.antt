@@ -5,14 +5,14 @@ use Rattle.word_base.specs.Files.{Files}
 use Rattle.word_base.specs.declared.outcome.Outcome.{Outcome}
 use Rattle.c_tree.specs.TypedTree.{ProgramTree}
 use Rattle.c25_image.specs.PortText.{IsFirstBad}
-use Rattle.cc_driver.specs.declared.fault.MeansFault.{MeansFault}
+use Rattle.cc_text.specs.declared.fault.MeansFault.{MeansFault}
 use Rattle.cc_driver.specs.Build.{source_limit}
-use Rattle.cc_driver.specs.SourceFaults.{HasProgram}
+use Rattle.cc_text.specs.SourceFaults.{HasProgram}
 use Rattle.cc_driver.specs.Fetches.{IsFetched, AreFetched, ports_limit}
 use Rattle.cc_driver.specs.Answer.{AnswerPut}
-use Rattle.cc_driver.specs.Line.{Puts, Sinks}
+use Rattle.cc_text.specs.Line.{Puts, Sinks}
 use Rattle.cc_driver.specs.Means.{Meant, MeansRefused, ArePorts}
-use Rattle.cc_driver.specs.MeansText.{outcome_text, outcome_status, means_line, means_status}
+use Rattle.cc_text.specs.MeansText.{outcome_text, outcome_status, means_line, means_status}
 
 -- what the source means, and the put of that
 pub record Evaluated (tells : Bool) (files : Files) (source ports : List ℕ) (turns : ℕ) (sinks : Sinks) (status : ℕ) : Type 0 where

@@ -14,10 +14,10 @@ use Rattle.c25_image.specs.ImageText.{image_text}
 use Rattle.c25_image.specs.ImageFaults.{IsWhole, Says}
 use Rattle.c25_image.specs.PortText.{PortText}
 use Rattle.cc_driver.specs.Fetches.{AreFetched, AreBadPorts, FetchesRefused}
-use Rattle.cc_driver.specs.declared.fault.FileFault.{FileFault}
-use Rattle.cc_driver.specs.declared.fault.FileFault.TheVariants.{Read, TooLong, BadLine, BadRange, TooManyWords}
-use Rattle.cc_driver.specs.declared.fault.RunFault.{RunFault}
-use Rattle.cc_driver.specs.declared.fault.RunFault.TheVariants as fault
+use Rattle.cc_text.specs.declared.fault.FileFault.{FileFault}
+use Rattle.cc_text.specs.declared.fault.FileFault.TheVariants.{Read, TooLong, BadLine, BadRange, TooManyWords}
+use Rattle.cc_text.specs.declared.fault.RunFault.{RunFault}
+use Rattle.cc_text.specs.declared.fault.RunFault.TheVariants as fault
 
 -- the greatest length of an image's text, in bytes
 abbrev pub image_limit : ℕ

@@ -4,11 +4,11 @@ use Rattle.word_base.specs.Counts.{Counts}
 use Rattle.word_base.specs.Files.{Files}
 use Rattle.word_base.specs.Ports.{Outputs}
 use Rattle.c25_isa.specs.declared.event.Stop.{Stop}
-use Rattle.cc_driver.specs.declared.fault.RunFault.{RunFault}
+use Rattle.cc_text.specs.declared.fault.RunFault.{RunFault}
 use Rattle.cc_driver.specs.Answer.{AnswerPut}
-use Rattle.cc_driver.specs.Line.{Puts, Sinks}
+use Rattle.cc_text.specs.Line.{Puts, Sinks}
 use Rattle.cc_driver.specs.Run.{Ran, RunRefused}
-use Rattle.cc_driver.specs.RunText.{answer_text, stop_status, fault_line, fault_status}
+use Rattle.cc_text.specs.RunText.{answer_text, stop_status, fault_line, fault_status}
 
 -- where the run stands, and the put of that
 pub record Answered (tells : Bool) (files : Files) (image ports : List ℕ) (steps : ℕ) (sinks : Sinks) (status : ℕ) : Type 0 where

@@ -6,23 +6,23 @@ ghost use Rattle.word_base.specs.declared.outcome.Outcome.{Outcome};
 ghost use Rattle.cc_driver.specs.Answer.{AnswerPut};
 ghost use Rattle.cc_driver.specs.Build.{Builds, IsToldWith, IsAccepted, IsWithoutTypes, IsRefusedFor, IsTooLong, ReadCause, TooLongCause, build_status};
 ghost use Rattle.cc_driver.specs.BuildAnswer.{SourceRefused, RefusesFor};
-ghost use Rattle.cc_driver.specs.Line.{Puts, status_line};
-ghost use Rattle.cc_driver.specs.SourceFaults.{IsOfTypes, IsSameFault};
+ghost use Rattle.cc_text.specs.Line.{Puts, status_line};
+ghost use Rattle.cc_text.specs.SourceFaults.{IsOfTypes, IsSameFault};
 ghost use Rattle.cc_driver.specs.RunAnswer.{RunAnswers};
-ghost use Rattle.cc_driver.specs.declared.fault.SourceFault.{SourceFault};
-ghost use Rattle.cc_driver.specs.RunText.{stop_status, file_status, fault_status};
+ghost use Rattle.cc_text.specs.declared.fault.SourceFault.{SourceFault};
+ghost use Rattle.cc_text.specs.RunText.{stop_status, file_status, fault_status};
 ghost use Rattle.cc_driver.specs.Means.{Meant};
 ghost use Rattle.cc_driver.specs.MeansAnswer.{MeansAnswers, RefusedWith};
-ghost use Rattle.cc_driver.specs.MeansText.{outcome_status, means_status};
+ghost use Rattle.cc_text.specs.MeansText.{outcome_status, means_status};
 
 use crate::build::build;
-use crate::fault::{BuildFault, FileFault, MeansFault, RunFault};
-use crate::line::{report, report_means, report_run, say};
 use crate::means::means;
-use crate::means_text::outcome_text;
 use crate::run::run;
-use crate::run_text::answer_text;
 use c25_isa::Stop;
+use cc_text::{
+    BuildFault, FileFault, MeansFault, RunFault, answer_text, outcome_text, report, report_means,
+    report_run, say,
+};
 use std::alloc::Global;
 use word_base::{Outcome, Shelf, Sink, SinkFault};
 

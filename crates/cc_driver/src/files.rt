@@ -2,10 +2,10 @@
 ghost use Rattle.std.specs.Prelude.{◌≡◌, ◌≤◌, length, IfOk, IfErr, IsTrue};
 ghost use Rattle.word_base.specs.Files.{Unchanged};
 ghost use Rattle.cc_driver.specs.Fetches.{IsFetched, FetchesRefused, ports_limit};
-ghost use Rattle.cc_driver.specs.RunFaults.{of_shelf_fault};
-ghost use Rattle.cc_driver.specs.declared.fault.RunFault.TheVariants as faults;
+ghost use Rattle.cc_text.specs.CommandFaults.{of_shelf_fault};
+ghost use Rattle.cc_text.specs.declared.fault.RunFault.TheVariants as faults;
 
-use crate::fault::{FileFault, RunFault};
+use cc_text::{FileFault, RunFault};
 use std::alloc::Global;
 use word_base::{Shelf, ShelfFault};
 

@@ -1,13 +1,13 @@
 //! The typed program of a source.
 ghost use Rattle.std.specs.Prelude.{◌<◌, ◌^◌, length, IfOk, IfErr};
 ghost use Rattle.c_tree.specs.ProgramView.{program_of};
-ghost use Rattle.cc_driver.specs.SourceFaults.{HasProgram, FrontRefused};
+ghost use Rattle.cc_text.specs.SourceFaults.{HasProgram, FrontRefused};
 
-use crate::fault::FrontFault;
 use c_lexer::lex;
 use c_parser::parse;
 use c_tree::Program;
 use c_types::check;
+use cc_text::FrontFault;
 use std::alloc::Global;
 
 /// The greatest length of a source, in bytes.

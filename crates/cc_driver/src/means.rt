@@ -4,14 +4,14 @@ ghost use Rattle.word_base.specs.Counts.{FetchFailed};
 ghost use Rattle.word_base.specs.Files.{Unchanged};
 ghost use Rattle.word_base.specs.declared.outcome.Outcome.{Outcome};
 ghost use Rattle.cc_driver.specs.Means.{Meant, MeansTo, MeansRefused, TextsRefused};
-ghost use Rattle.cc_driver.specs.declared.fault.RunFault.TheVariants as faults;
-ghost use Rattle.cc_driver.specs.declared.fault.MeansFault.TheVariants as means_faults;
+ghost use Rattle.cc_text.specs.declared.fault.RunFault.TheVariants as faults;
+ghost use Rattle.cc_text.specs.declared.fault.MeansFault.TheVariants as means_faults;
 
-use crate::fault::MeansFault;
 use crate::files::fetch_both;
 use crate::front::{SOURCE_LIMIT, typed_program};
 use c_means::evaluate;
 use c25_image::read_ports;
+use cc_text::MeansFault;
 use std::alloc::Global;
 use word_base::{Outcome, Shelf};
 

@@ -1,13 +1,13 @@
 //! The run of an image on port input.
-ghost use Rattle.std.specs.Prelude.{◌≡◌, ℕ, List, IfOk, IfErr, IsTrue};
+ghost use Rattle.std.specs.Prelude.{◌≡◌, IfOk, IfErr, IsTrue};
 ghost use Rattle.word_base.specs.Files.{Unchanged};
 ghost use Rattle.cc_driver.specs.Run.{Ran, RunsTo, BytesRefused, RunRefused};
 
-use crate::fault::RunFault;
 use crate::files::fetch_both;
 use c25_image::{read_image, read_ports};
 use c25_isa::{RunOutcome, Start};
 use c25_sim::Machine;
+use cc_text::RunFault;
 use std::alloc::Global;
 use word_base::Shelf;
 

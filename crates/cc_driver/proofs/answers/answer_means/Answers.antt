@@ -1,6 +1,6 @@
 use Rattle.std.proofs.Common.{◌∙◌, ap, inr}
 use Rattle.cc_driver.specs.Answer.{PutNothing}
-use Rattle.cc_driver.specs.MeansText.{means_status}
+use Rattle.cc_text.specs.MeansText.{means_status}
 use Rattle.cc_driver.specs.MeansAnswer.{Meaning, NoMeaning}
 use Rattle.cc_driver.proofs.MeansLemmas.{meaning_decides, not_refused, refused_decides}
 use Rattle.cc_driver.proofs.answers.answer_means.Goals as goal

@@ -1,5 +1,5 @@
 use Rattle.cc_driver.specs.Answer.{PutNothing}
-use Rattle.cc_driver.proofs.LineLemmas.{line_behind}
+use Rattle.cc_text.proofs.LineLemmas.{line_behind}
 use Rattle.cc_driver.proofs.answers.put_answer.Goals as goal
 
 pub returns-in-Err-NoMemory : goal.returns-in-Err-NoMemory

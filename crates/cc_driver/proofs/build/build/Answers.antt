@@ -5,8 +5,8 @@ use Rattle.c_tree.specs.ProgramView.{program_of}
 use Rattle.c25_isa.specs.Agrees.{Agrees}
 use Rattle.c25_image.specs.ImageText.{image_text}
 use Rattle.c25_image.specs.ImageFaults.{IsWhole}
-use Rattle.cc_driver.specs.SourceFaults.{HasProgram}
-use Rattle.cc_driver.specs.Thin.{thin_program}
+use Rattle.cc_text.specs.SourceFaults.{HasProgram}
+use Rattle.cc_thin.specs.Thin.{thin_program}
 use Rattle.cc_driver.proofs.build.build.Goals as goal
 
 pub returns-in-Ok-store-clause-done : goal.returns-in-Ok-store-clause-done

@@ -1,16 +1,16 @@
 use Rattle.std.proofs.Common.{ℕ, Bool, List, lit<, refl, sym, subst}
 use Rattle.cc_driver.specs.Build.{IsToldWith, IsAccepted, IsWithoutTypes, IsRefusedFor}
 use Rattle.cc_driver.specs.BuildAnswer.{RefusesFor}
-use Rattle.cc_driver.specs.SourceFaults.{IsOfTypes, IsSameFault}
-use Rattle.cc_driver.specs.Line.{Puts, Sinks, status_line}
+use Rattle.cc_text.specs.SourceFaults.{IsOfTypes, IsSameFault}
+use Rattle.cc_text.specs.Line.{Puts, Sinks, status_line}
 use Rattle.cc_driver.proofs.WordsLemmas.{on_means, same_source}
 use Rattle.cc_driver.specs.Run.{AtFetch}
 use Rattle.cc_driver.specs.RunAnswer.{Refuse}
-use Rattle.cc_driver.specs.declared.fault.RunFault.TheVariants as fault
+use Rattle.cc_text.specs.declared.fault.RunFault.TheVariants as fault
 use Rattle.cc_driver.proofs.StatusLemmas.{run_status, means_has_status}
 use Rattle.cc_driver.specs.Means.{AtSourceFetch}
 use Rattle.cc_driver.specs.MeansAnswer.{NoMeaning}
-use Rattle.cc_driver.specs.declared.fault.MeansFault.TheVariants as means_fault
+use Rattle.cc_text.specs.declared.fault.MeansFault.TheVariants as means_fault
 use Rattle.cc_driver.proofs.command.c25cc.Goals as goal
 
 pub returns-in-Err-clause-statuses : goal.returns-in-Err-clause-statuses

@@ -1,0 +1,5 @@
+pub mod SourceFaults
+pub mod CommandFaults
+pub mod Line
+pub mod RunText
+pub mod MeansText

@@ -1,0 +1,49 @@
+-- The statuses and the lines of what a source means (docs/COMMANDS.md, "means").
+use Rattle.std.specs.Prelude.{ℕ, List, ◌++◌, codes, decimal}
+use Rattle.word_base.specs.declared.outcome.UndefinedKind.{UndefinedKind}
+use Rattle.word_base.specs.declared.outcome.UndefinedKind.TheVariants as kinds
+use Rattle.word_base.specs.declared.outcome.Outcome.{Outcome}
+use Rattle.word_base.specs.declared.outcome.Outcome.TheVariants.{Ended, More, Undefined}
+use Rattle.word_base.specs.Outcome.{outputs_of}
+use Rattle.c25_image.specs.Lines.{with_feed}
+use Rattle.c25_image.specs.OutsText.{outs_text}
+use Rattle.cc_text.specs.RunText.{ending_line, running_line, fault_line, fault_status}
+use Rattle.cc_text.specs.SourceFaults.{source_line}
+use Rattle.cc_text.specs.declared.fault.MeansFault.{MeansFault}
+use Rattle.cc_text.specs.declared.fault.MeansFault.TheVariants as means
+
+abbrev pub kind_name : UndefinedKind → List ℕ
+kind_name kinds.Overflow = codes "overflow"
+kind_name kinds.DivideByZero = codes "divide by zero"
+kind_name kinds.ShiftCount = codes "shift count"
+kind_name kinds.Indeterminate = codes "indeterminate"
+kind_name kinds.BadPointer = codes "bad pointer"
+kind_name kinds.NoValue = codes "no value"
+
+abbrev pub undefined_line : UndefinedKind → ℕ → List ℕ
+undefined_line kind at = codes "undefined " ++ (kind_name kind ++ (codes " at byte " ++ decimal at))
+
+-- the line behind the outputs, where loops had so many turns
+abbrev pub outcome_line : ℕ → Outcome → List ℕ
+outcome_line turns (Ended outs ending) = ending_line ending
+outcome_line turns (More outs) = running_line turns (codes " turns")
+outcome_line turns (Undefined outs kind at) = undefined_line kind at
+
+-- the outputs, and the line behind them
+abbrev pub outcome_text : ℕ → Outcome → List ℕ
+outcome_text turns outcome = outs_text (outputs_of outcome) ++ with_feed (outcome_line turns outcome)
+
+-- the status where the answer was put
+abbrev pub outcome_status : Outcome → ℕ
+outcome_status (Ended outs ending) = 0
+outcome_status (More outs) = 6
+outcome_status (Undefined outs kind at) = 10
+
+-- the line of a refusal
+abbrev pub means_line : List ℕ → List ℕ → MeansFault → List ℕ
+means_line source ports (means.Files why) = fault_line source ports why
+means_line source ports (means.Source why) = source_line why
+
+abbrev pub means_status : MeansFault → ℕ
+means_status (means.Files why) = fault_status why
+means_status (means.Source why) = 1

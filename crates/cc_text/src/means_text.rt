@@ -1,0 +1,65 @@
+//! The text of what a source means.
+ghost use Rattle.std.specs.Prelude.{◌≡◌, ◌++◌, IfOk, OnOk};
+ghost use Rattle.cc_text.specs.MeansText.{kind_name, undefined_line, outcome_line, outcome_text};
+ghost use Rattle.word_base.specs.Outcome.{outputs_of};
+
+use crate::run_text::{push_ending, push_running};
+use c25_image::{push_decimal, write_outs};
+use std::alloc::Global;
+use word_base::{NoMemory, Outcome, PortWord, UndefinedKind};
+
+fn kind_name(kind: UndefinedKind) -> &'static str
+    ensures { result.now ≡ kind_name kind }
+{
+    match kind {
+        UndefinedKind::Overflow => "overflow",
+        UndefinedKind::DivideByZero => "divide by zero",
+        UndefinedKind::ShiftCount => "shift count",
+        UndefinedKind::Indeterminate => "indeterminate",
+        UndefinedKind::BadPointer => "bad pointer",
+        UndefinedKind::NoValue => "no value",
+    }
+}
+
+// The line of an undefined operation, without its line feed.
+fn push_undefined(text: &mut Vec<u8>, kind: UndefinedKind, at: u32) -> Result<(), NoMemory>
+    ensures { OnOk result (text.new.items ≡ text.old.items ++ undefined_line kind at) }
+{
+    text.extend_from_slice(b"undefined ")?;
+    text.extend_from_slice(kind_name(kind).as_bytes())?;
+    text.extend_from_slice(b" at byte ")?;
+    push_decimal(text, u64::from(at))?;
+    Ok(())
+}
+
+// The words that were put out.
+fn outputs_of(outcome: &Outcome) -> &[PortWord]
+    ensures { result.now ≡ outputs_of outcome.now }
+{
+    match outcome {
+        Outcome::Ended { outs, .. } | Outcome::More { outs } | Outcome::Undefined { outs, .. } => {
+            outs.words()
+        }
+    }
+}
+
+// The line behind the outputs, without its line feed.
+fn push_outcome(text: &mut Vec<u8>, outcome: &Outcome, turns: u32) -> Result<(), NoMemory>
+    ensures { OnOk result (text.new.items ≡ text.old.items ++ outcome_line turns outcome.now) }
+{
+    match outcome {
+        Outcome::Ended { ending, .. } => push_ending(text, *ending),
+        Outcome::More { .. } => push_running(text, u64::from(turns), " turns"),
+        Outcome::Undefined { kind, at, .. } => push_undefined(text, *kind, *at),
+    }
+}
+
+/// The outputs of what a source means within so many turns, and the line behind them.
+pub fn outcome_text(alloc: Global, outcome: &Outcome, turns: u32) -> Result<Vec<u8>, NoMemory>
+    ensures { IfOk result (λ text. text.items ≡ outcome_text turns outcome.now) }
+{
+    let mut text = write_outs(alloc, outputs_of(outcome))?;
+    push_outcome(&mut text, outcome, turns)?;
+    text.push(b'\n')?;
+    Ok(text)
+}

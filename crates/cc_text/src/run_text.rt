@@ -1,0 +1,83 @@
+//! The text that a run puts.
+ghost use Rattle.std.specs.Prelude.{◌≡◌, ◌++◌, IfOk, OnOk};
+ghost use Rattle.cc_text.specs.RunText.{trap_name, ending_line, trap_line, running_line, stop_line, answer_text};
+
+use c25_image::{push_decimal, push_hex, write_outs};
+use c25_isa::{RunOutcome, Stop, TrapKind};
+use std::alloc::Global;
+use word_base::{Ending, NoMemory};
+
+fn trap_name(kind: TrapKind) -> &'static str
+    ensures { result.now ≡ trap_name kind }
+{
+    match kind {
+        TrapKind::BadWord => "bad-word",
+        TrapKind::StackFull => "stack-full",
+        TrapKind::StackEmpty => "stack-empty",
+        TrapKind::Mode => "mode",
+        TrapKind::Divide => "divide",
+        TrapKind::Repeat => "repeat",
+        TrapKind::SameRegister => "same-register",
+        TrapKind::NoRam => "no-ram",
+    }
+}
+
+/// The line of an ending, without its line feed.
+pub fn push_ending(text: &mut Vec<u8>, ending: Ending) -> Result<(), NoMemory>
+    ensures { OnOk result (text.new.items ≡ text.old.items ++ ending_line ending) }
+{
+    match ending {
+        Ending::Returned(word) => {
+            text.extend_from_slice(b"returned ")?;
+            push_hex(text, word)?;
+        }
+        Ending::InputEnded(port) => {
+            text.extend_from_slice(b"input ")?;
+            push_decimal(text, u64::from(port))?;
+            text.extend_from_slice(b" ended")?;
+        }
+    }
+    Ok(())
+}
+
+// The line of a trap, without its line feed.
+fn push_trap(text: &mut Vec<u8>, kind: TrapKind, at: u16) -> Result<(), NoMemory>
+    ensures { OnOk result (text.new.items ≡ text.old.items ++ trap_line kind at) }
+{
+    text.extend_from_slice(b"trap ")?;
+    text.extend_from_slice(trap_name(kind).as_bytes())?;
+    text.extend_from_slice(b" at ")?;
+    push_hex(text, at)?;
+    Ok(())
+}
+
+/// The line of a run that went on behind so many of its steps or turns, without its line feed.
+pub fn push_running(text: &mut Vec<u8>, count: u64, what: &str) -> Result<(), NoMemory>
+    ensures { OnOk result (text.new.items ≡ text.old.items ++ running_line count what.now) }
+{
+    text.extend_from_slice(b"running after ")?;
+    push_decimal(text, count)?;
+    text.extend_from_slice(what.as_bytes())?;
+    Ok(())
+}
+
+// The line behind the outputs, without its line feed.
+fn push_stop(text: &mut Vec<u8>, stop: Stop, steps: u64) -> Result<(), NoMemory>
+    ensures { OnOk result (text.new.items ≡ text.old.items ++ stop_line steps stop) }
+{
+    match stop {
+        Stop::Ended(ending) => push_ending(text, ending),
+        Stop::Trap { kind, at } => push_trap(text, kind, at),
+        Stop::Running => push_running(text, steps, " steps"),
+    }
+}
+
+/// The outputs of a run of so many steps, and the line behind them.
+pub fn answer_text(alloc: Global, outcome: &RunOutcome, steps: u64) -> Result<Vec<u8>, NoMemory>
+    ensures { IfOk result (λ text. text.items ≡ answer_text steps outcome.now.outs outcome.now.stop) }
+{
+    let mut text = write_outs(alloc, outcome.outs.words())?;
+    push_stop(&mut text, outcome.stop, steps)?;
+    text.push(b'\n')?;
+    Ok(text)
+}

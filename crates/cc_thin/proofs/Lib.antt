@@ -1,0 +1,2 @@
+pub mod ThinRun
+pub mod ThinTree
