@@ -508,7 +508,7 @@ fn returned(
     at: u32,
     value: Operand,
 ) -> Result<TypedExpr, Refusal>
-    ensures { Follows expr_of (rules.returned kind at (operand_of value)) result }
+    ensures { Follows expr_of (rules.typed_return kind at (operand_of value)) result }
 {
     let Some(kind) = kind else {
         return Err(mismatch(at));

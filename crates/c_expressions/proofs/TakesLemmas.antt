@@ -8,7 +8,7 @@ use Rattle.c_syntax.specs.declared.token.TokenKind.TheVariants as token
 use Rattle.c_syntax.specs.declared.token.Keyword.{Keyword}
 use Rattle.c_syntax.specs.declared.token.Punct.{Punct}
 use Rattle.c_syntax.specs.Grammar.{IsMark, IsKeyword, place_of}
-use Rattle.c_syntax.specs.Derives.{IsName}
+use Rattle.c_syntax.specs.Derives.{IsNameToken}
 use Rattle.c_syntax.specs.Measures.{greatest}
 use Rattle.c_expressions.specs.Front.{behind, kind_mark, kind_word, kind_name, mark_at, word_at, name_at}
 use Rattle.c_expressions.specs.Takes.{Takes, IsOne, Both, Behind}
@@ -66,7 +66,7 @@ pub word_taken : (w : Keyword) (x y : List Token) → word_at x ≡ Some w → y
 word_taken w [] y e b = absurd cc
 word_taken w (t ∷ x) y e b = record { taken = t ∷ []; cut = ap (λ l. t ∷ l) (sym b); is = record { t = t; alone = refl; is = kind_worded t.kind w e } }
 
-pub name_taken : (name : List ℕ) (x y : List Token) → name_at x ≡ Some name → y ≡ behind x → Takes (IsOne (IsName name)) x y
+pub name_taken : (name : List ℕ) (x y : List Token) → name_at x ≡ Some name → y ≡ behind x → Takes (IsOne (IsNameToken name)) x y
 name_taken name [] y e b = absurd cc
 name_taken name (t ∷ x) y e b = record { taken = t ∷ []; cut = ap (λ l. t ∷ l) (sym b); is = record { t = t; alone = refl; is = kind_named t.kind name e } }
 

@@ -9,7 +9,7 @@ use Rattle.c_tree.specs.declared.program.VarRef.TheVariants.{Scalar, Local, Stat
 use Rattle.c_tree.specs.Store as runs
 use Rattle.c_tree.specs.Store.{World, Res, Gives, Finished, TooMany, Fails, give, store_value}
 use Rattle.c_tree.specs.Eval.{Env, object_number}
-use Rattle.c_tree.specs.Exec.{named, fresh, declare, enter}
+use Rattle.c_tree.specs.Exec.{named, fresh, make_object, enter}
 use Rattle.c_tree.specs.SourceRun.{pass}
 use Rattle.c_means.specs.declared.blocks.Opened.{Opened}
 use Rattle.c_means.specs.declared.value.Value.{Value}
@@ -52,7 +52,7 @@ numbered_twice ms ns (Fails kind at outs) = refl
 
 -- one name more is declared
 pub next_name : (declared : List VarRef) (k : ℕ) (d : VarRef) (env new : Env) (w after : World) (ns more : List ℕ) → k < length declared
-    → declare (fresh env.function (get_or declared k d)) (get_or declared k d) env w ≡ Gives (new, more) after
+    → make_object (fresh env.function (get_or declared k d)) (get_or declared k d) env w ≡ Gives (new, more) after
     → numbered (ns ++ more) (enter (drop (k + 1) declared) new after) ≡ numbered ns (enter (drop k declared) env w)
 next_name declared k d env new w after ns more within made =
     let rest = drop (k + 1) declared in

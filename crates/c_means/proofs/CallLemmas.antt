@@ -10,7 +10,7 @@ use Rattle.c_tree.specs.Store.{World, Res, Gives, TooMany, Does, after, ◌>>=�
 use Rattle.c_tree.specs.TypedTree.{Expr, Exprs, FunctionTree, none, more}
 use Rattle.c_tree.specs.Eval.{Calls, Env, value, values}
 use Rattle.c_tree.specs.Exec.{Flow, enter, leave, exec}
-use Rattle.c_tree.specs.SourceRun.{call_within, call_function, pass, no_names, result_of}
+use Rattle.c_tree.specs.SourceRun.{call_within, call_function, pass, nothing_named, result_of}
 use Rattle.c_tree.specs.ProgramView.{program_of}
 use Rattle.c_tree.specs.View.{function_of, argument_list, expr_of}
 use Rattle.c_tree.specs.declared.program.VarRef.{VarRef}
@@ -39,7 +39,7 @@ call_missing p n depth d f args w deep at =
 
 -- a body between the entry and the end of its parameters
 module _ (calls : Calls) (n : ℕ) (f : FunctionTree) (args : List runs.Value) (env : Env) (os : List ℕ) (w w1 w2 : World)
-    (entered : enter f.params (no_names f) w ≡ Gives (env, os) w1) (passed : pass f.params args env w1 ≡ Gives (tt {0}) w2) where
+    (entered : enter f.params (nothing_named f) w ≡ Gives (env, os) w1) (passed : pass f.params args env w1 ≡ Gives (tt {0}) w2) where
   starts : call_function calls n (Some f) args w ≡ after (exec calls n f.body env w2) (λ flow. leave os >>= λ _. give (result_of flow))
   starts =
       ap (λ r. after r (λ (e : Env × List ℕ). pass f.params args e.0 >>= λ _. exec calls n f.body e.0 >>= λ flow. leave e.1 >>= λ _. give (result_of flow))) entered
@@ -90,10 +90,10 @@ none_from (x ∷ es) (suc k) all = none_from es k (omega (arith, all))
 
 -- the parameters are the first names of a call
 pub entered_first : (r : Run) (names : Names) (declared : List VarRef) (w w1 : World) (given : Env × List ℕ) → declared ≡ r.function.now.params → names.scalars.items ≡ [] → names.locals.items ≡ []
-    → enter declared (env_in r names) w ≡ Gives given w1 → enter (function_of r.function.now).params (no_names (function_of r.function.now)) w ≡ Gives given w1
+    → enter declared (env_in r names) w ≡ Gives given w1 → enter (function_of r.function.now).params (nothing_named (function_of r.function.now)) w ≡ Gives given w1
 entered_first r names declared w w1 given same scalars locals is =
     let f = function_of r.function.now in
-    ap (λ (ps : List VarRef). enter ps (no_names f) w) (sym same)
+    ap (λ (ps : List VarRef). enter ps (nothing_named f) w) (sym same)
     ∙ ap {B = Res (Env × List ℕ)} (λ (e : Env). enter declared e w) (sym (ap (λ (s : List Name). record { function = f; scalar = numbers_in s; local = numbers_in names.locals.items }) scalars
     ∙ ap (λ (l : List Name). record { function = f; scalar = numbers_in []; local = numbers_in l }) locals))
     ∙ is

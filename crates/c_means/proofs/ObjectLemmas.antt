@@ -5,7 +5,7 @@ use Rattle.std.specs.List.{remove, AllWithin, HoldsAt}
 use Rattle.std.proofs.lemmas.Bool.{eqb-true, cases_eq}
 use Rattle.std.proofs.lemmas.Option.{slice_get-get_or, slice_get_read, slice_get_within, same_Some}
 use Rattle.c_means.specs.declared.value.Living.{Living}
-use Rattle.c_means.specs.Values.{object_of}
+use Rattle.c_means.specs.Values.{living_object}
 use Rattle.c_means.specs.Objects.{living_of, AreNumbered, IsFound}
 
 -- none of the objects has a number
@@ -49,7 +49,7 @@ numbered_lower (x ∷ os) lower low limit less numbered = (omega arith, numbered
 
 -- an object at a place has a number from the least on, and is that of its number
 pub found_at : (os : List Living) (low limit place : ℕ) (o : Living) → AreNumbered low limit os → slice_get os place ≡ Some o
-    → (low ≤ o.number) × (living_of os o.number ≡ Some (object_of o))
+    → (low ≤ o.number) × (living_of os o.number ≡ Some (living_object o))
 found_at [] low limit place o numbered at = absurd (cc at)
 found_at (x ∷ os) low limit zero o numbered at = (grind (arith, at, numbered.0), grind (arith, at))
 found_at (x ∷ os) low limit (suc place) o numbered at =
@@ -88,7 +88,7 @@ numbered_without (x ∷ os) low limit (suc place) o numbered at = (numbered.0, n
 
 -- the objects where one of them is changed
 pub changed : (os : List Living) (low limit place : ℕ) (o new : Living) → AreNumbered low limit os → slice_get os place ≡ Some o → new.number ≡ o.number → (k : ℕ)
-    → living_of (set os place new) k ≡ cond (k == o.number) (Some (object_of new)) (living_of os k)
+    → living_of (set os place new) k ≡ cond (k == o.number) (Some (living_object new)) (living_of os k)
 changed [] low limit place o new numbered at same k = absurd (cc at)
 changed (x ∷ os) low limit zero o new numbered at same k = grind (arith, at, same)
 changed (x ∷ os) low limit (suc place) o new numbered at same k =
@@ -104,7 +104,7 @@ numbered_changed (x ∷ os) low limit (suc place) o new numbered at same = (numb
 
 -- the objects and a new one
 pub added : (os : List Living) (low : ℕ) (o : Living) → AreNumbered low o.number os → (k : ℕ)
-    → living_of (os ++ o ∷ []) k ≡ cond (k == o.number) (Some (object_of o)) (living_of os k)
+    → living_of (os ++ o ∷ []) k ≡ cond (k == o.number) (Some (living_object o)) (living_of os k)
 added [] low o numbered k = refl
 added (x ∷ os) low o numbered k =
     let rest = added os (suc x.number) o numbered.1 k in

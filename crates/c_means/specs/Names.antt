@@ -6,12 +6,12 @@ use Rattle.c_means.specs.declared.value.Name.{Name}
 use Rattle.c_means.specs.declared.names.Names.{Names}
 
 -- the number of a name, or 0 where nothing stands for an object yet
-abbrev pub number_of : Option Name → ℕ
-number_of None = 0
-number_of (Some name) = name.number
+abbrev pub named_number : Option Name → ℕ
+named_number None = 0
+named_number (Some name) = name.number
 
 abbrev pub numbers_in : List Name → ℕ → ℕ
-numbers_in names n = number_of (slice_get names n)
+numbers_in names n = named_number (slice_get names n)
 
 abbrev pub env_of : FunctionTree → Names → Env
 env_of f names = record { function = f; scalar = numbers_in names.scalars.items; local = numbers_in names.locals.items }

@@ -3,12 +3,12 @@ use Rattle.std.specs.Prelude.{◌≡◌, ◌≤◌, ℕ, suc, ◌==◌, if◌the
 use Rattle.std.specs.Coded.{×_prop, le_prop}
 use Rattle.c_tree.specs.Store as runs
 use Rattle.c_means.specs.declared.value.Living.{Living}
-use Rattle.c_means.specs.Values.{object_of}
+use Rattle.c_means.specs.Values.{living_object}
 
 -- the object of a number
 abbrev pub living_of : List Living → ℕ → Option runs.Obj
 living_of [] k = None
-living_of (o ∷ os) k = if k == o.number then Some (object_of o) else living_of os k
+living_of (o ∷ os) k = if k == o.number then Some (living_object o) else living_of os k
 
 -- the numbers rise, from low on and below a limit
 abbrev pub AreNumbered : ℕ → ℕ → List Living → Type 0

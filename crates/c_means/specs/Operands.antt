@@ -7,7 +7,7 @@ use Rattle.c_means.specs.declared.value.Value as code
 use Rattle.c_means.specs.declared.value.Stop.{Stop}
 use Rattle.c_means.specs.Values.{value_of}
 use Rattle.c_means.specs.Worlds.{Stops}
-use Rattle.c_tree.specs.Eval.{Calls, Env, where_living, ordering, equality, eval, value, need, test_of, place_of}
+use Rattle.c_tree.specs.Eval.{Calls, Env, where_living, ordering, equality, eval, value, need, test_of, expression_place}
 
 -- an index, where it is from 0 to a length
 abbrev pub index_in : ℕ → ℤ → Option ℕ
@@ -29,7 +29,7 @@ IsAnswer does (Err s) = (w : World) → Stops (does w) w.outs s
 
 -- the value of an expression, which is missed where there is none
 abbrev pub needed : Calls → Env → Expr → Does Value
-needed calls env e = eval calls env e >>= need (place_of e)
+needed calls env e = eval calls env e >>= need (expression_place e)
 
 -- whether the value of an operand is true, tested at a place
 abbrev pub tested : Calls → Env → Expr → ℕ → Does Bool

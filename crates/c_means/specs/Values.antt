@@ -16,13 +16,13 @@ abbrev pub option_of : Option Value → Option runs.Value
 option_of None = None
 option_of (Some v) = Some (value_of v)
 
-abbrev pub cell_of : Cell → runs.Cell
-cell_of cells.Unset = runs.Unset
-cell_of (cells.Holds v) = runs.Holds (value_of v)
+abbrev pub cell_view : Cell → runs.Cell
+cell_view cells.Unset = runs.Unset
+cell_view (cells.Holds v) = runs.Holds (value_of v)
 
 abbrev pub option_cell_of : Option Cell → Option runs.Cell
 option_cell_of None = None
-option_cell_of (Some c) = Some (cell_of c)
+option_cell_of (Some c) = Some (cell_view c)
 
-abbrev pub object_of : Living → runs.Obj
-object_of o = record { cells = map cell_of o.cells.items; kind = o.kind }
+abbrev pub living_object : Living → runs.Obj
+living_object o = record { cells = map cell_view o.cells.items; kind = o.kind }

@@ -109,7 +109,7 @@ impl State {
         names: &mut Names,
         reference: VarRef,
     ) -> Result<Option<Opened>, NoMemory>
-        ensures declared { IfOk result (λ opened. exec.declare (exec.fresh (function_of run.now.function.now) reference) reference (env_in run.now names.old) (world_of self.old) ≡ Gives (env_in run.now names.new, numbers_of (option_to_list opened)) (world_of self.new)) }
+        ensures declared { IfOk result (λ opened. exec.make_object (exec.fresh (function_of run.now.function.now) reference) reference (env_in run.now names.old) (world_of self.old) ≡ Gives (env_in run.now names.new, numbers_of (option_to_list opened)) (world_of self.new)) }
         ensures back { IfOk result (λ opened. put_back (env_in run.now names.new) (option_to_list opened) ≡ env_in run.now names.old) }
     {
         let Some(fresh) = object_of(run.alloc, run.function, reference)? else {

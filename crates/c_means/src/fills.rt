@@ -3,7 +3,7 @@ ghost use Rattle.std.specs.Prelude.{◌≡◌, map, replicate, IfOk};
 ghost use Rattle.c_tree.specs.Store as runs;
 ghost use Rattle.c_tree.specs.Exec.{initial_cell, zero_of, set_cells};
 ghost use Rattle.c_tree.specs.View.{object_of};
-ghost use Rattle.c_means.specs.Values.{cell_of};
+ghost use Rattle.c_means.specs.Values.{cell_view};
 
 use crate::names::static_name;
 use crate::value::{Cell, Spot, Value};
@@ -13,14 +13,14 @@ use word_base::NoMemory;
 
 /// So many cells, none of which was written.
 pub(crate) fn unset(alloc: Global, length: u16) -> Result<Vec<Cell>, NoMemory>
-    ensures { IfOk result (λ cells. map cell_of cells.items ≡ replicate length runs.Unset) }
+    ensures { IfOk result (λ cells. map cell_view cells.items ≡ replicate length runs.Unset) }
 {
     Ok(vec![in alloc; Cell::Unset; usize::from(length)]?)
 }
 
 /// The listed cells of an object, and zeros or null pointers behind them.
 pub(crate) fn listed(alloc: Global, object: &Object) -> Result<Vec<Cell>, NoMemory>
-    ensures { IfOk result (λ cells. map cell_of cells.items ≡ set_cells (object_of object.now)) }
+    ensures { IfOk result (λ cells. map cell_view cells.items ≡ set_cells (object_of object.now)) }
 {
     let length = usize::from(object.length);
     let mut cells = Vec::with_capacity(alloc, length)?;
@@ -35,7 +35,7 @@ pub(crate) fn listed(alloc: Global, object: &Object) -> Result<Vec<Cell>, NoMemo
 
 // What a listed cell starts with.
 fn first(initial: Initial) -> Cell
-    ensures { cell_of result ≡ initial_cell initial }
+    ensures { cell_view result ≡ initial_cell initial }
 {
     Cell::Holds(match initial {
         Initial::Word(word) => Value::Word(word),
@@ -49,7 +49,7 @@ fn first(initial: Initial) -> Cell
 
 // What a cell past the list starts with.
 fn zero(kind: ScalarType) -> Cell
-    ensures { cell_of result ≡ zero_of kind }
+    ensures { cell_view result ≡ zero_of kind }
 {
     Cell::Holds(if kind.stars > 0 {
         Value::Null

@@ -1,7 +1,7 @@
 //! The objects of a run: ISO 9899:1990 6.1.2.4. Objects of blocks live one within another, so the living ones stand on a stack.
 ghost use Rattle.std.specs.Prelude.{◌≡◌, [], length, map, IfOk, OnOk, MatchOption, option_map, None};
 ghost use Rattle.c_means.specs.Objects.{AreNumbered, AreNumbered-prop, living_of, IsFound};
-ghost use Rattle.c_means.specs.Values.{cell_of, option_cell_of, value_of};
+ghost use Rattle.c_means.specs.Values.{cell_view, option_cell_of, value_of};
 
 use crate::value::{Cell, Living, Name, Value};
 use c_tree::ScalarType;
@@ -35,7 +35,7 @@ impl Store {
 
     /// A new object of a type with these cells.
     pub(crate) fn make(&mut self, kind: ScalarType, cells: Vec<Cell>) -> Result<Name, NoMemory>
-        ensures made { OnOk result (store_of self.new ≡ runs.with_new (record { cells = map cell_of cells.items; kind = kind }) (store_of self.old)) }
+        ensures made { OnOk result (store_of self.new ≡ runs.with_new (record { cells = map cell_view cells.items; kind = kind }) (store_of self.old)) }
         ensures number { IfOk result (λ name. name.number ≡ self.old.made) }
     {
         let name = Name {
@@ -94,7 +94,7 @@ impl Store {
 
     /// An object gets these cells, where it lives.
     pub(crate) fn fill(&mut self, object: Name, cells: Vec<Cell>)
-        ensures { store_of self.new ≡ runs.with_object object.number (cells_set (living_of self.old.objects.items object.number) (map cell_of cells.items)) (store_of self.old) }
+        ensures { store_of self.new ≡ runs.with_object object.number (cells_set (living_of self.old.objects.items object.number) (map cell_view cells.items)) (store_of self.old) }
     {
         if let Some(place) = find(&self.objects, object) {
             self.objects[place].cells = cells;

@@ -12,7 +12,7 @@ use Rattle.c_objects.specs.declared.first_values.Starts.TheVariants as first
 use Rattle.c_operands.specs.OperandView.{operand_of}
 use Rattle.c_rules.specs.Declarations.{Entry}
 use Rattle.c_rules.specs.Units.{Starts, NoStart, One, Braced}
-use Rattle.c_rules.specs.Statements.{Initialiser, Absent, Value, Listed, Misbraced, Start}
+use Rattle.c_rules.specs.Statements.{Initialiser, Absent, Value, Listed, Misbraced, ObjectStart}
 
 abbrev pub entry_of : listed.Entry → Entry
 entry_of e = record { operand = operand_of e.operand; initial = e.initial }
@@ -28,8 +28,8 @@ abbrev pub first_value : Option TypedStmt → List Stmt
 first_value None = []
 first_value (Some s) = stmt_of s ∷ []
 
-abbrev pub start_of : starts.Start → Start
-start_of s = record { values = s.values; statements = first_value s.statement }
+abbrev pub object_start_of : starts.Start → ObjectStart
+object_start_of s = record { values = s.values; statements = first_value s.statement }
 
 abbrev pub starts_of : given.Starts → Starts
 starts_of first.Absent = NoStart

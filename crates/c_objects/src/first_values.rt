@@ -4,7 +4,7 @@ ghost use Rattle.std.specs.Prelude.{◌≡◌, Some, None, map};
 ghost use Rattle.c_rules.specs.Declarations as rules;
 ghost use Rattle.c_rules.specs.Statements as blocks;
 ghost use Rattle.c_operands.specs.OperandView.{operand_of};
-ghost use Rattle.c_objects.specs.InitialiserView.{entry_of, initialiser_of, start_of, starts_of};
+ghost use Rattle.c_objects.specs.InitialiserView.{entry_of, initialiser_of, object_start_of, starts_of};
 ghost use Rattle.c_rules.specs.Units as units;
 
 use c_operands::{Operand, given};
@@ -91,7 +91,7 @@ fn listed(
     at: u32,
     entries: Vec<Entry>,
 ) -> Result<Items<Initial>, Refusal>
-    ensures { Follows (λ is. is) (rules.listed kind length at (map entry_of entries.items)) result }
+    ensures { Follows (λ is. is) (rules.array_list kind length at (map entry_of entries.items)) result }
 {
     if entries.len() > usize::from(length) {
         return Err(mismatch(at));
@@ -108,7 +108,7 @@ fn scalar_start(
     at: u32,
     value: Operand,
 ) -> Result<Start, Refusal>
-    ensures { Follows start_of (blocks.started reference (ObjectType.Single kind) at (blocks.Value (operand_of value))) result }
+    ensures { Follows object_start_of (blocks.started reference (ObjectType.Single kind) at (blocks.Value (operand_of value))) result }
 {
     let value = given(alloc, kind, at, value)?;
     let form = ExprForm::Assign {
@@ -137,7 +137,7 @@ fn array_start(
     at: u32,
     entries: Vec<Entry>,
 ) -> Result<Start, Refusal>
-    ensures { Follows start_of (blocks.started reference (ObjectType.Array kind length) at (blocks.Listed (map entry_of entries.items))) result }
+    ensures { Follows object_start_of (blocks.started reference (ObjectType.Array kind length) at (blocks.Listed (map entry_of entries.items))) result }
 {
     let values = listed(alloc, kind, length, at, entries)?;
     Ok(Start {
@@ -154,7 +154,7 @@ pub fn started(
     at: u32,
     initialiser: Initialiser,
 ) -> Result<Start, Refusal>
-    ensures { Follows start_of (blocks.started reference object_type at (initialiser_of initialiser)) result }
+    ensures { Follows object_start_of (blocks.started reference object_type at (initialiser_of initialiser)) result }
 {
     match (object_type, initialiser) {
         (_, Initialiser::Absent) => Ok(Start {

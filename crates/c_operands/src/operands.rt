@@ -120,7 +120,7 @@ fn equality(
     left_null: bool,
     right_null: bool,
 ) -> Result<TypedExpr, Refusal>
-    ensures { Follows expr_of (rules.equality op at (left_of pair left_null) (right_of pair right_null)) result }
+    ensures { Follows expr_of (rules.typed_equality op at (left_of pair left_null) (right_of pair right_null)) result }
 {
     let pair = met(alloc, at, pair, left_null, right_null)?;
     Ok(binary_node(op, at, Some(INT), pair))
@@ -270,7 +270,7 @@ pub fn behind(
     left: TypedExpr,
     right: TypedExpr,
 ) -> Result<TypedExpr, Refusal>
-    ensures typed { IfOk result (λ e. expr_of e ≡ rules.behind at (expr_of left) (expr_of right)) }
+    ensures typed { IfOk result (λ e. expr_of e ≡ rules.typed_comma at (expr_of left) (expr_of right)) }
     ensures memory { IfErr result (λ f. f ≡ refusals.NoMemory) }
 {
     let pair = boxed(alloc, left, right)?;
@@ -295,7 +295,7 @@ pub fn sized(length: Option<u16>, at: u32, value: &TypedExpr) -> Result<TypedExp
 
 /// A constant: 6.1.3.2. One that isn't marked as unsigned is an int where it fits, and a decimal one has to fit.
 pub fn number(value: u32, marked: bool, decimal: bool, at: u32) -> Result<TypedExpr, Refusal>
-    ensures { Follows expr_of (rules.number value marked decimal at) result }
+    ensures { Follows expr_of (rules.typed_number value marked decimal at) result }
 {
     let Ok(value) = u16::try_from(value) else {
         return Err(long_constant(at));

@@ -8,7 +8,7 @@ use Rattle.c_syntax.specs.declared.token.Punct.TheVariants as mark
 use Rattle.c_syntax.specs.declared.syntax.SpecWord.{SpecWord}
 use Rattle.c_syntax.specs.SyntaxTree.{Expression, InitialTree, Braced, ItemTree, ItemForm, Parameters, DeclarationTree, ParameterTree, ParametersTree}
 use Rattle.c_syntax.specs.Grammar.{ConditionalRow, IsMark, IsKeyword, place_of, AreSpecs, LastSpec, MoreSpecs, AreStars}
-use Rattle.c_syntax.specs.Derives.{IsName, IsLastComma, DerivesSpecs, DerivesOptional, DerivesList, DerivesInitial, BracedRule, DerivesInitialiser, DerivesArray, ArrayRule, DerivesArrayMark, DerivesName, DerivesParameter, DerivesParameterList, DerivesParameters, VoidRule, ParametersRule, DerivesForm, FunctionRule, DerivesItem, DerivesItems, DerivesDeclaration}
+use Rattle.c_syntax.specs.Derives.{IsNameToken, IsLastComma, DerivesSpecs, DerivesOptional, DerivesList, DerivesInitial, BracedRule, DerivesInitialiser, DerivesArray, ArrayRule, DerivesArrayMark, DerivesName, DerivesParameter, DerivesParameterList, DerivesParameters, VoidRule, ParametersRule, DerivesForm, FunctionRule, DerivesItem, DerivesItems, DerivesDeclaration}
 use Rattle.c_expressions.specs.Front.{behind, is_void_word, is_void_alone, is_separator_at, is_separator_kind, is_close_kind, is_void_kind}
 use Rattle.c_expressions.specs.Takes.{Takes, IsOne, Both, Behind}
 use Rattle.c_parser.specs.DeclarationRows.{IsItemFront, ListGoesOn}
@@ -112,7 +112,7 @@ item_row x front taken f i = record {
   place = f.place ∙ ap place_of f.cut ∙ sym (front_place f.a f.t f.b taken) ∙ sym (ap (λ l. place_of (l ++ taken)) f.cut);
 }
 
-pub item_front : (stars : ℕ) (name : List ℕ) (form : ItemForm) (at : ℕ) {k l m n : List Token} → Takes (λ a. AreStars a stars) k l → Takes (IsOne (IsName name)) l m → Takes (λ a. DerivesForm a form) m n
+pub item_front : (stars : ℕ) (name : List ℕ) (form : ItemForm) (at : ℕ) {k l m n : List Token} → Takes (λ a. AreStars a stars) k l → Takes (IsOne (IsNameToken name)) l m → Takes (λ a. DerivesForm a form) m n
     → length n < length k → at ≡ place_of k → Takes (IsItemFront stars name form at) k n
 item_front stars name form at p q r h e = let all = joined p (joined q r) in record {
   taken = all.taken;

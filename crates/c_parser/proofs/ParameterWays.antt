@@ -7,7 +7,7 @@ use Rattle.c_syntax.specs.declared.token.TokenKind.{TokenKind}
 use Rattle.c_syntax.specs.declared.token.TokenKind.TheVariants as token
 use Rattle.c_syntax.specs.declared.token.Keyword.TheVariants as keyword
 use Rattle.c_syntax.specs.Grammar.{IsKeyword, AreSpecs, LastSpec, MoreSpecs, AreStars, NoStar, MoreStars}
-use Rattle.c_syntax.specs.Derives.{IsName, ArrayRule, DerivesName, DerivesArrayMark, DerivesParameterList, LastParameter, DerivesParameters, VoidRule, ParametersRule}
+use Rattle.c_syntax.specs.Derives.{IsNameToken, ArrayRule, DerivesName, DerivesArrayMark, DerivesParameterList, LastParameter, DerivesParameters, VoidRule, ParametersRule}
 use Rattle.c_syntax.specs.Derives as rows
 use Rattle.c_syntax.specs.SyntaxTree.{ParameterTree, ParametersTree}
 use Rattle.c_syntax.specs.Measures.{greatest, array_height, parameter_height, parameters_height}
@@ -45,7 +45,7 @@ parameter_list_ways depth b after f = parameters_cut depth b f.taken after f.tre
 
 -- ---- parts of parameters
 
-name_taken_at : {r : List Token} {t : Token} {name : List ℕ} → r ≡ t ∷ [] → IsName name t → (after : List Token) → name_at (r ++ after) ≡ Some name
+name_taken_at : {r : List Token} {t : Token} {name : List ℕ} → r ≡ t ∷ [] → IsNameToken name t → (after : List Token) → name_at (r ++ after) ≡ Some name
 name_taken_at cut h after = ap (λ l. name_at (l ++ after)) cut ∙ ap kind_name h
 
 no_name_cut : (b taken after : List Token) (x : Option (List ℕ)) → DerivesName taken x → b ≡ taken ++ after → name_at b ≡ None → after ≡ b

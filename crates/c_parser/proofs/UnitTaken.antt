@@ -4,7 +4,7 @@ use Rattle.c_syntax.specs.declared.token.Token.{Token}
 use Rattle.c_syntax.specs.declared.token.Punct.TheVariants as mark
 use Rattle.c_syntax.specs.SyntaxTree.{SpecsTree, ParametersTree, ItemForm, ItemTree, DeclarationTree, Statements, Block, FunctionSyntax, Defined, Declared}
 use Rattle.c_syntax.specs.Grammar.{IsMark, AreSpecs, LastSpec, MoreSpecs, AreStars, place_of}
-use Rattle.c_syntax.specs.Derives.{IsName, DerivesSpecs, FunctionRule, DerivesItem, DerivesDeclaration, Closed, DerivesStatement, BlockRule, DerivesFunction, DerivesExternal}
+use Rattle.c_syntax.specs.Derives.{IsNameToken, DerivesSpecs, FunctionRule, DerivesItem, DerivesDeclaration, Closed, DerivesStatement, BlockRule, DerivesFunction, DerivesExternal}
 use Rattle.c_expressions.specs.Takes.{Takes, IsOne, Both, Behind}
 use Rattle.c_parser.specs.DeclarationRows.{IsItemFront}
 use Rattle.c_parser.specs.StatementRows.{IsBody}
@@ -38,7 +38,7 @@ no_words d = words_some d refl
     words_some (MoreSpecs h more) e = cc
 
 pub head_taken : {k l m n o : List Token} (specs : SpecsTree) (stars : ℕ) (name : List ℕ) (parameters : ParametersTree)
-    → Takes (λ a. DerivesSpecs a specs) k l → Takes (λ a. AreStars a stars) l m → Takes (IsOne (IsName name)) m n → Takes (λ a. IsListed a parameters) n o → Takes (IsFunctionHead specs stars name parameters) k o
+    → Takes (λ a. DerivesSpecs a specs) k l → Takes (λ a. AreStars a stars) l m → Takes (IsOne (IsNameToken name)) m n → Takes (λ a. IsListed a parameters) n o → Takes (IsFunctionHead specs stars name parameters) k o
 head_taken specs stars name parameters p q r s =
     let all = joined p (joined q (joined r s)) in
     let x = all.is in

@@ -5,7 +5,7 @@ use Rattle.c_syntax.specs.declared.token.Punct.{Punct}
 use Rattle.c_syntax.specs.declared.token.Punct.TheVariants as mark
 use Rattle.c_syntax.specs.SyntaxTree.{Expression}
 use Rattle.c_syntax.specs.Grammar.{ConditionalRow, IsMark}
-use Rattle.c_syntax.specs.Derives.{IsName, IsLastComma, DerivesOptional, DerivesList, DerivesInitial, DerivesArray, DerivesArrayMark, DerivesName, DerivesParameter, DerivesParameterList, DerivesParameters, DerivesForm, DerivesInitialiser, DerivesItem, DerivesItems, DerivesDeclaration}
+use Rattle.c_syntax.specs.Derives.{IsNameToken, IsLastComma, DerivesOptional, DerivesList, DerivesInitial, DerivesArray, DerivesArrayMark, DerivesName, DerivesParameter, DerivesParameterList, DerivesParameters, DerivesForm, DerivesInitialiser, DerivesItem, DerivesItems, DerivesDeclaration}
 use Rattle.c_syntax.specs.Measures.{greatest, expression_height, optional_height, array_height, parameter_height, parameters_height, item_form_height, initial_height, item_height, declaration_height}
 use Rattle.c_expressions.specs.Front.{mark_at, name_at}
 use Rattle.c_expressions.specs.Fronts.{Front, Then, One}
@@ -70,7 +70,7 @@ ParameterFront depth = Front DerivesParameter EndsParameter parameter_height dep
 
 -- a token that is a name
 abbrev pub IsAnyName : Token → Type 0
-IsAnyName t = (name : List ℕ) × IsName name t
+IsAnyName t = (name : List ℕ) × IsNameToken name t
 
 abbrev pub NameFront : List Token → List Token → Type 0
 NameFront = Front DerivesName (λ r. name_at r ≡ None) (λ _. 0) 0

@@ -4,7 +4,7 @@ use Rattle.c_syntax.specs.declared.token.Token.{Token}
 use Rattle.c_syntax.specs.declared.token.Punct.TheVariants as mark
 use Rattle.c_syntax.specs.SyntaxTree.{ItemForm}
 use Rattle.c_syntax.specs.Grammar.{IsMark, AreStars, place_of}
-use Rattle.c_syntax.specs.Derives.{IsName, IsLastComma, DerivesForm}
+use Rattle.c_syntax.specs.Derives.{IsNameToken, IsLastComma, DerivesForm}
 use Rattle.c_expressions.specs.Takes.{Takes, IsOne}
 
 -- the front of an item: its stars, its name and what stands behind it
@@ -14,7 +14,7 @@ pub record IsItemFront (stars : ℕ) (name : List ℕ) (form : ItemForm) (at : �
   pub b : List Token
   pub cut : tokens ≡ a ++ t ∷ b
   pub are_stars : AreStars a stars
-  pub is_name : IsName name t
+  pub is_name : IsNameToken name t
   pub is_form : DerivesForm b form
   pub place : at ≡ place_of tokens
 

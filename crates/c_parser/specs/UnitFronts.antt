@@ -4,7 +4,7 @@ use Rattle.c_syntax.specs.declared.token.Token.{Token}
 use Rattle.c_syntax.specs.declared.token.Punct.TheVariants as mark
 use Rattle.c_syntax.specs.SyntaxTree.{SpecsTree, ParametersTree, Parameters, UnitTree}
 use Rattle.c_syntax.specs.Grammar.{IsMark, AreStars}
-use Rattle.c_syntax.specs.Derives.{IsName, DerivesSpecs, DerivesForm, DerivesExternal, DerivesUnit}
+use Rattle.c_syntax.specs.Derives.{IsNameToken, DerivesSpecs, DerivesForm, DerivesExternal, DerivesUnit}
 use Rattle.c_syntax.specs.Measures.{greatest, parameters_height, external_height, greatest_height}
 use Rattle.c_expressions.specs.Fronts.{Front, Then, One}
 use Rattle.c_parser.specs.DeclarationFronts.{FormFront, InitialiserFront, MoreItems}
@@ -54,5 +54,5 @@ pub record IsFunctionHead (specs : SpecsTree) (stars : ℕ) (name : List ℕ) (p
   pub cut : tokens ≡ a ++ b ++ n ∷ c
   pub are_specs : DerivesSpecs a specs
   pub are_stars : AreStars b stars
-  pub is_name : IsName name n
+  pub is_name : IsNameToken name n
   pub listed : IsListed c parameters

@@ -4,7 +4,7 @@ ghost use Rattle.c_expressions.specs.Front.{behind, mark_at};
 ghost use Rattle.c_syntax.specs.declared.token.Punct.TheVariants as mark;
 ghost use Rattle.c_syntax.specs.SyntaxTree.{Braced};
 ghost use Rattle.c_syntax.specs.Grammar.{ConditionalRow, IsMark, place_of};
-ghost use Rattle.c_syntax.specs.Derives.{IsName, DerivesSpecs, DerivesOptional, DerivesList, DerivesInitial, DerivesArray, DerivesArrayMark, DerivesName, DerivesParameter, DerivesParameterList, DerivesParameters, DerivesForm, DerivesInitialiser, DerivesItem, DerivesItems, DerivesDeclaration, IsLastComma};
+ghost use Rattle.c_syntax.specs.Derives.{IsNameToken, DerivesSpecs, DerivesOptional, DerivesList, DerivesInitial, DerivesArray, DerivesArrayMark, DerivesName, DerivesParameter, DerivesParameterList, DerivesParameters, DerivesForm, DerivesInitialiser, DerivesItem, DerivesItems, DerivesDeclaration, IsLastComma};
 ghost use Rattle.c_syntax.specs.Measures.{greatest, expression_height, optional_height, array_height, parameter_height, parameters_height, item_form_height, initial_height, item_height, declaration_height};
 ghost use Rattle.c_syntax.specs.SyntaxView.{specs_of, expression_of, brackets_of, array_of, parameter_of, parameters_of, item_form_of, initial_of, item_of, declaration_of};
 ghost use Rattle.c_expressions.specs.Fronts.{NoFront, OnlyTo, Then, One};
@@ -113,7 +113,7 @@ fn item(parser: &mut Parser<'_>, depth: u32) -> Result<Tall<Item>, Refusal>
 
 /// A name.
 pub(crate) fn name(parser: &mut Parser<'_>) -> Result<Text, Refusal>
-    ensures tree { IfOk result (λ name. Takes (IsOne (IsName name)) parser.old.cursor parser.new.cursor) }
+    ensures tree { IfOk result (λ name. Takes (IsOne (IsNameToken name)) parser.old.cursor parser.new.cursor) }
     ensures fewer { IfOk result (λ _. length parser.new.cursor < length parser.old.cursor) }
     ensures refused { IfErr result (Refuses (NoFront (One IsAnyName) parser.old.cursor)) }
 {

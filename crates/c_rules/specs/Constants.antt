@@ -41,9 +41,9 @@ good (Good w) = Some w
 good (Bad kind) = None
 
 -- an operator on the words of one and of two operands, where they are there
-abbrev pub of_one : UnaryOp → Kind → Option ℕ → Option ℕ
-of_one o k None = None
-of_one o k (Some a) = good (if is_unsigned k then unsigned_unary o a else int_unary o a)
+abbrev pub word_of_one : UnaryOp → Kind → Option ℕ → Option ℕ
+word_of_one o k None = None
+word_of_one o k (Some a) = good (if is_unsigned k then unsigned_unary o a else int_unary o a)
 
 -- of two null pointers it is only known whether they are equal
 abbrev pub compares : BinaryOp → Bool
@@ -56,9 +56,9 @@ calculated o k l a b =
     if (points k || points l) && not (compares o) then None
     else good (if without_sign o k l then unsigned_binary o a b else int_binary o a b)
 
-abbrev pub of_two : BinaryOp → Kind → Kind → Option ℕ → Option ℕ → Option ℕ
-of_two o k l (Some a) (Some b) = calculated o k l a b
-of_two o k l a b = None
+abbrev pub word_of_two : BinaryOp → Kind → Kind → Option ℕ → Option ℕ → Option ℕ
+word_of_two o k l (Some a) (Some b) = calculated o k l a b
+word_of_two o k l a b = None
 
 -- the truth value of a word
 abbrev pub truth_of : Option ℕ → Option ℕ
@@ -73,8 +73,8 @@ tested (Some a) other zero_case = if a == 0 then zero_case else other
 -- the word of an expression that computes one from constants alone; that of the null pointer is 0
 abbrev pub word_of : Expr → Option ℕ
 word_of (Node (Const w) kind at) = Some w
-word_of (Node (Unary o e) kind at) = of_one o kind (word_of e)
-word_of (Node (Binary o a b) kind at) = of_two o (kind_of a) (kind_of b) (word_of a) (word_of b)
+word_of (Node (Unary o e) kind at) = word_of_one o kind (word_of e)
+word_of (Node (Binary o a b) kind at) = word_of_two o (kind_of a) (kind_of b) (word_of a) (word_of b)
 word_of (Node (And a b) kind at) = tested (word_of a) (truth_of (word_of b)) (Some 0)
 word_of (Node (Or a b) kind at) = tested (word_of a) (Some 1) (truth_of (word_of b))
 word_of (Node (Not a) kind at) = tested (word_of a) (Some 0) (Some 1)

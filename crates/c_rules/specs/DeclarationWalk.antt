@@ -14,7 +14,7 @@ use Rattle.c_rules.specs.declared.meaning.Declared.TheVariants as declares
 use Rattle.c_rules.specs.Scopes.{Scope, open_scope, is_taken}
 use Rattle.c_rules.specs.Typing.{plain, typing}
 use Rattle.c_rules.specs.Declarations.{parameter_kind, is_bad_length, is_name_taken, lacks_name, parameter, with_single, declarator, static_value}
-use Rattle.c_rules.specs.Statements.{Initialiser, initialiser, is_array, started, Opened, with_object, block_item, block_items}
+use Rattle.c_rules.specs.Statements.{Initialiser, initialiser, is_array, started, Opened, with_named_object, block_item, block_items}
 use Rattle.c_rules.specs.Visits.{Visit, visit, when, rule_of, by_one, by_two, visits_behind}
 use Rattle.c_rules.specs.ExpressionWalk.{plain_rules, constant_rules, rules, part_visits, visits, constant_visits}
 
@@ -75,8 +75,8 @@ block_item_rules s r item d i = when (is_taken s item.name) Redeclared ++ local_
 
 -- an initialiser sees the name of its item, where that can be declared
 abbrev pub block_declared_visits : Scope → VarRef → ItemTree → Declared → List Visit
-block_declared_visits s r item d = initial_visits (with_object s item.name r d) (is_array item.form) item.initial
-    ++ visit item.at (by_one (initialiser (with_object s item.name r d) (is_array item.form) item.initial) (block_item_rules s r item d)) ∷ []
+block_declared_visits s r item d = initial_visits (with_named_object s item.name r d) (is_array item.form) item.initial
+    ++ visit item.at (by_one (initialiser (with_named_object s item.name r d) (is_array item.form) item.initial) (block_item_rules s r item d)) ∷ []
 
 abbrev pub block_item_visits : Scope → VarRef → Base → ItemTree → List Visit
 block_item_visits s r b item = declarator_visits s item.form

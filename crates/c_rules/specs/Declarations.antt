@@ -111,19 +111,19 @@ index_in c (Node (Binary o x y) kind at) = constant c y
 index_in c x = None
 
 -- the cell of this index of the array that an operand names, and the address of an operand
-abbrev pub cell_of : Scope → Expression → Option ℕ → Option Initial
-cell_of s (tree.Node (tree.Name name) at) i = static_cell (s.meaning name) i
-cell_of s e i = None
+abbrev pub named_cell : Scope → Expression → Option ℕ → Option Initial
+named_cell s (tree.Node (tree.Name name) at) i = static_cell (s.meaning name) i
+named_cell s e i = None
 
 abbrev pub address_of : Scope → Expression → Expr → Option Initial
 address_of s (tree.Node (tree.Name name) at) x = static_scalar (s.meaning name)
-address_of s (tree.Node (tree.Index a c) at) x = cell_of s a (index_in c x)
+address_of s (tree.Node (tree.Index a c) at) x = named_cell s a (index_in c x)
 address_of s e x = None
 
 -- an address that is known before the program runs: an array's name, `&name`, `name + c` and `&name[c]`, 6.4
 abbrev pub static_address : Scope → Expression → Expr → Option Initial
 static_address s (tree.Node (tree.Name name) at) x = static_cell (s.meaning name) (Some 0)
-static_address s (tree.Node (tree.Binary op.Add a c) at) x = cell_of s a (index_in c x)
+static_address s (tree.Node (tree.Binary op.Add a c) at) x = named_cell s a (index_in c x)
 static_address s (tree.Node (tree.Prefix prefix.Address a) at) x = address_of s a x
 static_address s e x = None
 
@@ -165,5 +165,5 @@ cells kind at [] = Is []
 cells kind at (e ∷ es) = cell kind at e >>= λ i. cells kind at es >>= λ is. Is (i ∷ is)
 
 -- the list of an array
-abbrev pub listed : ScalarType → ℕ → ℕ → List Entry → Outcome (List Initial)
-listed kind n at es = breaks (nat_lt n (length es)) Mismatch at (cells kind at es)
+abbrev pub array_list : ScalarType → ℕ → ℕ → List Entry → Outcome (List Initial)
+array_list kind n at es = breaks (nat_lt n (length es)) Mismatch at (cells kind at es)

@@ -16,10 +16,10 @@ use Rattle.c_rules.specs.declared.meaning.Meaning.{Meaning}
 use Rattle.c_rules.specs.declared.meaning.Meaning.TheVariants as meanings
 use Rattle.c_rules.specs.Outcome.{Outcome, Is, Broken}
 use Rattle.c_rules.specs.Kinds.{is_void, class_of}
-use Rattle.c_rules.specs.Operands.{Operand, number, binary, both_true, either_true, picked, given, lvalue_of, takes, indexed, cast, sized, any_void, is_integer, is_word_first}
+use Rattle.c_rules.specs.Operands.{Operand, typed_number, binary, both_true, either_true, picked, given, lvalue_of, takes, indexed, cast, sized, any_void, is_integer, is_word_first}
 use Rattle.c_rules.specs.Constants.{constant}
 use Rattle.c_rules.specs.Scopes.{Scope, is_in, is_out}
-use Rattle.c_rules.specs.Typing.{Arguments, Operands, NoPort, Port, has, is_spelling, type_named, named, array_length, prefixed, is_address, operand, typing, arguments}
+use Rattle.c_rules.specs.Typing.{Arguments, Operands, NoPort, Port, has, is_spelling, type_named, typed_name, array_length, prefixed, is_address, operand, typing, arguments}
 use Rattle.c_rules.specs.Visits.{Visit, visit, when, rule_of, by_one, by_two, by_three}
 
 -- the words of a type, in which static has no place
@@ -112,8 +112,8 @@ size_visit t = visit t.specs.at (by_one (type_named t) (λ kind. when (is_void k
 module _ (s : Scope) where
   -- the rules that a node breaks, where its parts are typed
   abbrev pub rules : ExpressionForm → ℕ → List Rule
-  rules (tree.Name name) at = rule_of (named s name at)
-  rules (tree.Number value marked decimal) at = rule_of (number value marked decimal at)
+  rules (tree.Name name) at = rule_of (typed_name s name at)
+  rules (tree.Number value marked decimal) at = rule_of (typed_number value marked decimal at)
   rules (tree.Character value) at = []
   rules (tree.Index a b) at = by_two (typing s a) (typing s b) (λ x y. rule_of (indexed at x y))
   rules (tree.Call name es) at = by_one (arguments s name es) (call_rules s name at)

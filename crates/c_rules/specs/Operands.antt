@@ -6,7 +6,7 @@ use Rattle.c_syntax.specs.declared.operator.UnaryOp.{UnaryOp}
 use Rattle.c_syntax.specs.declared.operator.BinaryOp.{BinaryOp}
 use Rattle.c_syntax.specs.declared.operator.BinaryOp.TheVariants as op
 use Rattle.c_tree.specs.TypedTree.{Kind, Expr, Node, Lvalue, Named, At, Const, Read, AddressOf, Load, Unary, Binary, And, Or, Not, Pick, Assign, AssignOp, StepBefore, StepAfter, In, Out, Comma, Convert, Exprs, none, more}
-use Rattle.c_tree.specs.Eval.{kind_of, place_of}
+use Rattle.c_tree.specs.Eval.{kind_of, expression_place}
 use Rattle.c_tree.specs.WellFormed.{is_comparison}
 pub use Rattle.c_tree.specs.WellFormed.{moves}
 use Rattle.c_rules.specs.declared.fault.Rule.TheVariants.{Mismatch, NotLvalue, LongConstant, BadPort, ArgCount}
@@ -25,15 +25,15 @@ class_at x = class_of (kind_of x.value)
 
 -- a value as one of this type: a conversion stands where the types differ
 abbrev pub converted : ScalarType → Expr → Expr
-converted kind e = if same_kind (kind_of e) (Some kind) then e else Node (Convert e) (Some kind) (place_of e)
+converted kind e = if same_kind (kind_of e) (Some kind) then e else Node (Convert e) (Some kind) (expression_place e)
 
 -- the null pointer of a type, in the place of a value
 abbrev pub null_of : ScalarType → Expr → Expr
-null_of kind e = Node (Const 0) (Some kind) (place_of e)
+null_of kind e = Node (Const 0) (Some kind) (expression_place e)
 
 -- constants: 6.1.3.2
-abbrev pub number : ℕ → Bool → Bool → ℕ → Outcome Expr
-number value marked decimal at =
+abbrev pub typed_number : ℕ → Bool → Bool → ℕ → Outcome Expr
+typed_number value marked decimal at =
     if nat_lt 65535 value then Broken LongConstant at
     else if marked then Is (Node (Const value) (Some unsigned) at)
     else if nat_lt value 32768 then Is (Node (Const value) (Some int) at)
@@ -147,8 +147,8 @@ order_as Pointer Pointer o at x y = pointers o at x y
 order_as c d o at x y = Broken Mismatch at
 
 -- `==` and `!=`: 6.3.9
-abbrev pub equality : BinaryOp → ℕ → Operand → Operand → Outcome Expr
-equality o at x y = met at x y >>= λ p. Is (on_pair o at (Some int) p)
+abbrev pub typed_equality : BinaryOp → ℕ → Operand → Operand → Outcome Expr
+typed_equality o at x y = met at x y >>= λ p. Is (on_pair o at (Some int) p)
 
 -- an operator between two operands of these classes
 abbrev pub binary_as : BinaryOp → Class → Class → ℕ → Operand → Operand → Outcome Expr
@@ -162,8 +162,8 @@ binary_as op.Or c d at x y = product_as c d op.Or at x.value y.value
 binary_as op.Xor c d at x y = product_as c d op.Xor at x.value y.value
 binary_as op.Shl c d at x y = shift_as c d op.Shl at x.value y.value
 binary_as op.Shr c d at x y = shift_as c d op.Shr at x.value y.value
-binary_as op.Eq c d at x y = equality op.Eq at x y
-binary_as op.Ne c d at x y = equality op.Ne at x y
+binary_as op.Eq c d at x y = typed_equality op.Eq at x y
+binary_as op.Ne c d at x y = typed_equality op.Ne at x y
 binary_as op.Lt c d at x y = order_as c d op.Lt at x.value y.value
 binary_as op.Gt c d at x y = order_as c d op.Gt at x.value y.value
 binary_as op.Le c d at x y = order_as c d op.Le at x.value y.value
@@ -276,8 +276,8 @@ cast None at x = Is (Node (Convert x.value) None at)
 cast (Some kind) at x = cast_as (class_of (Some kind)) (class_at x) kind at x
 
 -- a comma: 6.3.17
-abbrev pub behind : ℕ → Expr → Expr → Expr
-behind at x y = Node (Comma x y) (kind_of y) at
+abbrev pub typed_comma : ℕ → Expr → Expr → Expr
+typed_comma at x y = Node (Comma x y) (kind_of y) at
 
 -- `sizeof`: 6.3.3.4; the length of an array, or one word
 abbrev pub sized : Option ℕ → ℕ → Expr → Outcome Expr

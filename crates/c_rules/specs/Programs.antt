@@ -113,11 +113,11 @@ abbrev pub functions_with : List (List VarRef) → List TypedFunction → List F
 functions_with (numbers ∷ rest) (f ∷ fs) = function_with numbers f ∷ functions_with rest fs
 functions_with numbers fs = []
 
-abbrev pub static_object : StaticTree → ObjectTree
-static_object s = record { name = s.name; length = cell_count s.object_type; kind = cell_kind s.object_type; initial = unwrap_or s.initial [] }
+abbrev pub object_tree : StaticTree → ObjectTree
+object_tree s = record { name = s.name; length = cell_count s.object_type; kind = cell_kind s.object_type; initial = unwrap_or s.initial [] }
 
 abbrev pub program_tree : File → ProgramTree
-program_tree file = record { statics = map static_object file.statics; functions = map function_tree file.functions }
+program_tree file = record { statics = map object_tree file.statics; functions = map function_tree file.functions }
 
 -- `int main(void)` is defined
 abbrev pub is_main : TypedFunction → Bool

@@ -41,6 +41,6 @@ abbrev pub is_taken : Scope → List ℕ → Bool
 is_taken s name = is_in name || is_out name || s.here name
 
 -- the length of the array that a name stands for
-abbrev pub array_of : Option Meaning → Option ℕ
-array_of (Some (meanings.Object reference (Array kind length))) = Some length
-array_of m = None
+abbrev pub length_of_array : Option Meaning → Option ℕ
+length_of_array (Some (meanings.Object reference (Array kind length))) = Some length
+length_of_array m = None

@@ -14,7 +14,7 @@ use Rattle.c_rules.specs.Kinds.{is_void, class_of}
 use Rattle.c_rules.specs.Operands.{is_integer}
 use Rattle.c_rules.specs.Scopes.{Scope, open_scope}
 use Rattle.c_rules.specs.Typing.{operand, typing}
-use Rattle.c_rules.specs.Statements.{LocalTree, Typed, Labelled, opened_in, declarations, may_break, may_continue, in_switch, repeats_label, optional, is_void_test, returned, typed_statement, typed_choices}
+use Rattle.c_rules.specs.Statements.{LocalTree, Typed, Labelled, opened_in, declarations, may_break, may_continue, in_switch, repeats_label, optional, is_void_test, typed_return, typed_statement, typed_choices}
 use Rattle.c_rules.specs.Visits.{Visit, visit, when, rule_of, by_one, visits_behind}
 use Rattle.c_rules.specs.ExpressionWalk.{visits, constant_visits}
 use Rattle.c_rules.specs.DeclarationWalk.{declarations_visits}
@@ -44,7 +44,7 @@ module _ (result : Kind) where
     statement_visits s c ls (tree.Break at) = visit at (when (not (may_break c)) Misplaced) ∷ []
     statement_visits s c ls (tree.Continue at) = visit at (when (not (may_continue c)) Misplaced) ∷ []
     statement_visits s c ls (tree.Return None at) = visit at (when (not (is_void result)) Mismatch) ∷ []
-    statement_visits s c ls (tree.Return (Some e) at) = visits s e ++ visit at (by_one (typing s e) (λ x. rule_of (returned result at (operand e x)))) ∷ []
+    statement_visits s c ls (tree.Return (Some e) at) = visits s e ++ visit at (by_one (typing s e) (λ x. rule_of (typed_return result at (operand e x)))) ∷ []
     -- choices: 6.6.4
     statement_visits s c ls (tree.If e a at) = visits s e ++ (statement_visits s c ls a ++ test_visit at (typing s e) ∷ [])
     statement_visits s c ls (tree.IfElse e a b at) = visits s e ++ (statement_visits s c ls a

@@ -24,7 +24,7 @@ use Rattle.c_rules.specs.Operands.{Operand, given, is_integer}
 use Rattle.c_rules.specs.Renumbering.{number_in}
 use Rattle.c_rules.specs.Scopes.{Scope, open_scope, declare, is_taken}
 use Rattle.c_rules.specs.Typing.{plain, typing, operand, constant_typing, word_at}
-use Rattle.c_rules.specs.Declarations.{declarator, Entry, entries, listed}
+use Rattle.c_rules.specs.Declarations.{declarator, Entry, entries, array_list}
 
 -- an object of a function: its name, its type, and the list of an initialised array
 pub record LocalTree : Type 0 where
@@ -56,16 +56,16 @@ initialiser s true (Some (tree.Braced es at)) = entries s es >>= λ xs. Is (List
 initialiser s false (Some (tree.Braced es at)) = all_typed s es
 
 -- a list, and statements that give an object its first value
-pub record Start : Type 0 where
+pub record ObjectStart : Type 0 where
   pub values : List Initial
   pub statements : List Stmt
 
 -- the start of an object: a scalar is assigned to, an array is filled
-abbrev pub started : VarRef → ObjectType → ℕ → Initialiser → Outcome Start
+abbrev pub started : VarRef → ObjectType → ℕ → Initialiser → Outcome ObjectStart
 started r type at Absent = Is (record { values = []; statements = [] })
 started r (Single kind) at (Value x) = given kind at x >>= λ v.
     Is (record { values = []; statements = Do_expr (Node (Assign (Named r at) v) (Some kind) at) ∷ [] })
-started r (Array kind n) at (Listed es) = listed kind n at es >>= λ is.
+started r (Array kind n) at (Listed es) = array_list kind n at es >>= λ is.
     Is (record { values = is; statements = Fill (number_in r) ∷ [] })
 started r type at i = Broken Mismatch at
 
@@ -80,12 +80,12 @@ abbrev pub is_given : Option InitialTree → Bool
 is_given i = is_some i
 
 -- the scope with a declared object, whose own initialiser sees it; what can't be declared isn't seen
-abbrev pub with_object : Scope → List ℕ → VarRef → Declared → Scope
-with_object s name r (declares.Object type) = if is_taken s name then s else declare s name (meanings.Object r type)
-with_object s name r d = s
+abbrev pub with_named_object : Scope → List ℕ → VarRef → Declared → Scope
+with_named_object s name r (declares.Object type) = if is_taken s name then s else declare s name (meanings.Object r type)
+with_named_object s name r d = s
 
 -- the object that is declared, with its start
-abbrev pub placed : Opened → Scope → List ℕ → VarRef → ObjectType → Start → Opened
+abbrev pub placed : Opened → Scope → List ℕ → VarRef → ObjectType → ObjectStart → Opened
 placed o s name r type start = record {
   scope = s;
   locals = o.locals ++ record { name = name; object_type = type; values = start.values } ∷ [];
@@ -102,9 +102,9 @@ declared_as o s r (declares.Object type) item i = started r type item.at i >>= �
 -- one that stands for this
 abbrev pub item_as : Opened → VarRef → Base → ItemTree → Outcome Opened
 item_as o r b item = declarator o.scope b item.form item.stars item.initial >>= λ d.
-    initialiser (with_object o.scope item.name r d) (is_array item.form) item.initial >>= λ i.
+    initialiser (with_named_object o.scope item.name r d) (is_array item.form) item.initial >>= λ i.
     breaks (is_taken o.scope item.name) Redeclared item.at
-    (declared_as o (with_object o.scope item.name r d) r d item i)
+    (declared_as o (with_named_object o.scope item.name r d) r d item i)
 
 abbrev pub block_item : Opened → Base → ItemTree → Outcome Opened
 block_item o b item = item_as o (refs.Local (length o.locals)) b item
@@ -140,9 +140,9 @@ is_void_test None = false
 is_void_test (Some e) = is_void (kind_of e)
 
 -- the value of a return from a function of this type: 6.6.6.4
-abbrev pub returned : Kind → ℕ → Operand → Outcome Expr
-returned None at x = Broken Mismatch at
-returned (Some kind) at x = given kind at x
+abbrev pub typed_return : Kind → ℕ → Operand → Outcome Expr
+typed_return None at x = Broken Mismatch at
+typed_return (Some kind) at x = given kind at x
 
 -- choices, and whether a label among them is a pointer
 pub record Labelled : Type 0 where
@@ -174,7 +174,7 @@ module _ (result : Kind) where
     typed_statement s c ls (tree.Break at) = breaks (not (may_break c)) Misplaced at (just Break ls)
     typed_statement s c ls (tree.Continue at) = breaks (not (may_continue c)) Misplaced at (just Continue ls)
     typed_statement s c ls (tree.Return None at) = breaks (not (is_void result)) Mismatch at (just (Return None) ls)
-    typed_statement s c ls (tree.Return (Some e) at) = typing s e >>= λ x. returned result at (operand e x) >>= λ v. just (Return (Some v)) ls
+    typed_statement s c ls (tree.Return (Some e) at) = typing s e >>= λ x. typed_return result at (operand e x) >>= λ v. just (Return (Some v)) ls
     -- choices: 6.6.4
     typed_statement s c ls (tree.If e a at) = typing s e >>= λ x. typed_statement s c ls a >>= λ p.
         breaks (is_void (kind_of x)) Mismatch at (just (If x p.tree (Block [] done)) p.locals)

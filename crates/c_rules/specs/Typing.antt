@@ -21,9 +21,9 @@ use Rattle.c_rules.specs.declared.meaning.Meaning.TheVariants as meanings
 use Rattle.c_rules.specs.declared.meaning.ObjectType.TheVariants.{Single, Array}
 use Rattle.c_rules.specs.Outcome.{Outcome, Is, Broken, ◌>>=◌, breaks, there_or}
 use Rattle.c_rules.specs.Kinds.{int, unsigned, is_void, starred, class_of, pointer_to}
-use Rattle.c_rules.specs.Operands.{Operand, number, unary, negated, binary, both_true, either_true, picked, assigned, assigned_by, stepped_before, stepped_after, address, loaded, indexed, cast, behind, sized, passed, input, output}
+use Rattle.c_rules.specs.Operands.{Operand, typed_number, unary, negated, binary, both_true, either_true, picked, assigned, assigned_by, stepped_before, stepped_after, address, loaded, indexed, cast, typed_comma, sized, passed, input, output}
 use Rattle.c_rules.specs.Constants.{constant}
-use Rattle.c_rules.specs.Scopes.{Scope, is_in, is_out, array_of}
+use Rattle.c_rules.specs.Scopes.{Scope, is_in, is_out, length_of_array}
 
 -- how often a word stands among the words of a type
 abbrev pub same_word : SpecWord → SpecWord → Bool
@@ -88,23 +88,23 @@ named_as at (Some (meanings.Object reference (Single kind))) = Is (Node (Read re
 named_as at (Some (meanings.Object reference (Array kind length))) = Is (Node (AddressOf reference) (Some (pointer_to kind)) at)
 named_as at (Some (meanings.Function type)) = Broken Mismatch at
 
-abbrev pub named : Scope → List ℕ → ℕ → Outcome Expr
-named s name at = breaks (is_in name || is_out name) Mismatch at (named_as at (s.meaning name))
+abbrev pub typed_name : Scope → List ℕ → ℕ → Outcome Expr
+typed_name s name at = breaks (is_in name || is_out name) Mismatch at (named_as at (s.meaning name))
 
 -- the number of a function: how many bodies stand before its own
-abbrev pub number_of : Scope → List ℕ → ℕ
-number_of s name = position_or_len (λ body. bytes_eq body name) s.bodies
+abbrev pub bodies_before : Scope → List ℕ → ℕ
+bodies_before s name = position_or_len (λ body. bytes_eq body name) s.bodies
 
 -- a call by a name that stands for this: 6.3.2.2
-abbrev pub called : ℕ → Option Meaning → ℕ → List Operand → Outcome Expr
-called function None at xs = Broken Undeclared at
-called function (Some (meanings.Object reference type)) at xs = Broken Mismatch at
-called function (Some (meanings.Function type)) at xs =
+abbrev pub typed_call : ℕ → Option Meaning → ℕ → List Operand → Outcome Expr
+typed_call function None at xs = Broken Undeclared at
+typed_call function (Some (meanings.Object reference type)) at xs = Broken Mismatch at
+typed_call function (Some (meanings.Function type)) at xs =
     passed type.parameters at xs >>= λ es. Is (Node (Call function es) type.result at)
 
 -- whether an operand is the name of an array
 abbrev pub array_length : Scope → Expression → Option ℕ
-array_length s (tree.Node (tree.Name name) at) = array_of (s.meaning name)
+array_length s (tree.Node (tree.Name name) at) = length_of_array (s.meaning name)
 array_length s e = None
 
 -- an operator before an operand, of which the Bool says whether it names an array
@@ -148,7 +148,7 @@ arguments_from name port operands = if is_in name || is_out name then port else 
 
 -- a call with these arguments
 abbrev pub call_of : Scope → List ℕ → ℕ → Arguments → Outcome Expr
-call_of s name at (Operands xs) = called (number_of s name) (s.meaning name) at xs
+call_of s name at (Operands xs) = typed_call (bodies_before s name) (s.meaning name) at xs
 call_of s name at NoPort = Broken ArgCount at
 call_of s name at (Port class port xs) = if is_in name then input at class port xs else output at class port xs
 
@@ -185,8 +185,8 @@ module _ (s : Scope) where
 
     pub typing_form : ExpressionForm → ℕ → Outcome Expr
     -- names and constants
-    typing_form (tree.Name name) at = named s name at
-    typing_form (tree.Number value marked decimal) at = number value marked decimal at
+    typing_form (tree.Name name) at = typed_name s name at
+    typing_form (tree.Number value marked decimal) at = typed_number value marked decimal at
     typing_form (tree.Character value) at = Is (Node (Const value) (Some int) at)
     -- behind an operand
     typing_form (tree.Index a b) at = typing a >>= λ x. typing b >>= λ y. indexed at x y
@@ -205,7 +205,7 @@ module _ (s : Scope) where
     typing_form (tree.Conditional c a b) at = typing c >>= λ t. typing a >>= λ x. typing b >>= λ y. picked at t (operand a x) (operand b y)
     typing_form (tree.Assign a b) at = typing a >>= λ x. typing b >>= λ y. assigned at x (operand b y) >>= λ z. of_object (is_address a) at z
     typing_form (tree.AssignOp o a b) at = typing a >>= λ x. typing b >>= λ y. assigned_by o at x y >>= λ z. of_object (is_address a) at z
-    typing_form (tree.Comma a b) at = typing a >>= λ x. typing b >>= λ y. Is (behind at x y)
+    typing_form (tree.Comma a b) at = typing a >>= λ x. typing b >>= λ y. Is (typed_comma at x y)
 
     -- arguments, from left to right
     pub operands : Expressions → Outcome (List Operand)

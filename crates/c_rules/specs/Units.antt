@@ -21,8 +21,8 @@ use Rattle.c_rules.specs.declared.meaning.Declared.TheVariants as declares
 use Rattle.c_rules.specs.Outcome.{Outcome, Is, Broken, ◌>>=◌, breaks}
 use Rattle.c_rules.specs.Kinds.{starred, same_type, same_kind}
 use Rattle.c_rules.specs.Scopes.{Scope, no_names, open_scope, declare, is_in, is_out}
-use Rattle.c_rules.specs.Typing.{spelled, number_of}
-use Rattle.c_rules.specs.Declarations.{with_single, parameters, declarator, Entry, entry, entries, cell, listed}
+use Rattle.c_rules.specs.Typing.{spelled, bodies_before}
+use Rattle.c_rules.specs.Declarations.{with_single, parameters, declarator, Entry, entry, entries, cell, array_list}
 use Rattle.c_rules.specs.Statements.{LocalTree, Typed, typed_body}
 
 -- an object of file scope: its name, its type, and its list where it is initialised
@@ -102,7 +102,7 @@ starts s (Some (tree.Braced es at)) = entries s es >>= λ xs. Is (Braced xs)
 abbrev pub static_list : ObjectType → ℕ → Starts → Outcome (Option (List Initial))
 static_list type at NoStart = Is None
 static_list (Single kind) at (One e) = cell kind at e >>= λ i. Is (Some (i ∷ []))
-static_list (Array kind n) at (Braced es) = listed kind n at es >>= λ is. Is (Some is)
+static_list (Array kind n) at (Braced es) = array_list kind n at es >>= λ is. Is (Some is)
 static_list type at i = Broken Mismatch at
 
 -- the number of an object that is declared already
@@ -183,7 +183,7 @@ with_body file f result kinds =
 
 -- a function with its body: 6.7.1
 abbrev pub is_defined : File → List ℕ → Bool
-is_defined file name = nat_lt (number_of file.scope name) (length file.functions)
+is_defined file name = nat_lt (bodies_before file.scope name) (length file.functions)
 
 abbrev pub behind_name : File → List ℕ → FunctionType → File
 behind_name file name type = record {
@@ -209,13 +209,13 @@ externals file [] = Is file
 externals file (x ∷ xs) = external file x >>= λ g. externals g xs
 
 -- the names of the functions with bodies, each where it stands first
-abbrev pub is_among : List ℕ → List (List ℕ) → Bool
-is_among name [] = false
-is_among name (n ∷ ns) = bytes_eq n name || is_among name ns
+abbrev pub is_name_among : List ℕ → List (List ℕ) → Bool
+is_name_among name [] = false
+is_name_among name (n ∷ ns) = bytes_eq n name || is_name_among name ns
 
 abbrev pub bodies_behind : List (List ℕ) → UnitTree → List (List ℕ)
 bodies_behind names [] = names
-bodies_behind names (Defined f ∷ xs) = bodies_behind (if is_among f.name names then names else names ++ f.name ∷ []) xs
+bodies_behind names (Defined f ∷ xs) = bodies_behind (if is_name_among f.name names then names else names ++ f.name ∷ []) xs
 bodies_behind names (tree.Declared d ∷ xs) = bodies_behind names xs
 
 abbrev pub empty_file : UnitTree → File

@@ -46,24 +46,24 @@ all_cases [] = []
 all_cases (us ∷ rest) = case_counts us ++ all_cases rest
 
 -- the counts of each name, in source order, and the greatest that may be
-abbrev pub counts_of : LimitName → List TypedFunction → List ℕ
-counts_of Functions fs = length fs ∷ []
-counts_of Parameters fs = map (λ f. f.parameters) fs
-counts_of Scalars fs = map frame_size fs
-counts_of Cases fs = all_cases (map uses_of fs)
+abbrev pub limited_counts : LimitName → List TypedFunction → List ℕ
+limited_counts Functions fs = length fs ∷ []
+limited_counts Parameters fs = map (λ f. f.parameters) fs
+limited_counts Scalars fs = map frame_size fs
+limited_counts Cases fs = all_cases (map uses_of fs)
 
-abbrev pub greatest : LimitName → ℕ
-greatest Functions = MOST_FUNCTIONS
-greatest Parameters = MOST_PARAMETERS
-greatest Scalars = MOST_FRAME_SCALARS
-greatest Cases = MOST_CASES
+abbrev pub greatest_count : LimitName → ℕ
+greatest_count Functions = MOST_FUNCTIONS
+greatest_count Parameters = MOST_PARAMETERS
+greatest_count Scalars = MOST_FRAME_SCALARS
+greatest_count Cases = MOST_CASES
 
 abbrev pub first_above : ℕ → List ℕ → Option ℕ
 first_above limit [] = None
 first_above limit (n ∷ ns) = if nat_lt limit n then Some n else first_above limit ns
 
 abbrev pub passed : LimitName → List TypedFunction → Option ℕ
-passed which fs = first_above (greatest which) (counts_of which fs)
+passed which fs = first_above (greatest_count which) (limited_counts which fs)
 
 -- a fault says that this count of a name is the first that passes its limit
 abbrev pub IsOver : LimitName → Option ℕ → TypeFault → Type 0

@@ -26,8 +26,8 @@ abbrev pub in_tables : List Table → List ℕ → Option Meaning
 in_tables [] name = None
 in_tables (t ∷ ts) name = or_else (in_table t name) (in_tables ts name)
 
-abbrev pub names_of : List (Bor (List ℕ)) → List (List ℕ)
-names_of keys = map (λ k. k.now) keys
+abbrev pub key_names : List (Bor (List ℕ)) → List (List ℕ)
+key_names keys = map (λ k. k.now) keys
 
 -- the tables of the scopes, and of those around the innermost one
 abbrev pub tables_of : Scopes → List Table
@@ -46,5 +46,5 @@ abbrev pub scope_of : Scopes → Scope
 scope_of s = record {
   meaning = in_tables (tables_of s);
   here = λ name. is_some (in_table s.innermost name);
-  bodies = names_of s.bodies.keys;
+  bodies = key_names s.bodies.keys;
 }

@@ -4,7 +4,7 @@ ghost use Rattle.std.specs.Prelude.{◌≡◌, IfErr, OnOk, map};
 ghost use Rattle.c_syntax.specs.SyntaxView.{expression_of, array_of, parameter_of, parameters_of, item_form_of, initial_of};
 ghost use Rattle.c_rules.specs.declared.fault.Refusal.TheVariants as refusals;
 ghost use Rattle.c_rules.specs.Declarations as rules;
-ghost use Rattle.c_rules.specs.Statements.{with_object};
+ghost use Rattle.c_rules.specs.Statements.{with_named_object};
 ghost use Rattle.c_scopes.specs.Tables.{scope_of, tables_of, around_of};
 
 use crate::call_arguments::word_at;
@@ -167,7 +167,7 @@ pub fn declare_object<'a>(
     reference: VarRef,
     declared: &Declared,
 ) -> Result<(), Refusal>
-    ensures declared { OnOk result (scope_of scopes.new ≡ with_object (scope_of scopes.old) name.now reference declared.now) }
+    ensures declared { OnOk result (scope_of scopes.new ≡ with_named_object (scope_of scopes.old) name.now reference declared.now) }
     ensures around { around_of scopes.new ≡ around_of scopes.old }
     ensures bodies { (scope_of scopes.new).bodies ≡ (scope_of scopes.old).bodies }
     ensures memory { IfErr result (λ f. f ≡ refusals.NoMemory) }

@@ -65,7 +65,7 @@ fn static_scalar(scopes: &Scopes<'_>, name: &str) -> Option<Initial>
 
 // The cell of this index of the array that an operand names.
 fn cell_of(scopes: &Scopes<'_>, e: &Expr, index: Option<u16>) -> Option<Initial>
-    ensures { result ≡ rules.cell_of (scope_of scopes.now) (expression_of e.now) index }
+    ensures { result ≡ rules.named_cell (scope_of scopes.now) (expression_of e.now) index }
 {
     match &e.kind {
         ExprKind::Name(name) => static_cell(scopes, name.as_str(), index),

@@ -17,7 +17,7 @@ use std::alloc::Global;
 
 /// A name. An array is a pointer to its first cell, and a function isn't named but in calls.
 pub(crate) fn named(scopes: &Scopes<'_>, name: &str, at: u32) -> Result<TypedExpr, Refusal>
-    ensures { Follows expr_of (rules.named (scope_of scopes.now) name.now at) result }
+    ensures { Follows expr_of (rules.typed_name (scope_of scopes.now) name.now at) result }
 {
     if is_in(name) || is_out(name) {
         return Err(mismatch(at));
@@ -41,7 +41,7 @@ pub(crate) fn called(
     at: u32,
     operands: Vec<Operand>,
 ) -> Result<TypedExpr, Refusal>
-    ensures { Follows expr_of (rules.called (rules.number_of (scope_of scopes.now) name.now) ((scope_of scopes.now).meaning name.now) at (map operand_of operands.items)) result }
+    ensures { Follows expr_of (rules.typed_call (rules.bodies_before (scope_of scopes.now) name.now) ((scope_of scopes.now).meaning name.now) at (map operand_of operands.items)) result }
 {
     match scopes.find(name) {
         None => Err(undeclared(at)),
@@ -80,7 +80,7 @@ fn function_call(
     at: u32,
     operands: Vec<Operand>,
 ) -> Result<TypedExpr, Refusal>
-    ensures { Follows expr_of (rules.called number (Some (meanings.Function function.now)) at (map operand_of operands.items)) result }
+    ensures { Follows expr_of (rules.typed_call number (Some (meanings.Function function.now)) at (map operand_of operands.items)) result }
 {
     let args = passed(alloc, function.parameters.as_slice(), at, operands)?;
     // No source that the parser gives has more functions than 16 bits number.

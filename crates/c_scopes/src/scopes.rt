@@ -3,7 +3,7 @@ ghost use Rattle.std.specs.Prelude.{◌≡◌, option_copied, IfErr, OnOk};
 ghost use Rattle.c_syntax.specs.SyntaxView.{expression_of};
 ghost use Rattle.c_rules.specs.declared.fault.Refusal.TheVariants as refusals;
 ghost use Rattle.c_rules.specs.Scopes as rules;
-ghost use Rattle.c_scopes.specs.Tables.{scope_of, names_of, tables_of, around_of, closed};
+ghost use Rattle.c_scopes.specs.Tables.{scope_of, key_names, tables_of, around_of, closed};
 ghost use Rattle.c_rules.specs.Typing as typing;
 
 use c_rules::{Meaning, ObjectType, Refusal};
@@ -26,7 +26,7 @@ pub struct Scopes<'a> {
 impl<'a> Scopes<'a> {
     /// The scope of a file, in which no name is declared.
     pub fn new(alloc: Global, bodies: IndexSet<&'a str>) -> Self
-        ensures { scope_of result ≡ rules.no_names (names_of bodies.entry.keys) }
+        ensures { scope_of result ≡ rules.no_names (key_names bodies.entry.keys) }
     {
         Scopes {
             alloc,
@@ -93,7 +93,7 @@ impl<'a> Scopes<'a> {
 
     /// The number of a function: how many bodies stand before its own.
     pub fn number_of(&self, name: &str) -> usize
-        ensures { result ≡ typing.number_of (scope_of self.now) name.now }
+        ensures { result ≡ typing.bodies_before (scope_of self.now) name.now }
     {
         self.bodies.get_index_of(name).unwrap_or(self.bodies.len())
     }

@@ -9,8 +9,8 @@ use Rattle.c_syntax.specs.SyntaxTree.{SpecsTree, Expression, ArrayMark, Paramete
 use Rattle.c_syntax.specs.Grammar.{Row, ExpressionRow, AssignmentRow, ConditionalRow, IsMark, IsKeyword, place_of, AreSpecs, AreStars, Derives}
 
 -- a name
-abbrev pub IsName : List ℕ → Token → Type 0
-IsName name t = t.kind ≡ token.Name name
+abbrev pub IsNameToken : List ℕ → Token → Type 0
+IsNameToken name t = t.kind ≡ token.Name name
 
 -- the row `specs` with its place
 pub record DerivesSpecs (tokens : List Token) (tree : SpecsTree) : Type 0 where
@@ -50,7 +50,7 @@ DerivesArrayMark tokens (Some length) = DerivesArray tokens length
 -- a name, where there is one
 abbrev pub DerivesName : List Token → Option (List ℕ) → Type 0
 DerivesName tokens None = tokens ≡ []
-DerivesName tokens (Some name) = (t : Token) × (tokens ≡ t ∷ []) × IsName name t
+DerivesName tokens (Some name) = (t : Token) × (tokens ≡ t ∷ []) × IsNameToken name t
 
 -- the row `param`, which isn't the one word `void`
 pub record DerivesParameter (tokens : List Token) (tree : ParameterTree) : Type 0 where
@@ -97,7 +97,7 @@ pub record DerivesItem (tokens : List Token) (tree : ItemTree) : Type 0 where
   pub c : List Token
   pub cut : tokens ≡ a ++ t ∷ b ++ c
   pub stars : AreStars a tree.stars
-  pub name : IsName tree.name t
+  pub name : IsNameToken tree.name t
   pub form : DerivesForm b tree.form
   pub initial : DerivesInitialiser c tree.initial
   pub place : tree.at ≡ place_of tokens
@@ -214,7 +214,7 @@ pub record DerivesFunction (tokens : List Token) (tree : FunctionSyntax) : Type 
   pub cut : tokens ≡ a ++ b ++ n ∷ t ∷ c ++ u ∷ d
   pub specs : DerivesSpecs a tree.specs
   pub stars : AreStars b tree.stars
-  pub name : IsName tree.name n
+  pub name : IsNameToken tree.name n
   pub opens : IsMark mark.OpenParen t
   pub parameters : DerivesParameters c tree.parameters
   pub closes : IsMark mark.CloseParen u

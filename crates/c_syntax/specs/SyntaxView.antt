@@ -141,8 +141,8 @@ abbrev pub body_of : List Stmt → Statements
 body_of [] = no_statement
 body_of (s ∷ rest) = statement (statement_of s.kind s.at) (body_of rest)
 
-abbrev pub function_of : FunctionDef → FunctionSyntax
-function_of f = record {
+abbrev pub function_syntax_of : FunctionDef → FunctionSyntax
+function_syntax_of f = record {
   specs = specs_of f.specs;
   stars = f.stars;
   name = f.name;
@@ -154,7 +154,7 @@ function_of f = record {
 }
 
 abbrev pub external_of : External → ExternalTree
-external_of (external.Function f) = Defined (function_of f)
+external_of (external.Function f) = Defined (function_syntax_of f)
 external_of (external.Declaration d) = Declared (declaration_of d)
 
 -- the tree of a whole source

@@ -24,12 +24,12 @@ HasStars base.Void stars = 0 < stars
 HasStars base.Int stars = ⊤
 HasStars base.Unsigned stars = ⊤
 
-abbrev pub IsType : ScalarType → Type 0
-IsType kind = HasStars kind.base kind.stars
+abbrev pub IsScalarType : ScalarType → Type 0
+IsScalarType kind = HasStars kind.base kind.stars
 
 abbrev pub IsKind : Kind → Type 0
 IsKind None = ⊤
-IsKind (Some kind) = IsType kind
+IsKind (Some kind) = IsScalarType kind
 
 -- a value of an integer type, of a pointer type, and of either
 abbrev pub IsInteger : Kind → Type 0

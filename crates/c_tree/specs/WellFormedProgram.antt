@@ -8,7 +8,7 @@ use Rattle.c_tree.specs.Temporaries.{statement_temporaries}
 use Rattle.c_tree.specs.TypedTree.{Kind, ObjectTree, FunctionTree, ProgramTree}
 use Rattle.c_tree.specs.SourceRun.{main_name}
 use Rattle.c_tree.specs.declared.enclosing.Enclosing.TheVariants as around
-use Rattle.c_tree.specs.Kinds.{int, IsType, IsKind}
+use Rattle.c_tree.specs.Kinds.{int, IsScalarType, IsKind}
 use Rattle.c_tree.specs.Rounds.{CallsAmong, HasNoRound}
 use Rattle.c_tree.specs.Uses.{called, statement_uses, case_counts}
 use Rattle.c_tree.specs.WellFormed.{Shape, Signature, Names, IsInitial, IsWellFormed, opened}
@@ -36,14 +36,14 @@ abbrev pub object_kind : Option ObjectTree → Kind
 object_kind None = None
 object_kind (Some o) = Some o.kind
 
-abbrev pub parameter_kind : FunctionTree → VarRef → Kind
-parameter_kind f (Scalar n) = slice_get f.scalars n
-parameter_kind f (Local n) = object_kind (slice_get f.locals n)
-parameter_kind f (Static n) = None
+abbrev pub kind_of_parameter : FunctionTree → VarRef → Kind
+kind_of_parameter f (Scalar n) = slice_get f.scalars n
+kind_of_parameter f (Local n) = object_kind (slice_get f.locals n)
+kind_of_parameter f (Static n) = None
 
 abbrev pub signature : Option FunctionTree → Option Signature
 signature None = None
-signature (Some f) = Some (record { parameters = map (parameter_kind f) f.params; result = f.result })
+signature (Some f) = Some (record { parameters = map (kind_of_parameter f) f.params; result = f.result })
 
 -- what is known everywhere in a function: statics and functions
 abbrev pub static_names : ProgramTree → VarRef → Option Shape
@@ -51,8 +51,8 @@ static_names p (Scalar n) = None
 static_names p (Local n) = None
 static_names p (Static n) = static_in p n
 
-abbrev pub names_of : ProgramTree → FunctionTree → Names
-names_of p f = record {
+abbrev pub names_within : ProgramTree → FunctionTree → Names
+names_within p f = record {
   object = static_names p;
   function = λ n. signature (slice_get p.functions n);
   is_filled = λ n. nat_lt n (length f.locals);
@@ -60,7 +60,7 @@ names_of p f = record {
 
 -- an object of 1 to 32,767 cells, with a list that it has room for
 pub record IsObject (p : ProgramTree) (o : ObjectTree) : Type 0 where
-  pub is_type : IsType o.kind
+  pub is_type : IsScalarType o.kind
   pub from_one : 1 ≤ o.length
   pub most : o.length ≤ MOST_CELLS
   pub within : length o.initial ≤ o.length
@@ -74,11 +74,11 @@ IsParameter f (Static n) = ⊥
 
 pub record IsFunction (p : ProgramTree) (f : FunctionTree) : Type 0 where
   pub result : IsKind f.result
-  pub scalars : All IsType f.scalars
+  pub scalars : All IsScalarType f.scalars
   pub locals : All (IsObject p) f.locals
   pub parameters : All (IsParameter f) f.params
   pub differ : AllPairs (λ a b. a ≢ b) f.params
-  pub body : IsWellFormed (object_in p f) f.result (opened (object_in p f) f.params (names_of p f)) around.Body f.body
+  pub body : IsWellFormed (object_in p f) f.result (opened (object_in p f) f.params (names_within p f)) around.Body f.body
 
 -- what the counts of a program may be at most
 pub record IsLimited (fs : List FunctionTree) : Type 0 where
@@ -98,8 +98,8 @@ pub record IsMain (f : FunctionTree) : Type 0 where
   pub parameters : f.params ≡ []
 
 -- the functions that each calls
-abbrev pub calls_of : List FunctionTree → List (List ℕ)
-calls_of fs = map (λ f. called (statement_uses f.body)) fs
+abbrev pub program_calls : List FunctionTree → List (List ℕ)
+program_calls fs = map (λ f. called (statement_uses f.body)) fs
 
 pub record IsProgram (p : ProgramTree) : Type 0 where
   pub statics : All (IsObject p) p.statics
@@ -107,7 +107,7 @@ pub record IsProgram (p : ProgramTree) : Type 0 where
   pub names : All IsName (map (λ f. f.name) p.functions)
   pub differ : AllPairs (λ a b. a ≢ b) (map (λ f. f.name) p.functions)
   pub main : Any IsMain p.functions
-  pub bodies : (n m : ℕ) → CallsAmong (calls_of p.functions) n m → m < length p.functions
-  pub no_cycle : HasNoRound (CallsAmong (calls_of p.functions))
+  pub bodies : (n m : ℕ) → CallsAmong (program_calls p.functions) n m → m < length p.functions
+  pub no_cycle : HasNoRound (CallsAmong (program_calls p.functions))
   pub limits : IsLimited p.functions
   pub objects : object_count p ≤ MOST_OBJECTS

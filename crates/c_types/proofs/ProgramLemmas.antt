@@ -22,7 +22,7 @@ use Rattle.c_rules.specs.Faults.{Says, SaysOf, rule_fault, fault_of}
 use Rattle.c_rules.specs.Visits.{broken_in}
 use Rattle.c_rules.proofs.Walked.SourceWalked.{walk_finds}
 use Rattle.c_rules.specs.Outcome.{Is}
-use Rattle.c_rules.specs.Programs.{frame, function_tree, functions_with, program_tree, static_object}
+use Rattle.c_rules.specs.Programs.{frame, function_tree, functions_with, program_tree, object_tree}
 use Rattle.c_rules.specs.Units.{TypedFunction, File, typed_unit}
 use Rattle.c_frames.specs.FunctionView.{frame_lists, typed_function_of}
 use Rattle.c_types.specs.View.{static_tree_of, file_of, made_of}
@@ -80,7 +80,7 @@ pub made_is : (file : files.File) (frames : List (Vec VarRef Global)) → frame_
     → made_of frames (record { statics = file.statics; functions = file.functions }) ≡ program_tree (file_of file)
 made_is file frames own =
     let functions = map typed_function_of file.functions.items
-    in ap (λ fs. record { statics = map static_object (map static_tree_of file.statics.items); functions = fs })
+    in ap (λ fs. record { statics = map object_tree (map static_tree_of file.statics.items); functions = fs })
     (ap (λ l. functions_with l functions) own ∙ own_frames functions)
 
 -- the typed program of a source

@@ -37,26 +37,26 @@ use Rattle.c_rules.specs.Answers.{Refuses}
 use Rattle.c_rules.specs.Outcome.{Outcome, Is, Broken, ◌>>=◌, breaks}
 use Rattle.c_rules.specs.Scopes.{Scope, open_scope, is_in, is_out}
 use Rattle.c_rules.specs.Statements.{LocalTree, Typed, typed_body}
-use Rattle.c_scopes.specs.Tables.{names_of}
+use Rattle.c_scopes.specs.Tables.{key_names}
 use Rattle.c_types.specs.View.{static_tree_of}
 use Rattle.c_frames.specs.FunctionView.{typed_function_of}
-use Rattle.c_rules.specs.Units.{File, StaticTree, Starts, starts, agrees, may_declare, with_declared, static_number, is_initialised, is_twice, untyped_rule, item_as, declared_as, with_parameters, with_list, with_static, set_list, file_item, file_items, external, externals, is_among, bodies_behind, with_function, with_body, parameter_locals}
+use Rattle.c_rules.specs.Units.{File, StaticTree, Starts, starts, agrees, may_declare, with_declared, static_number, is_initialised, is_twice, untyped_rule, item_as, declared_as, with_parameters, with_list, with_static, set_list, file_item, file_items, external, externals, is_name_among, bodies_behind, with_function, with_body, parameter_locals}
 use Rattle.c_objects.proofs.AgreementLemmas.{same_false, first_of}
 
 -- the names of a set with one more name
 module _ (name : Bor (List ℕ)) where
-  among_names : (keys : List (Bor (List ℕ))) → list_any (λ k. bytes_eq name.now k.now) keys ≡ is_among name.now (names_of keys)
+  among_names : (keys : List (Bor (List ℕ))) → list_any (λ k. bytes_eq name.now k.now) keys ≡ is_name_among name.now (key_names keys)
   among_names [] = refl
   among_names (k ∷ keys) =
       ap (λ b. b || list_any (λ k'. bytes_eq name.now k'.now) keys) (nat_list_eq_equiv.symm name.now k.now)
       ∙ ap (λ b. bytes_eq k.now name.now || b) (among_names keys)
 
-  names_chosen : (b : Bool) (keys : List (Bor (List ℕ))) → names_of (if b then keys else keys ++ name ∷ []) ≡ (if b then names_of keys else names_of keys ++ name.now ∷ [])
+  names_chosen : (b : Bool) (keys : List (Bor (List ℕ))) → key_names (if b then keys else keys ++ name ∷ []) ≡ (if b then key_names keys else key_names keys ++ name.now ∷ [])
   names_chosen true keys = refl
   names_chosen false keys = map-append (λ (k : Bor (List ℕ)). k.now) keys (name ∷ [])
 
-  pub names_inserted : (keys : List (Bor (List ℕ))) → names_of (insert_key (λ a b. bytes_eq a.now b.now) keys name) ≡ (if is_among name.now (names_of keys) then names_of keys else names_of keys ++ name.now ∷ [])
-  names_inserted keys = names_chosen (list_any (λ k. bytes_eq name.now k.now) keys) keys ∙ ap (λ b. if b then names_of keys else names_of keys ++ name.now ∷ []) (among_names keys)
+  pub names_inserted : (keys : List (Bor (List ℕ))) → key_names (insert_key (λ a b. bytes_eq a.now b.now) keys name) ≡ (if is_name_among name.now (key_names keys) then key_names keys else key_names keys ++ name.now ∷ [])
+  names_inserted keys = names_chosen (list_any (λ k. bytes_eq name.now k.now) keys) keys ∙ ap (λ b. if b then key_names keys else key_names keys ++ name.now ∷ []) (among_names keys)
 
 -- parameters as objects: one of a turn, and those behind the end of the types
 none_placed : (ps : List ParameterTree) → parameter_locals ps [] ≡ []
@@ -222,12 +222,12 @@ module _ (list : List External) (i : ℕ) (x : External) (is : x ≡ get_or list
   pub declaration_passed : (d : Decl) (names : List (List ℕ)) → x ≡ externals_of.Declaration d → bodies_behind names (unit_of (drop i list)) ≡ bodies_behind names (unit_of (drop (i + 1) list))
   declaration_passed d names declared = bodies_from names ∙ ap (λ y. bodies_behind names (external_of y ∷ unit_of (drop (i + 1) list))) declared
 
-  pub function_passed : (f : FunctionDef) (name : Bor (List ℕ)) (keys more : List (Bor (List ℕ))) → x ≡ externals_of.Function f → name.now ≡ f.name → more ≡ insert_key (λ a b. bytes_eq a.now b.now) keys name → bodies_behind (names_of keys) (unit_of (drop i list)) ≡ bodies_behind (names_of more) (unit_of (drop (i + 1) list))
+  pub function_passed : (f : FunctionDef) (name : Bor (List ℕ)) (keys more : List (Bor (List ℕ))) → x ≡ externals_of.Function f → name.now ≡ f.name → more ≡ insert_key (λ a b. bytes_eq a.now b.now) keys name → bodies_behind (key_names keys) (unit_of (drop i list)) ≡ bodies_behind (key_names more) (unit_of (drop (i + 1) list))
   function_passed f name keys more defined named put =
-      bodies_from (names_of keys)
-      ∙ ap (λ y. bodies_behind (names_of keys) (external_of y ∷ unit_of (drop (i + 1) list))) defined
-      ∙ ap (λ n. bodies_behind (if is_among n (names_of keys) then names_of keys else names_of keys ++ n ∷ []) (unit_of (drop (i + 1) list))) (sym named)
-      ∙ ap (λ ns. bodies_behind ns (unit_of (drop (i + 1) list))) (sym (ap names_of put ∙ names_inserted name keys))
+      bodies_from (key_names keys)
+      ∙ ap (λ y. bodies_behind (key_names keys) (external_of y ∷ unit_of (drop (i + 1) list))) defined
+      ∙ ap (λ n. bodies_behind (if is_name_among n (key_names keys) then key_names keys else key_names keys ++ n ∷ []) (unit_of (drop (i + 1) list))) (sym named)
+      ∙ ap (λ ns. bodies_behind ns (unit_of (drop (i + 1) list))) (sym (ap key_names put ∙ names_inserted name keys))
 
 -- the functions with one more
 pub function_pushed : (file : File) (s : Scope) (before after : List functions.TypedFunction) (t : functions.TypedFunction) (name : List ℕ) (result : Kind) (kinds : List ScalarType) (r : Typed Stmt) → s ≡ file.scope → file.functions ≡ map typed_function_of before → after ≡ before ++ t ∷ [] → typed_function_of t ≡ record { name = name; result = result; parameters = length kinds; locals = r.locals; body = r.tree } → record { scope = s; statics = file.statics; functions = map typed_function_of after } ≡ with_function file name result kinds r

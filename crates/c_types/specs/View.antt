@@ -10,7 +10,7 @@ use Rattle.c_types.specs.declared.units.File as files
 use Rattle.c_types.specs.declared.units.Contents.{Contents}
 use Rattle.c_frames.specs.FunctionView.{frame_lists, typed_function_of}
 use Rattle.c_scopes.specs.Tables.{scope_of}
-use Rattle.c_rules.specs.Programs.{static_object, functions_with}
+use Rattle.c_rules.specs.Programs.{object_tree, functions_with}
 use Rattle.c_rules.specs.Units.{StaticTree, File}
 
 abbrev pub static_tree_of : statics.Static → StaticTree
@@ -26,6 +26,6 @@ file_of f = record {
 -- the program of a file whose functions' objects stand for these
 abbrev pub made_of : List (Vec VarRef Global) → Contents → ProgramTree
 made_of frames contents = record {
-  statics = map static_object (map static_tree_of contents.statics.items);
+  statics = map object_tree (map static_tree_of contents.statics.items);
   functions = functions_with (frame_lists frames) (map typed_function_of contents.functions.items);
 }

@@ -8,7 +8,7 @@ ghost use Rattle.c_syntax.specs.SyntaxView.{unit_of};
 ghost use Rattle.c_tree.specs.WellFormedProgram.{IsProgram};
 ghost use Rattle.c_rules.specs.Checked.{IsTyped};
 ghost use Rattle.c_rules.specs.Faults.{Says};
-ghost use Rattle.c_rules.specs.Programs.{functions_with, static_object};
+ghost use Rattle.c_rules.specs.Programs.{functions_with, object_tree};
 ghost use Rattle.c_frames.specs.FunctionView.{frame_lists, typed_function_of};
 ghost use Rattle.c_types.specs.View.{static_tree_of, made_of};
 
@@ -45,17 +45,17 @@ fn program(alloc: Global, contents: Contents, frames: Vec<Vec<VarRef>>) -> Resul
 }
 
 fn objects(alloc: Global, statics: Vec<Static>) -> Result<Vec<Object>, NoMemory>
-    ensures { IfOk result (λ made. map object_of made.items ≡ map static_object (map static_tree_of statics.items)) }
+    ensures { IfOk result (λ made. map object_of made.items ≡ map object_tree (map static_tree_of statics.items)) }
 {
     let mut objects = Vec::new(alloc);
     for object in statics {
-        objects.push(static_object(alloc, object))?;
+        objects.push(object_tree(alloc, object))?;
     }
     Ok(objects)
 }
 
-fn static_object(alloc: Global, object: Static) -> Object
-    ensures { object_of result ≡ static_object (static_tree_of object) }
+fn object_tree(alloc: Global, object: Static) -> Object
+    ensures { object_of result ≡ object_tree (static_tree_of object) }
 {
     let (kind, length) = match object.object_type {
         ObjectType::Single(kind) => (kind, 1),

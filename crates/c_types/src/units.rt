@@ -1,8 +1,8 @@
 //! Whole sources: ISO 9899:1990 6.7.
 ghost use Rattle.std.specs.Prelude.{◌≡◌, ◌||◌, map, IfOk, OnOk, unwrap_or, []};
-ghost use Rattle.c_syntax.specs.SyntaxView.{item_of, function_of, external_of, parameter_of, unit_of};
+ghost use Rattle.c_syntax.specs.SyntaxView.{item_of, function_syntax_of, external_of, parameter_of, unit_of};
 ghost use Rattle.c_rules.specs.Answers.{Follows, Refuses};
-ghost use Rattle.c_scopes.specs.Tables.{names_of};
+ghost use Rattle.c_scopes.specs.Tables.{key_names};
 ghost use Rattle.c_rules.specs.Units as rules;
 ghost use Rattle.c_rules.specs.LocalView.{local_tree_of};
 ghost use Rattle.c_types.specs.View.{static_tree_of, file_of};
@@ -99,7 +99,7 @@ fn copy_of(alloc: Global, kinds: &[ScalarType]) -> Result<Vec<ScalarType>, NoMem
 
 // The names of the functions with bodies, in order.
 fn bodies_of<'a>(alloc: Global, externals: &'a [External]) -> Result<IndexSet<&'a str>, NoMemory>
-    ensures { IfOk result (λ bodies. names_of bodies.keys ≡ rules.bodies_behind [] (unit_of externals.now)) }
+    ensures { IfOk result (λ bodies. key_names bodies.keys ≡ rules.bodies_behind [] (unit_of externals.now)) }
 {
     let mut bodies = IndexSet::new(alloc);
     for external in externals {
@@ -219,7 +219,7 @@ impl<'a> File<'a> {
 
     // A function with its body.
     fn function(&mut self, f: &'a FunctionDef) -> Result<(), Refusal>
-        ensures { Follows (λ _. file_of self.new) (rules.file_function (file_of self.old) (function_of f.now)) result }
+        ensures { Follows (λ _. file_of self.new) (rules.file_function (file_of self.old) (function_syntax_of f.now)) result }
     {
         let base = spelled(&f.specs)?;
         let name = f.name.as_str();
@@ -248,7 +248,7 @@ impl<'a> File<'a> {
         kinds: &[ScalarType],
         f: &'a FunctionDef,
     ) -> Result<(), Refusal>
-        ensures { Follows (λ _. file_of self.new) (rules.with_body (file_of self.old) (function_of f.now) kind kinds.now) result }
+        ensures { Follows (λ _. file_of self.new) (rules.with_body (file_of self.old) (function_syntax_of f.now) kind kinds.now) result }
     {
         let alloc = self.scopes.alloc;
         let list = f.params.list.as_slice();

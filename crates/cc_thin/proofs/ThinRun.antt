@@ -16,7 +16,7 @@ use Rattle.c25_isa.specs.Agrees.{Agrees}
 use Rattle.c25_isa.proofs.CodeAt.{CodeAt, code_at_reset}
 use Rattle.c25_isa.proofs.Leads.{Leads, leads_on, leads_to_end, ldpk_leads, lalk_leads, sacl_leads, out_leads, idle_ends, low_half, low_half_stored}
 use Rattle.c25_isa.specs.Image.{IsRange}
-use Rattle.cc_thin.specs.Thin.{IsThinNumbers, Shape, thin_program, thin_code}
+use Rattle.cc_thin.specs.Thin.{IsThinNumbers, ThinShape, thin_program, thin_code}
 
 -- a lower-case letter may stand in a name
 is_lower : (code : ℕ) → IsWithin 97 122 code → IsNameStart code
@@ -34,7 +34,7 @@ main_is_name = record {
       (is_part 109 (lit≤ tt, lit≤ tt), (is_part 97 (lit≤ tt, lit≤ tt), (is_part 105 (lit≤ tt, lit≤ tt), (is_part 110 (lit≤ tt, lit≤ tt), tt))));
 }
 
-pub thin_runs : (shape : Shape) (port word answer : ℕ) (input : Input) (n : ℕ) → source_run (thin_program shape port word answer) input n ≡ source.Ended ((port, word) ∷ []) (Returned answer)
+pub thin_runs : (shape : ThinShape) (port word answer : ℕ) (input : Input) (n : ℕ) → source_run (thin_program shape port word answer) input n ≡ source.Ended ((port, word) ∷ []) (Returned answer)
 thin_runs shape port word answer input n = refl
 
 are_instructions : (port c d : ℕ) → port < 16 → c < 65536 → d < 65536 → AllByRecursion IsInstr (thin_code port c d)
@@ -86,7 +86,7 @@ module _ (s : Start) (input : Input) (port c d : ℕ) (port_lt : port < 16) (c_l
       leads_to_end 5 s0 s5 ((port, stored) ∷ []) (Returned d) to_end ends
       ∙ ap (λ w. Ended ((port, w) ∷ []) (Returned d)) (low_half_stored s.sxm c c_lt)
 
-pub thin_agrees : (shape : Shape) (port word answer : ℕ) → IsThinNumbers port word answer → Agrees (source_run (thin_program shape port word answer)) (code_words (thin_code port word answer))
+pub thin_agrees : (shape : ThinShape) (port word answer : ℕ) → IsThinNumbers port word answer → Agrees (source_run (thin_program shape port word answer)) (code_words (thin_code port word answer))
 thin_agrees shape port word answer h s input ok begins fits = record {
   ends = λ n outs ending e. (6, code_runs s input port word answer h.port_fits h.word_fits h.answer_fits begins ∙ (cc));
   undefined = λ n outs kind place e. cc;

@@ -8,7 +8,7 @@ use Rattle.c_tree.specs.declared.program.VarRef.{VarRef}
 use Rattle.c_tree.specs.TypedTree.{Kind, Expr, Node, Out, Stmt, Stmts, Block, Do_expr, Return, done, both, ObjectTree, FunctionTree, ProgramTree}
 use Rattle.c_tree.specs.SourceRun.{main_name}
 use Rattle.c_tree.specs.View.{stmt_of, statement_list}
-use Rattle.cc_thin.specs.Thin.{Shape, IsThinNumbers, IsThin, IsThinProgram, IsThinMain, constant, thin_output, thin_return, thin_function, thin_program}
+use Rattle.cc_thin.specs.Thin.{ThinShape, IsThinNumbers, IsThin, IsThinProgram, IsThinMain, thin_constant, thin_output, thin_return, thin_function, thin_program}
 
 -- a list of three or more isn't one of two
 pub three_statements : (l : List TypedStmt) (x y : TypedStmt) (rest : List TypedStmt) → l ≡ x ∷ y ∷ rest → 0 < length rest → (a b : Stmt) → statement_list l ≡ both a (both b done) → ⊥
@@ -17,8 +17,8 @@ three_statements l x y (z ∷ rest) e some a b h = let both = sym (ap statement_
 
 -- the constant that is returned
 pub answer_found : (r : Option ℕ) (s : Stmt) (e : Expr) (place : ℕ) → s ≡ Return (Some e)
-    → MatchOption r ((word at : ℕ) (base : Base) → e ≢ constant word base at) (λ word. (word < 65536) × ((base : Base) × (e ≡ constant word base place)))
-    → MatchOption r ((shape : Shape) (answer : ℕ) → s ≢ thin_return shape answer) (λ answer. (answer < 65536) × ((at : ℕ) × (base : Base) × (s ≡ Return (Some (constant answer base at)))))
+    → MatchOption r ((word at : ℕ) (base : Base) → e ≢ thin_constant word base at) (λ word. (word < 65536) × ((base : Base) × (e ≡ thin_constant word base place)))
+    → MatchOption r ((shape : ThinShape) (answer : ℕ) → s ≢ thin_return shape answer) (λ answer. (answer < 65536) × ((at : ℕ) × (base : Base) × (s ≡ Return (Some (thin_constant answer base at)))))
 answer_found (Some word) s e place is found = (found.0, (place, found.1.0, is ∙ ap (λ e. Return (Some e)) found.1.1))
 answer_found None s e place is none = λ shape answer h.
     let same : Return (Some e) ≡ thin_return shape answer = sym is ∙ h in
@@ -29,12 +29,12 @@ abbrev pub alone : FunctionTree → ProgramTree
 alone f = record { statics = []; functions = f ∷ [] }
 
 -- the function of a thin program
-of_function : (p : ProgramTree) (f : FunctionTree) → p ≡ alone f → (shape : Shape) (port word answer : ℕ) → IsThin p shape port word answer → f ≡ thin_function shape port word answer
+of_function : (p : ProgramTree) (f : FunctionTree) → p ≡ alone f → (shape : ThinShape) (port word answer : ℕ) → IsThin p shape port word answer → f ≡ thin_function shape port word answer
 of_function p f is shape port word answer t =
     let same : f ∷ [] ≡ thin_function shape port word answer ∷ [] = ap (λ (p : ProgramTree). p.functions) (sym is ∙ t.is) in
     cc
 
-body_of : (f : FunctionTree) (shape : Shape) (port word answer : ℕ) → f ≡ thin_function shape port word answer → f.body ≡ Block [] (both (thin_output shape port word) (both (thin_return shape answer) done))
+body_of : (f : FunctionTree) (shape : ThinShape) (port word answer : ℕ) → f ≡ thin_function shape port word answer → f.body ≡ Block [] (both (thin_output shape port word) (both (thin_return shape answer) done))
 body_of f shape port word answer e = ap (λ (f : FunctionTree). f.body) e
 
 pub no_function : (p : ProgramTree) → ((f : FunctionTree) → p ≢ alone f) → ¬ IsThinProgram p
@@ -54,7 +54,7 @@ pub no_block : (p : ProgramTree) (f : FunctionTree) → p ≡ alone f → ((all 
 no_block p f is none (shape, port, word, answer, t) = none _ (body_of f shape port word answer (of_function p f is shape port word answer t))
 
 -- the statements of a thin program's function
-two_of : (p : ProgramTree) (f : FunctionTree) (all : Stmts) → p ≡ alone f → f.body ≡ Block [] all → (shape : Shape) (port word answer : ℕ) → IsThin p shape port word answer
+two_of : (p : ProgramTree) (f : FunctionTree) (all : Stmts) → p ≡ alone f → f.body ≡ Block [] all → (shape : ThinShape) (port word answer : ℕ) → IsThin p shape port word answer
     → all ≡ both (thin_output shape port word) (both (thin_return shape answer) done)
 two_of p f all is body shape port word answer t =
     let both : Block [] all ≡ _ = sym body ∙ body_of f shape port word answer (of_function p f is shape port word answer t) in
@@ -64,13 +64,13 @@ pub no_two : (p : ProgramTree) (f : FunctionTree) (all : Stmts) → p ≡ alone 
 no_two p f all is body none (shape, port, word, answer, t) = none _ _ (two_of p f all is body shape port word answer t)
 
 pub no_output : (p : ProgramTree) (f : FunctionTree) (all : Stmts) (first second : Stmt) → p ≡ alone f → f.body ≡ Block [] all → all ≡ both first (both second done)
-    → ((shape : Shape) (port word : ℕ) → port < 16 → first ≢ thin_output shape port word) → ¬ IsThinProgram p
+    → ((shape : ThinShape) (port word : ℕ) → port < 16 → first ≢ thin_output shape port word) → ¬ IsThinProgram p
 no_output p f all first second is body pair none (shape, port, word, answer, t) =
     let these = sym pair ∙ two_of p f all is body shape port word answer t in
     none shape port word t.numbers.port_fits (cc)
 
 pub no_return : (p : ProgramTree) (f : FunctionTree) (all : Stmts) (first second : Stmt) → p ≡ alone f → f.body ≡ Block [] all → all ≡ both first (both second done)
-    → ((shape : Shape) (answer : ℕ) → second ≢ thin_return shape answer) → ¬ IsThinProgram p
+    → ((shape : ThinShape) (answer : ℕ) → second ≢ thin_return shape answer) → ¬ IsThinProgram p
 no_return p f all first second is body pair none (shape, port, word, answer, t) =
     let these = sym pair ∙ two_of p f all is body shape port word answer t in
     none shape answer (cc)
@@ -83,17 +83,17 @@ rebuilt : (name : List ℕ) (result : Kind) (params : List VarRef) (scalars : Li
     → made name result params scalars locals body ≡ made main_name result [] [] [] block
 rebuilt name result params scalars locals body block a b c d e = cc
 
-thin_main : (f : FunctionTree) (all : Stmts) (first second : Stmt) (shape : Shape) (port word answer : ℕ) → IsThinMain f → f.body ≡ Block [] all → all ≡ both first (both second done)
+thin_main : (f : FunctionTree) (all : Stmts) (first second : Stmt) (shape : ThinShape) (port word answer : ℕ) → IsThinMain f → f.body ≡ Block [] all → all ≡ both first (both second done)
     → first ≡ thin_output shape port word → second ≡ thin_return shape answer → f ≡ record (thin_function shape port word answer) { result = f.result }
 thin_main f all first second shape port word answer main body pair put back =
     let e : f.body ≡ Block [] (both (thin_output shape port word) (both (thin_return shape answer) done)) = cc (body, pair, put, back) in
     rebuilt f.name f.result f.params f.scalars f.locals f.body _ main.name main.no_parameters main.no_scalars main.no_locals e
 
 pub thin_found : (p : ProgramTree) (f : FunctionTree) (all : Stmts) (first second : Stmt) (port word answer : ℕ) → p ≡ alone f → IsThinMain f → f.body ≡ Block [] all → all ≡ both first (both second done)
-    → (kind : Kind) (at word_at answer_at : ℕ) (base answer_base : Base) → first ≡ Do_expr (Node (Out port (constant word base word_at)) kind at) → second ≡ Return (Some (constant answer answer_base answer_at))
-    → IsThinNumbers port word answer → (shape : Shape) × IsThin p shape port word answer
+    → (kind : Kind) (at word_at answer_at : ℕ) (base answer_base : Base) → first ≡ Do_expr (Node (Out port (thin_constant word base word_at)) kind at) → second ≡ Return (Some (thin_constant answer answer_base answer_at))
+    → IsThinNumbers port word answer → (shape : ThinShape) × IsThin p shape port word answer
 thin_found p f all first second port word answer is main body pair kind at word_at answer_at base answer_base put back numbers =
-    let shape : Shape = record {
+    let shape : ThinShape = record {
       result = f.result;
       output_kind = kind;
       word_base = base;

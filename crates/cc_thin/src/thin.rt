@@ -7,7 +7,7 @@ ghost use Rattle.c_tree.specs.View.{expr_of, stmt_of, statement_list, function_o
 ghost use Rattle.c_tree.specs.SourceRun.{source_run, main_name};
 ghost use Rattle.c25_isa.specs.Agrees.{Agrees};
 ghost use Rattle.c25_isa.specs.Table.{IsInstr, code_words};
-ghost use Rattle.cc_thin.specs.Thin.{Shape, IsThinNumbers, IsThin, IsThinProgram, IsThinMain, constant, thin_output, thin_return, thin_program, thin_code};
+ghost use Rattle.cc_thin.specs.Thin.{ThinShape, IsThinNumbers, IsThin, IsThinProgram, IsThinMain, thin_constant, thin_output, thin_return, thin_program, thin_code};
 
 use c_tree::{ExprForm, Function, Program, TypedExpr, TypedStmt};
 use c25_isa::{Instr, Operand};
@@ -32,7 +32,7 @@ impl Thin {
         requires { IsThinNumbers self.port self.word self.answer }
         ensures value { result ≡ thin_code self.port self.word self.answer }
         ensures instructions { All IsInstr result }
-        ensures agrees { (shape : Shape) → Agrees (source_run (thin_program shape self.port self.word self.answer)) (code_words result) }
+        ensures agrees { (shape : ThinShape) → Agrees (source_run (thin_program shape self.port self.word self.answer)) (code_words result) }
     {
         let first = Operand::Direct(0);
         [
@@ -59,10 +59,10 @@ impl Thin {
 }
 
 // The word of a constant of a type of integers.
-fn constant(e: &TypedExpr) -> Option<u16>
+fn thin_constant(e: &TypedExpr) -> Option<u16>
     ensures { MatchOption result
-        ((word at : ℕ) (base : Base) → expr_of e.now ≢ constant word base at)
-        (λ word. (word < 65536) × ((base : Base) × (expr_of e.now ≡ constant word base e.now.at))) }
+        ((word at : ℕ) (base : Base) → expr_of e.now ≢ thin_constant word base at)
+        (λ word. (word < 65536) × ((base : Base) × (expr_of e.now ≡ thin_constant word base e.now.at))) }
 {
     match (&e.form, e.kind) {
         (ExprForm::Const(word), Some(kind)) if kind.stars == 0 => Some(*word),
@@ -88,26 +88,26 @@ fn put_by(stmt: &TypedStmt) -> Option<(u8, &TypedExpr)>
 // The port and the word of an output.
 fn output(stmt: &TypedStmt) -> Option<(u8, u16)>
     ensures { MatchOption result
-        ((shape : Shape) (port word : ℕ) → port < 16 → stmt_of stmt.now ≢ thin_output shape port word)
+        ((shape : ThinShape) (port word : ℕ) → port < 16 → stmt_of stmt.now ≢ thin_output shape port word)
         (λ put. (put.0 < 16) × (put.1 < 65536) × ((kind : Kind) × (at : ℕ) × (word_at : ℕ) × (base : Base)
-        × (stmt_of stmt.now ≡ Do_expr (Node (Out put.0 (constant put.1 base word_at)) kind at)))) }
+        × (stmt_of stmt.now ≡ Do_expr (Node (Out put.0 (thin_constant put.1 base word_at)) kind at)))) }
 {
     let (port, value) = put_by(stmt)?;
-    let word = constant(value)?;
+    let word = thin_constant(value)?;
     if port < 16 { Some((port, word)) } else { None }
 }
 
 // The word that a statement returns.
 fn answer(stmt: &TypedStmt) -> Option<u16>
     ensures { MatchOption result
-        ((shape : Shape) (answer : ℕ) → stmt_of stmt.now ≢ thin_return shape answer)
-        (λ answer. (answer < 65536) × ((at : ℕ) × (base : Base) × (stmt_of stmt.now ≡ Return (Some (constant answer base at))))) }
+        ((shape : ThinShape) (answer : ℕ) → stmt_of stmt.now ≢ thin_return shape answer)
+        (λ answer. (answer < 65536) × ((at : ℕ) × (base : Base) × (stmt_of stmt.now ≡ Return (Some (thin_constant answer base at))))) }
 {
     let TypedStmt::Return(value) = stmt else {
         return None;
     };
     match value {
-        Some(value) => constant(value),
+        Some(value) => thin_constant(value),
         None => None,
     }
 }
@@ -171,7 +171,7 @@ fn lone_function(program: &Program) -> Option<&Function>
 pub fn read_thin(program: &Program) -> Option<Thin>
     ensures { MatchOption result
         (¬ IsThinProgram (program_of program.now))
-        (λ t. (shape : Shape) × IsThin (program_of program.now) shape t.port t.word t.answer) }
+        (λ t. (shape : ThinShape) × IsThin (program_of program.now) shape t.port t.word t.answer) }
 {
     let function = lone_function(program)?;
     if !is_main(function) {

@@ -16,7 +16,7 @@ use Rattle.clap.specs.Walk.{is_empty}
 use Rattle.clap.proofs.OnLiterals.{clap_on_literals}
 use Rattle.cc_words.specs.Asked.{Asked, ToBuild, ToRun, ToEvaluate, asked, asked_to, asked_to_build, asked_to_evaluate, asked_to_run, build_of, is_number_to, is_plain_word, is_taken, means_of, number_to, numbered_of, run_of}
 use Rattle.cc_words.specs.Commands.{build_app, greatest_steps, greatest_turns, means_app, numbered_app, run_app, steps_rule, turns_rule}
-use Rattle.cc_words.specs.Plain.{AsksFor, AsksWithin, BuildsNoOtherNames, IsWithin, MeansWithTurns, MeansWithTurnsAttached, MeansWithTurnsFirst, RunsWithSteps, RunsWithStepsAttached, RunsWithStepsFirst}
+use Rattle.cc_words.specs.Plain.{AsksFor, AsksWithin, BuildsNoOtherNames, IsWithinBounds, MeansWithTurns, MeansWithTurnsAttached, MeansWithTurnsFirst, RunsWithSteps, RunsWithStepsAttached, RunsWithStepsFirst}
 
 -- the word is no `--`, no `--name` and no `-n`
 abbrev IsNoFlag : Text → Type 0
@@ -283,8 +283,8 @@ number_bounded greatest m n e = go (is_number_to greatest m) refl e
         let ok : IsUnsignedIn 1 greatest m = accepts-Accepts false (parser.Unsigned 1 greatest) m f in
         (subst (λ k. 1 ≤ k) is ok.2, subst (λ k. k ≤ greatest) is ok.3)
 
-numbered_bounded : (first second number : Text) (greatest : ℕ) (what : Text → Text → ℕ → Asked) → ((a b : Text) (n : ℕ) → (1 ≤ n) × (n ≤ greatest) → IsWithin (what a b n))
-    → (rows : List Row) → IfSome (numbered_of first second number greatest what rows) IsWithin
+numbered_bounded : (first second number : Text) (greatest : ℕ) (what : Text → Text → ℕ → Asked) → ((a b : Text) (n : ℕ) → (1 ≤ n) × (n ≤ greatest) → IsWithinBounds (what a b n))
+    → (rows : List Row) → IfSome (numbered_of first second number greatest what rows) IsWithinBounds
 numbered_bounded first second number greatest what within rows = names (first_of first rows) (first_of second rows) (option_and_then (number_to greatest) (one_of number rows)) refl
   where
     bounded : (o : Option Text) (n : ℕ) → option_and_then (number_to greatest) o ≡ Some n → (1 ≤ n) × (n ≤ greatest)
@@ -292,22 +292,22 @@ numbered_bounded first second number greatest what within rows = names (first_of
     bounded (Some t) n e = number_bounded greatest t n e
 
     names : (i p : Option Text) (n : Option ℕ) → option_and_then (number_to greatest) (one_of number rows) ≡ n
-        → IfSome (option_and_then (λ a. option_and_then (λ b. option_map (what a b) n) p) i) IsWithin
+        → IfSome (option_and_then (λ a. option_and_then (λ b. option_map (what a b) n) p) i) IsWithinBounds
     names None p n e = tt
     names (Some i) None n e = tt
     names (Some i) (Some p) None e = tt
     names (Some i) (Some p) (Some n) e = within i p n (bounded (one_of number rows) n e)
 
-build_bounded : (rows : List Row) → IfSome (build_of rows) IsWithin
+build_bounded : (rows : List Row) → IfSome (build_of rows) IsWithinBounds
 build_bounded rows = names (first_of (codes "source") rows) (first_of (codes "image") rows)
   where
-    names : (s i : Option Text) → IfSome (option_and_then (λ source. option_map (ToBuild source) i) s) IsWithin
+    names : (s i : Option Text) → IfSome (option_and_then (λ source. option_map (ToBuild source) i) s) IsWithinBounds
     names None i = tt
     names (Some s) None = tt
     names (Some s) (Some i) = tt
 
 -- what holds of what is asked for, where the words are taken
-taken_only : (t : Bool) (o : Option Asked) → IfSome o IsWithin → IfSome (cond t o None) IsWithin
+taken_only : (t : Bool) (o : Option Asked) → IfSome o IsWithinBounds → IfSome (cond t o None) IsWithinBounds
 taken_only true o h = h
 taken_only false o h = tt
 
@@ -319,7 +319,7 @@ within_asked (name ∷ rest) = go (bytes_eq name (codes "build")) (bytes_eq name
     words : List Text
     words = name ∷ rest
 
-    go : (b r m : Bool) → IfSome (cond b (asked_to_build words) (cond r (asked_to_run words) (cond m (asked_to_evaluate words) None))) IsWithin
+    go : (b r m : Bool) → IfSome (cond b (asked_to_build words) (cond r (asked_to_run words) (cond m (asked_to_evaluate words) None))) IsWithinBounds
     go true r m = taken_only (is_taken build_app words) (build_of (matches_of build_app words)) (build_bounded (matches_of build_app words))
     go false true m = taken_only (is_taken run_app words) (run_of (matches_of run_app words)) (numbered_bounded _ _ _ greatest_steps ToRun (λ a b n h. h) (matches_of run_app words))
     go false false true = taken_only (is_taken means_app words) (means_of (matches_of means_app words)) (numbered_bounded _ _ _ greatest_turns ToEvaluate (λ a b n h. h) (matches_of means_app words))

@@ -76,11 +76,11 @@ MeansWithTurnsAttached = OnPlain (λ a b. (text : Text)
     → MeansFor a b text (codes "means" ∷ a ∷ b ∷ (codes "--turns=" ++ text) ∷ []))
 
 -- a run is of 1 to 100,000,000 steps, and a loop of an evaluation has 1 to 1,000,000 turns
-abbrev pub IsWithin : Asked → Type 0
-IsWithin (ToBuild source image) = ⊤
-IsWithin (ToRun image ports steps) = (1 ≤ steps) × (steps ≤ greatest_steps)
-IsWithin (ToEvaluate source ports turns) = (1 ≤ turns) × (turns ≤ greatest_turns)
+abbrev pub IsWithinBounds : Asked → Type 0
+IsWithinBounds (ToBuild source image) = ⊤
+IsWithinBounds (ToRun image ports steps) = (1 ≤ steps) × (steps ≤ greatest_steps)
+IsWithinBounds (ToEvaluate source ports turns) = (1 ≤ turns) × (turns ≤ greatest_turns)
 
 -- and that holds of whatever is asked for
 abbrev pub AsksWithin : Type 0
-AsksWithin = (words : List Text) → IfSome (asked words) IsWithin
+AsksWithin = (words : List Text) → IfSome (asked words) IsWithinBounds

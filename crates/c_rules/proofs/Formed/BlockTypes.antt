@@ -16,8 +16,8 @@ use Rattle.c_rules.specs.Programs.{cell_kind, cell_count}
 use Rattle.c_rules.specs.Scopes.{Scope, is_taken}
 use Rattle.c_rules.specs.Typing.{plain}
 use Rattle.c_rules.specs.Declarations.{declarator}
-use Rattle.c_rules.specs.Statements.{LocalTree, Initialiser, initialiser, is_array, Start, started}
-use Rattle.c_rules.specs.Statements.{Opened, opened_in, with_object, placed, declared_as, block_item, block_items, declarations}
+use Rattle.c_rules.specs.Statements.{LocalTree, Initialiser, initialiser, is_array, ObjectStart, started}
+use Rattle.c_rules.specs.Statements.{Opened, opened_in, with_named_object, placed, declared_as, block_item, block_items, declarations}
 use Rattle.c_tree.specs.WellFormed.{Shape, Names, IsWellFormed}
 use Rattle.c_rules.proofs.Formed.Context.{Gives, is, broken, behind, unless, Fits, IsLocal, numbers_from}
 use Rattle.c_rules.proofs.Formed.OpenedNames.{Knows}
@@ -61,9 +61,9 @@ module _ (s : Scope) (ls : List LocalTree) (o : Opened) (opened : Opens s ls o) 
   number = refs.Local (length o.locals)
 
   abbrev seen : ObjectType → Scope
-  seen type = with_object o.scope item.name number (declares.Object type)
+  seen type = with_named_object o.scope item.name number (declares.Object type)
 
-  abbrev local : ObjectType → Start → LocalTree
+  abbrev local : ObjectType → ObjectStart → LocalTree
   local type start = record { name = item.name; object_type = type; values = start.values }
 
   -- its number is behind those of the block so far
@@ -79,7 +79,7 @@ module _ (s : Scope) (ls : List LocalTree) (o : Opened) (opened : Opens s ls o) 
     sees : (names : Names) → Fits names o.scope → IsHeld names (length o.locals) type → Sees type names
     sees names fits held = record { fits = fits_with_object names o.scope item.name (length o.locals) type object.is_type held fits; held = held }
 
-    module _ (start : Start) (starts : (names : Names) → Sees type names → IsStart names type start) where
+    module _ (start : ObjectStart) (starts : (names : Names) → Sees type names → IsStart names type start) where
       abbrev others : List LocalTree
       others = opened.others ++ local type start ∷ []
 
@@ -115,8 +115,8 @@ module _ (s : Scope) (ls : List LocalTree) (o : Opened) (opened : Opens s ls o) 
       }
 
   declared_opens : (d : Declared) (i : Initialiser) → IsDeclaredType d
-      → ((names : Names) → Fits names (with_object o.scope item.name number d) → IsInitialiser names i)
-      → Gives (Opens s ls) (declared_as o (with_object o.scope item.name number d) number d item i)
+      → ((names : Names) → Fits names (with_named_object o.scope item.name number d) → IsInitialiser names i)
+      → Gives (Opens s ls) (declared_as o (with_named_object o.scope item.name number d) number d item i)
   declared_opens declares.Untyped i type typed = broken _ item.at
   declared_opens (declares.Function type) i function typed = unless (is_some item.initial) _ _ _ λ none. broken _ item.at
   declared_opens (declares.Object type) i object typed =
@@ -128,9 +128,9 @@ module _ (s : Scope) (ls : List LocalTree) (o : Opened) (opened : Opens s ls o) 
   item_opens : (b : Base) → Gives (Opens s ls) (block_item o b item)
   item_opens b =
       behind (declarator o.scope b item.form item.stars item.initial) _ (declared_type o.scope b item.form item.stars item.initial) λ d type.
-      behind (initialiser (with_object o.scope item.name number d) (is_array item.form) item.initial) _
-      (for_all {F = λ names. Fits names (with_object o.scope item.name number d)} (initialiser (with_object o.scope item.name number d) (is_array item.form) item.initial)
-      (λ names fits. typed_initialiser names (with_object o.scope item.name number d) fits (is_array item.form) item.initial)) λ i typed.
+      behind (initialiser (with_named_object o.scope item.name number d) (is_array item.form) item.initial) _
+      (for_all {F = λ names. Fits names (with_named_object o.scope item.name number d)} (initialiser (with_named_object o.scope item.name number d) (is_array item.form) item.initial)
+      (λ names fits. typed_initialiser names (with_named_object o.scope item.name number d) fits (is_array item.form) item.initial)) λ i typed.
       unless (is_taken o.scope item.name) _ _ _ λ free. declared_opens d i type typed
 
 items_open : (s : Scope) (ls : List LocalTree) (b : Base) (o : Opened) (items : List ItemTree) → Opens s ls o → Gives (Opens s ls) (block_items o b items)

@@ -14,7 +14,7 @@ use Rattle.std.proofs.lemmas.Option.{slice_get-map, slice_get_within, get_or_fro
 use Rattle.std.proofs.lemmas.Slice.Eq.{bytes_eq-Decides}
 use Rattle.c_syntax.specs.SyntaxTree as tree
 use Rattle.c_syntax.specs.SyntaxTree.{FunctionSyntax, Defined, UnitTree}
-use Rattle.c_rules.specs.Units.{TypedFunction, is_among, bodies_behind}
+use Rattle.c_rules.specs.Units.{TypedFunction, is_name_among, bodies_behind}
 use Rattle.c_rules.proofs.Formed.FileSoFar.{function_names}
 
 -- the place of a name among others
@@ -32,7 +32,7 @@ one_behind names name xs false kept longer = (name ∷ longer.0, longer.1 ∙ ap
 
 names_first : (names : List (List ℕ)) (xs : UnitTree) → AreFirst names (bodies_behind names xs)
 names_first names [] = ([], sym (append-nil names))
-names_first names (Defined f ∷ xs) = one_behind names f.name xs (is_among f.name names) (names_first names xs) (names_first (names ++ f.name ∷ []) xs)
+names_first names (Defined f ∷ xs) = one_behind names f.name xs (is_name_among f.name names) (names_first names xs) (names_first (names ++ f.name ∷ []) xs)
 names_first names (tree.Declared d ∷ xs) = names_first names xs
 
 -- a name that is among the first has its place among them
@@ -40,18 +40,18 @@ within_one : (here later : Bool) (place count : ℕ) → (here || later) ≡ tru
 within_one true later place count among rest = omega arith
 within_one false later place count among rest = omega (arith, rest among)
 
-place_among : (name : List ℕ) (names more : List (List ℕ)) → is_among name names ≡ true → place_of name (names ++ more) < length names
+place_among : (name : List ℕ) (names more : List (List ℕ)) → is_name_among name names ≡ true → place_of name (names ++ more) < length names
 place_among name [] more among = absurd (cc among)
 place_among name (n ∷ names) more among =
-    within_one (bytes_eq n name) (is_among name names) (place_of name (names ++ more)) (length names) among (place_among name names more)
+    within_one (bytes_eq n name) (is_name_among name names) (place_of name (names ++ more)) (length names) among (place_among name names more)
 
 -- a name whose place isn't among those of the functions so far is none of theirs
 pub new_name : (name : List ℕ) (fs : List TypedFunction) (xs : UnitTree) (bodies : List (List ℕ)) → bodies ≡ bodies_behind (function_names fs) xs
-    → nat_lt (place_of name bodies) (length fs) ≡ false → is_among name (function_names fs) ≡ false
+    → nat_lt (place_of name bodies) (length fs) ≡ false → is_name_among name (function_names fs) ≡ false
 new_name name fs xs bodies are later =
     let first = names_first (function_names fs) xs in
     let many : length (function_names fs) ≡ length fs = length-map fs (λ (f : TypedFunction). f.name) in
-    false_from_ne_true (is_among name (function_names fs)) (λ among.
+    false_from_ne_true (is_name_among name (function_names fs)) (λ among.
     let place : place_of name bodies < length fs =
     subst (λ ns. place_of name ns < length fs) (sym (are ∙ first.1)) (omega (arith, place_among name (function_names fs) first.0 among, many)) in
     true≢false (sym (lt-ltb (place_of name bodies) (length fs) place) ∙ later))
@@ -60,20 +60,20 @@ new_name name fs xs bodies are later =
 names_pushed : (fs : List TypedFunction) (f : TypedFunction) → function_names (fs ++ f ∷ []) ≡ function_names fs ++ f.name ∷ []
 names_pushed fs f = map-append (λ (g : TypedFunction). g.name) fs (f ∷ [])
 
-pub bodies_pushed : (f : FunctionSyntax) (fs : List TypedFunction) (g : TypedFunction) (xs : UnitTree) → g.name ≡ f.name → is_among f.name (function_names fs) ≡ false
+pub bodies_pushed : (f : FunctionSyntax) (fs : List TypedFunction) (g : TypedFunction) (xs : UnitTree) → g.name ≡ f.name → is_name_among f.name (function_names fs) ≡ false
     → bodies_behind (function_names fs) (Defined f ∷ xs) ≡ bodies_behind (function_names (fs ++ g ∷ [])) xs
 bodies_pushed f fs g xs named new =
     ap (λ b. bodies_behind (if b then function_names fs else function_names fs ++ f.name ∷ []) xs) new
     ∙ ap (λ n. bodies_behind (function_names fs ++ n ∷ []) xs) (sym named)
     ∙ ap (λ ns. bodies_behind ns xs) (sym (names_pushed fs g))
 
-others : (name : List ℕ) (names : List (List ℕ)) → is_among name names ≡ false → All (λ n. n ≢ name) names
+others : (name : List ℕ) (names : List (List ℕ)) → is_name_among name names ≡ false → All (λ n. n ≢ name) names
 others name [] new = All-nil (λ n. n ≢ name)
 others name (n ∷ names) new =
-    let parts = or_parts (bytes_eq n name) (is_among name names) new in
+    let parts = or_parts (bytes_eq n name) (is_name_among name names) new in
     All-cons (λ n. n ≢ name) n names (not_from_Decides (bytes_eq n name) (bytes_eq-Decides n name) parts.0) (others name names parts.1)
 
-pub names_still_differ : (fs : List TypedFunction) (g : TypedFunction) → is_among g.name (function_names fs) ≡ false → AllPairs (λ a b. a ≢ b) (function_names fs)
+pub names_still_differ : (fs : List TypedFunction) (g : TypedFunction) → is_name_among g.name (function_names fs) ≡ false → AllPairs (λ a b. a ≢ b) (function_names fs)
     → AllPairs (λ a b. a ≢ b) (function_names (fs ++ g ∷ []))
 names_still_differ fs g new differ =
     subst (AllPairs (λ a b. a ≢ b)) (sym (names_pushed fs g)) (all_pairs_push (λ a b. a ≢ b) (function_names fs) g.name differ (others g.name (function_names fs) new))

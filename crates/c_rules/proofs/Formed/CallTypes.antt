@@ -15,8 +15,8 @@ use Rattle.c_rules.specs.declared.meaning.Meaning.TheVariants as meanings
 use Rattle.c_rules.specs.Kinds.{int}
 use Rattle.c_rules.specs.Outcome.{Is}
 use Rattle.c_rules.specs.Operands.{Operand, class_at, any_void, passed, is_integer, no_more, input, is_word_first, sent, output}
-use Rattle.c_rules.specs.Typing.{called}
-use Rattle.c_tree.specs.Kinds.{IsType, IsInteger}
+use Rattle.c_rules.specs.Typing.{typed_call}
+use Rattle.c_tree.specs.Kinds.{IsScalarType, IsInteger}
 use Rattle.c_tree.specs.WellFormed.{Signature, Names, IsWellTyped, AreWellTyped, IsCall, kinds_of}
 use Rattle.c_rules.proofs.Formed.Context.{Gives, broken, is, behind, unless, signature_of, IsMeaning}
 use Rattle.c_rules.proofs.Formed.OperandKinds.{OfClass, of_class}
@@ -37,13 +37,13 @@ module _ (names : Names) where
   abbrev AreOf : List ScalarType → Exprs → Type 0
   AreOf kinds es = AreWellTyped names es × (kinds_of es ≡ map Some kinds)
 
-  passed_typed : (kinds : List ScalarType) (at : ℕ) (xs : List Operand) → All IsType kinds → AreOperands xs → Gives (AreOf kinds) (passed kinds at xs)
+  passed_typed : (kinds : List ScalarType) (at : ℕ) (xs : List Operand) → All IsScalarType kinds → AreOperands xs → Gives (AreOf kinds) (passed kinds at xs)
   passed_typed [] at [] types typed = is _ (tt {0}, refl)
   passed_typed [] at (x ∷ xs) types typed = unless (any_void (x ∷ xs)) Mismatch at _ (λ values. broken ArgCount at)
   passed_typed (kind ∷ kinds) at [] types typed = broken ArgCount at
   passed_typed (kind ∷ kinds) at (x ∷ xs) types typed =
-      behind _ _ (given_value names kind at x (All-head IsType kind kinds types) typed.0) (λ v of.
-      behind _ _ (passed_typed kinds at xs (All-tail IsType kind kinds types) typed.1) (λ vs those. is _ ((of.0, those.0), ap₂ ◌∷◌ of.1 those.1)))
+      behind _ _ (given_value names kind at x (All-head IsScalarType kind kinds types) typed.0) (λ v of.
+      behind _ _ (passed_typed kinds at xs (All-tail IsScalarType kind kinds types) typed.1) (λ vs those. is _ ((of.0, those.0), ap₂ ◌∷◌ of.1 those.1)))
 
   call_typed : (function : Option Signature) (kinds : List Kind) (type : FunctionType) → ((s : Signature) → function ≡ Some s → s ≡ signature_of type)
       → kinds ≡ map Some type.parameters → IsCall function kinds type.result
@@ -51,7 +51,7 @@ module _ (names : Names) where
   call_typed (Some s) kinds type same given = subst (λ s. (kinds ≡ s.parameters) × (type.result ≡ s.result)) (sym (same s refl)) (given, refl)
 
   pub called_typed : (function : ℕ) (m : Option Meaning) (at : ℕ) (xs : List Operand) → ((meaning : Meaning) → m ≡ Some meaning → IsMeaning names function meaning)
-      → AreOperands xs → Gives (IsOperand names) (called function m at xs)
+      → AreOperands xs → Gives (IsOperand names) (typed_call function m at xs)
   called_typed function None at xs means typed = broken Undeclared at
   called_typed function (Some (meanings.Object reference type)) at xs means typed = broken Mismatch at
   called_typed function (Some (meanings.Function type)) at xs means typed =

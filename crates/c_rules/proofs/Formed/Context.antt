@@ -13,8 +13,8 @@ use Rattle.c_rules.specs.Outcome.{Outcome, Is, Broken, ◌>>=◌, breaks, there_
 use Rattle.c_rules.specs.Programs.{cell_kind, cell_count, is_single}
 use Rattle.c_rules.specs.Scopes.{Scope}
 use Rattle.c_rules.specs.Statements.{LocalTree}
-use Rattle.c_rules.specs.Typing.{number_of}
-use Rattle.c_tree.specs.Kinds.{IsType, IsKind}
+use Rattle.c_rules.specs.Typing.{bodies_before}
+use Rattle.c_tree.specs.Kinds.{IsScalarType, IsKind}
 use Rattle.c_tree.specs.WellFormed.{Shape, Signature, Names, IsAddressable, IsInitial}
 use Rattle.c_tree.specs.declared.limits.TheConstants.{MOST_CELLS}
 
@@ -57,12 +57,12 @@ signature_of type = record { parameters = map Some type.parameters; result = typ
 
 -- a name stands for this: an object that is there with its type, or a function, which has this type where it has a body
 abbrev pub IsMeaning : Names → ℕ → Meaning → Type 0
-IsMeaning names n (meanings.Object r type) = (names.object r ≡ Some (shape_of type)) × IsType (cell_kind type) × IsAddressable r
+IsMeaning names n (meanings.Object r type) = (names.object r ≡ Some (shape_of type)) × IsScalarType (cell_kind type) × IsAddressable r
 IsMeaning names n (meanings.Function type) =
-    ((s : Signature) → names.function n ≡ Some s → s ≡ signature_of type) × IsKind type.result × All IsType type.parameters
+    ((s : Signature) → names.function n ≡ Some s → s ≡ signature_of type) × IsKind type.result × All IsScalarType type.parameters
 
 abbrev pub Fits : Names → Scope → Type 0
-Fits names s = (name : List ℕ) (m : Meaning) → s.meaning name ≡ Some m → IsMeaning names (number_of s name) m
+Fits names s = (name : List ℕ) (m : Meaning) → s.meaning name ≡ Some m → IsMeaning names (bodies_before s name) m
 
 -- the objects of a function so far are those of these numbers
 pub record Holds (locals : List LocalTree) (objects : VarRef → Option Shape) (names : Names) : Type 0 where
@@ -81,7 +81,7 @@ numbers_from first (suc count) = refs.Local first ∷ numbers_from (suc first) c
 
 -- an object of this type with this list, where these are the statics
 pub record IsStored (static : ℕ → Option Shape) (type : ObjectType) (values : List Initial) : Type 0 where
-  pub is_type : IsType (cell_kind type)
+  pub is_type : IsScalarType (cell_kind type)
   pub from_one : 1 ≤ cell_count type
   pub most : cell_count type ≤ MOST_CELLS
   pub within : length values ≤ cell_count type

@@ -16,7 +16,7 @@ use Rattle.c_rules.specs.Outcome.{Outcome, ◌>>=◌}
 use Rattle.c_rules.specs.Kinds.{is_void}
 use Rattle.c_rules.specs.Operands.{Operand, stepped_after, stepped_before, assigned, assigned_by, passed}
 use Rattle.c_rules.specs.Scopes.{Scope, is_in, is_out}
-use Rattle.c_rules.specs.Typing.{type_named, named_as, named, number_of, called, array_length, prefixed, is_address, takes_address, of_object, word_at, operand, Arguments, Operands, NoPort, Port, arguments_from, call_of}
+use Rattle.c_rules.specs.Typing.{type_named, named_as, typed_name, bodies_before, typed_call, array_length, prefixed, is_address, takes_address, of_object, word_at, operand, Arguments, Operands, NoPort, Port, arguments_from, call_of}
 use Rattle.c_rules.specs.Typing.{typing, typing_form, operands, port_arguments, constant_typing}
 use Rattle.c_rules.proofs.Formed.Context.{Gives, is, broken, behind, unless}
 use Rattle.c_rules.proofs.Formed.GivesLemmas.{anything, one_of}
@@ -37,10 +37,10 @@ named_as_few at (Some (meanings.Object r (Single kind))) = is _ (omega arith)
 named_as_few at (Some (meanings.Object r (Array kind n))) = is _ (omega arith)
 named_as_few at (Some (meanings.Function type)) = broken _ _
 
-named_few : (s : Scope) (name : List ℕ) (at : ℕ) → Takes 1 (named s name at)
+named_few : (s : Scope) (name : List ℕ) (at : ℕ) → Takes 1 (typed_name s name at)
 named_few s name at = unless (is_in name || is_out name) _ _ _ λ own. named_as_few at (s.meaning name)
 
-called_few : (f : ℕ) (m : Option Meaning) (at : ℕ) (xs : List Operand) → Takes (all_taken xs) (called f m at xs)
+called_few : (f : ℕ) (m : Option Meaning) (at : ℕ) (xs : List Operand) → Takes (all_taken xs) (typed_call f m at xs)
 called_few f None at xs = broken _ _
 called_few f (Some (meanings.Object r type)) at xs = broken _ _
 called_few f (Some (meanings.Function type)) at xs =
@@ -58,7 +58,7 @@ arguments_few : (n : ℕ) (name : List ℕ) (port : Outcome Arguments) (xs : Out
 arguments_few n name port xs first second = one_of (is_in name || is_out name) _ _ first (behind xs _ second λ xs few. is _ few)
 
 call_of_few : (s : Scope) (name : List ℕ) (at : ℕ) (a : Arguments) → Takes (taken_by a) (call_of s name at a)
-call_of_few s name at (Operands xs) = called_few (number_of s name) (s.meaning name) at xs
+call_of_few s name at (Operands xs) = called_few (bodies_before s name) (s.meaning name) at xs
 call_of_few s name at NoPort = broken _ _
 call_of_few s name at (Port class port xs) =
     one_of (is_in name) _ _ (at_most 0 _ (omega arith) (input_few at class port xs)) (output_few at class port xs)

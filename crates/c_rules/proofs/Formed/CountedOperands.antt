@@ -14,9 +14,9 @@ use Rattle.c_rules.specs.declared.class.Class.TheVariants.{Nothing, Integer, Poi
 use Rattle.c_rules.specs.Outcome.{Outcome, Is}
 use Rattle.c_rules.specs.Operands as operands
 use Rattle.c_rules.specs.Kinds.{same_kind, same_type, void_pointer, class_of, is_void, is_void_pointer}
-use Rattle.c_rules.specs.Operands.{Operand, class_at, converted, number, pointer_given, given_as, given, Pair, common_of, balanced}
+use Rattle.c_rules.specs.Operands.{Operand, class_at, converted, typed_number, pointer_given, given_as, given, Pair, common_of, balanced}
 use Rattle.c_rules.specs.Operands.{null_like, converted_like, pointers_met, met_as, met}
-use Rattle.c_rules.specs.Operands.{product_as, sum_as, sum, pointers, difference_as, shift_as, order_as, equality, binary_as, binary}
+use Rattle.c_rules.specs.Operands.{product_as, sum_as, sum, pointers, difference_as, shift_as, order_as, typed_equality, binary_as, binary}
 use Rattle.c_rules.specs.Operands.{unary_as, unary, negated, both_true, either_true}
 use Rattle.c_rules.specs.Operands.{arms_as, picked, lvalue_of, written, assigned_as, assigned, assigned_by, stepped_before, stepped_after}
 use Rattle.c_rules.specs.Operands.{address_of, address, loaded_as, target_of, loaded, indexed}
@@ -179,10 +179,10 @@ module _ (at : ℕ) (x y : Expr) where
   pub either_true_few : Takes two (either_true at x y)
   either_true_few = unless (is_void (kind_of x) || is_void (kind_of y)) _ _ _ λ some. is _ joined
 
-  pub behind_few : Takes two (Is (operands.behind at x y))
+  pub behind_few : Takes two (Is (operands.typed_comma at x y))
   behind_few = is _ joined
 
-equality_few : (o : BinaryOp) (at : ℕ) (x y : Operand) → Takes (taken x.value + taken y.value) (equality o at x y)
+equality_few : (o : BinaryOp) (at : ℕ) (x y : Operand) → Takes (taken x.value + taken y.value) (typed_equality o at x y)
 equality_few o at x y = behind (met at x y) _ (met_as_few at x y (class_at x) (class_at y)) λ p few. is _ (pair_few p _ few)
 
 module _ (at : ℕ) (x y : Operand) where
@@ -352,7 +352,7 @@ output_few at c port xs =
     unless (nat_lt 15 port) _ _ _ λ right. sent_few at port xs
 
 -- constants
-pub number_few : (value : ℕ) (marked decimal : Bool) (at : ℕ) → Takes 0 (number value marked decimal at)
+pub number_few : (value : ℕ) (marked decimal : Bool) (at : ℕ) → Takes 0 (typed_number value marked decimal at)
 number_few value marked decimal at =
     one_of (nat_lt 65535 value) _ _ (broken _ _)
     (one_of marked _ _ (is _ (omega arith))

@@ -22,9 +22,9 @@ use Rattle.c_rules.specs.Kinds.{is_void, class_of}
 use Rattle.c_rules.specs.Operands.{Operand, given, is_integer}
 use Rattle.c_rules.specs.Scopes.{Scope, open_scope, is_taken}
 use Rattle.c_rules.specs.Typing.{plain, typing, operand, constant_typing, word_at}
-use Rattle.c_rules.specs.Declarations.{declarator, entries, listed}
-use Rattle.c_rules.specs.Statements.{LocalTree, Initialiser, Absent, Value, Listed, Misbraced, all_typed, initialiser, is_array, Start, started, Opened, opened_in}
-use Rattle.c_rules.specs.Statements.{with_object, declared_as, block_item, block_items, declarations, before, optional, is_void_test, returned}
+use Rattle.c_rules.specs.Declarations.{declarator, entries, array_list}
+use Rattle.c_rules.specs.Statements.{LocalTree, Initialiser, Absent, Value, Listed, Misbraced, all_typed, initialiser, is_array, ObjectStart, started, Opened, opened_in}
+use Rattle.c_rules.specs.Statements.{with_named_object, declared_as, block_item, block_items, declarations, before, optional, is_void_test, typed_return}
 use Rattle.c_rules.specs.Statements.{may_break, may_continue, in_switch, repeats_label, Typed, Labelled, typed_statement, typed_statements, typed_choices, typed_body}
 use Rattle.c_rules.proofs.Formed.Context.{Gives, is, broken, behind, unless}
 use Rattle.c_rules.proofs.Formed.GivesLemmas.{anything, weaker}
@@ -59,10 +59,10 @@ all_typed_few n s (e ∷ es) = behind (typing s e) _ (anything _) λ x value. al
 initialiser_few : (s : Scope) (array : Bool) (i : Option InitialTree) → Gives (λ x. initialiser_taken x ≤ initial_weight code i) (initialiser s array i)
 initialiser_few s array None = is _ (omega arith)
 initialiser_few s array (Some (tree.One e)) = behind (typing s e) _ (expression_few s e) λ x few. is _ few
-initialiser_few s true (Some (tree.Braced es at)) = behind (entries s es) _ (anything _) λ xs listed. is _ (omega arith)
+initialiser_few s true (Some (tree.Braced es at)) = behind (entries s es) _ (anything _) λ xs array_list. is _ (omega arith)
 initialiser_few s false (Some (tree.Braced es at)) = all_typed_few _ s es
 
-abbrev StartTakes : ℕ → Start → Type 0
+abbrev StartTakes : ℕ → ObjectStart → Type 0
 StartTakes n start = first_taken start.statements ≤ n
 
 started_few : (r : VarRef) (type : ObjectType) (at : ℕ) (i : Initialiser) → Gives (StartTakes (initialiser_taken i)) (started r type at i)
@@ -71,7 +71,7 @@ started_few r (Single kind) at (Value x) = behind (given kind at x) _ (given_few
 started_few r (Single kind) at (Listed es) = broken _ _
 started_few r (Single kind) at Misbraced = broken _ _
 started_few r (Array kind n) at (Value x) = broken _ _
-started_few r (Array kind n) at (Listed es) = behind (listed kind n at es) _ (anything _) λ values right. is _ (omega arith)
+started_few r (Array kind n) at (Listed es) = behind (array_list kind n at es) _ (anything _) λ values right. is _ (omega arith)
 started_few r (Array kind n) at Misbraced = broken _ _
 
 -- what declarations make
@@ -101,10 +101,10 @@ module _ (o : Opened) (item : ItemTree) where
   item_few b =
       let r : VarRef = refs.Local (length o.locals) in
       behind (declarator o.scope b item.form item.stars item.initial) _ (anything _) λ d type.
-      behind (initialiser (with_object o.scope item.name r d) (is_array item.form) item.initial) _
-      (initialiser_few (with_object o.scope item.name r d) (is_array item.form) item.initial) λ i few.
+      behind (initialiser (with_named_object o.scope item.name r d) (is_array item.form) item.initial) _
+      (initialiser_few (with_named_object o.scope item.name r d) (is_array item.form) item.initial) λ i few.
       unless (is_taken o.scope item.name) _ _ _ λ free.
-      weaker _ (declared_few (with_object o.scope item.name r d) r d i) λ p within. omega (arith, few, within)
+      weaker _ (declared_few (with_named_object o.scope item.name r d) r d i) λ p within. omega (arith, few, within)
 
 items_few : (b : Base) (o : Opened) (items : List ItemTree) → Gives (λ p. opened_taken p ≤ opened_taken o + sum_by (item_weight code) items) (block_items o b items)
 items_few b o [] = is _ (omega arith)
@@ -124,7 +124,7 @@ optional_few : (s : Scope) (e : Option Expression) → Gives (λ x. addresses (o
 optional_few s None = is _ (omega arith)
 optional_few s (Some e) = behind (typing s e) _ (expression_few s e) λ x few. is _ few
 
-returned_few : (result : Kind) (at : ℕ) (x : Operand) → Takes (taken x.value) (returned result at x)
+returned_few : (result : Kind) (at : ℕ) (x : Operand) → Takes (taken x.value) (typed_return result at x)
 returned_few None at x = broken _ _
 returned_few (Some kind) at x = given_few kind at x
 
@@ -155,7 +155,7 @@ module _ (result : Kind) where
     statement_few s c ls (tree.Return None at) = unless (not (is_void result)) _ _ _ λ void. is _ (omega arith)
     statement_few s c ls (tree.Return (Some e) at) =
         behind (typing s e) _ (expression_few s e) λ x few.
-        behind (returned result at (operand e x)) _ (returned_few result at (operand e x)) λ v less. is _ (omega (arith, few, less))
+        behind (typed_return result at (operand e x)) _ (returned_few result at (operand e x)) λ v less. is _ (omega (arith, few, less))
     -- choices
     statement_few s c ls (tree.If e a at) =
         behind (typing s e) _ (expression_few s e) λ x test.

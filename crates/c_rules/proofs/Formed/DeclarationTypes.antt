@@ -21,21 +21,21 @@ use Rattle.c_rules.specs.Scopes.{Scope, open_scope}
 use Rattle.c_rules.specs.Typing.{plain, constant_typing, word_at}
 use Rattle.c_rules.specs.Declarations.{length_within, typed_length, listed_length, single, array, prototype, declarator}
 use Rattle.c_rules.specs.Declarations.{parameter_kind, is_bad_length, is_name_taken, lacks_name, parameter, with_single, parameters}
-use Rattle.c_tree.specs.Kinds.{IsType, IsKind}
+use Rattle.c_tree.specs.Kinds.{IsScalarType, IsKind}
 use Rattle.c_rules.proofs.Formed.OperandKinds.{starred_is_kind}
 use Rattle.c_rules.proofs.Formed.Context.{Gives, is, behind, unless, there}
 use Rattle.c_rules.proofs.Formed.GivesLemmas.{anything}
 use Rattle.c_tree.specs.declared.limits.TheConstants.{MOST_CELLS}
 
 pub record IsObjectType (count : ℕ) (kind : ScalarType) : Type 0 where
-  pub is_type : IsType kind
+  pub is_type : IsScalarType kind
   pub from_one : 1 ≤ count
   pub most : count ≤ MOST_CELLS
 
 abbrev pub IsDeclaredType : Declared → Type 0
 IsDeclaredType declares.Untyped = ⊤
 IsDeclaredType (declares.Object type) = IsObjectType (cell_count type) (cell_kind type)
-IsDeclaredType (declares.Function type) = IsKind type.result × All IsType type.parameters
+IsDeclaredType (declares.Function type) = IsKind type.result × All IsScalarType type.parameters
 
 pointed_type : (b : Base) (stars : ℕ) → IsKind (address_kind (starred b stars))
 pointed_type base.Void zero = tt
@@ -86,10 +86,10 @@ parameter_as : (pointer : Bool) (b : Base) (stars : ℕ) → IsKind (if pointer 
 parameter_as true b stars = pointed_type b stars
 parameter_as false b stars = starred_is_kind b stars
 
-kind_there : (kind : Kind) → IsKind kind → (type : ScalarType) → kind ≡ Some type → IsType type
+kind_there : (kind : Kind) → IsKind kind → (type : ScalarType) → kind ≡ Some type → IsScalarType type
 kind_there kind is_kind type same = subst IsKind same is_kind
 
-parameter_type : (s : Scope) (naming : Naming) (p : ParameterTree) → Gives IsType (parameter s naming p)
+parameter_type : (s : Scope) (naming : Naming) (p : ParameterTree) → Gives IsScalarType (parameter s naming p)
 parameter_type s naming p =
     behind (plain p.specs) _ (anything _) λ b base.
     behind (is_bad_length s p.array) _ (anything _) λ bad length.
@@ -97,12 +97,12 @@ parameter_type s naming p =
     unless (bad || lacks_name naming p.name) _ _ _ λ named.
     there _ _ (parameter_kind b p) (kind_there (parameter_kind b p) (parameter_as (is_some p.array) b p.stars))
 
-pub parameter_types : (s : Scope) (naming : Naming) (ps : List ParameterTree) → Gives (All IsType) (parameters s naming ps)
-parameter_types s naming [] = is [] (All-nil IsType)
+pub parameter_types : (s : Scope) (naming : Naming) (ps : List ParameterTree) → Gives (All IsScalarType) (parameters s naming ps)
+parameter_types s naming [] = is [] (All-nil IsScalarType)
 parameter_types s naming (p ∷ ps) =
     behind (parameter s naming p) _ (parameter_type s naming p) λ kind first.
     behind (parameters (with_single s p.name (refs.Local 0) kind) naming ps) _ (parameter_types (with_single s p.name (refs.Local 0) kind) naming ps) λ kinds rest.
-    is (kind ∷ kinds) (All-cons IsType kind kinds first rest)
+    is (kind ∷ kinds) (All-cons IsScalarType kind kinds first rest)
 
 prototype_type : (s : Scope) (result : Kind) (ps : ParametersTree) → IsKind result → Gives IsDeclaredType (prototype s result ps)
 prototype_type s result ps type =

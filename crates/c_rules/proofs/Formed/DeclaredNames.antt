@@ -13,7 +13,7 @@ use Rattle.c_rules.specs.declared.meaning.FunctionType.{FunctionType}
 use Rattle.c_rules.specs.declared.meaning.ObjectType.{ObjectType}
 use Rattle.c_rules.specs.Scopes.{Scope, declare, is_in, is_out}
 use Rattle.c_rules.specs.Units.{StaticTree, File, agrees, may_declare, meaning_of, with_meaning, with_declared}
-use Rattle.c_tree.specs.Kinds.{IsType, IsKind}
+use Rattle.c_tree.specs.Kinds.{IsScalarType, IsKind}
 use Rattle.c_rules.proofs.Formed.SameTypes.{one_object, one_function}
 use Rattle.c_rules.proofs.Formed.FileSoFar.{Stands, IsStaticIn, IsFileSoFar, grows_by_name, declared_or_old, declared_there, with_names, with_more, static_kept}
 
@@ -46,7 +46,7 @@ module _ (rest : UnitTree) (file : File) (known : IsFileSoFar rest file) (name :
   abbrev IsKnown : Scope → Type 0
   IsKnown t = IsFileSoFar rest (with_names file t file.statics) × (t.meaning name ≡ Some (meanings.Function type))
 
-  module _ (result : IsKind type.result) (parameters : All IsType type.parameters) where
+  module _ (result : IsKind type.result) (parameters : All IsScalarType type.parameters) where
     function_stands : (n : List ℕ) (m : Meaning) → (declare file.scope name (meanings.Function type)).meaning n ≡ Some m → Stands file.statics m
     function_stands n m there = elim (declared_or_old file.scope name (meanings.Function type) n m there) [
       | inl new ↦ subst (Stands file.statics) new (result, parameters)

@@ -20,11 +20,11 @@ use Rattle.c_rules.specs.declared.meaning.ObjectType.TheVariants.{Single, Array}
 use Rattle.c_rules.specs.Outcome.{◌>>=◌, breaks}
 use Rattle.c_rules.specs.Kinds.{is_void, pointer_to}
 use Rattle.c_rules.specs.Operands.{Operand, sum_as, sum, loaded_as, loaded, lvalue_of, address_of, address}
-use Rattle.c_rules.specs.Scopes.{Scope, is_in, is_out, array_of}
-use Rattle.c_rules.specs.Typing.{named_as, number_of, prefixed, of_object, operand, typing}
+use Rattle.c_rules.specs.Scopes.{Scope, is_in, is_out, length_of_array}
+use Rattle.c_rules.specs.Typing.{named_as, bodies_before, prefixed, of_object, operand, typing}
 use Rattle.c_rules.specs.Declarations.{static_cell, static_scalar, index_in, static_address, or_address, static_value}
 use Rattle.c_rules.specs.Constants.{constant}
-use Rattle.c_tree.specs.Kinds.{IsType}
+use Rattle.c_tree.specs.Kinds.{IsScalarType}
 use Rattle.c_tree.specs.WellFormed.{Shape, Names}
 use Rattle.c_rules.proofs.Formed.Context.{Gives, Fits, IsMeaning, broken, is, behind, unless}
 use Rattle.c_rules.proofs.Formed.GivesLemmas.{anything, weaker}
@@ -74,7 +74,7 @@ address_array m is_array at x loads = unless (is_array || is_void (kind_of x)) M
 pub record IsCellOf (names : Names) (v i : ℕ) (kind : Kind) : Type 0 where
   pub shape : Shape
   pub object : names.object (refs.Static v) ≡ Some shape
-  pub type : IsType shape.kind
+  pub type : IsScalarType shape.kind
   pub within : i ≤ shape.length
   pub pointer : kind ≡ Some (pointer_to shape.kind)
 
@@ -91,7 +91,7 @@ module _ (names : Names) where
 
   -- a cell of an array
   cell_within : (x : Expr) (v n i : ℕ) (kind : ScalarType) (b : Bool) → nat_lt n i ≡ b → names.object (refs.Static v) ≡ Some (record { kind = kind; length = n })
-      → IsType kind → kind_of x ≡ Some (pointer_to kind) → IfSome (if b then None else Some (initial.Address v i)) (Starts (not_null x))
+      → IsScalarType kind → kind_of x ≡ Some (pointer_to kind) → IfSome (if b then None else Some (initial.Address v i)) (Starts (not_null x))
   cell_within x v n i kind true past object type same = tt {0}
   cell_within x v n i kind false within object type same =
       (refl, record { shape = record { kind = kind; length = n }; object = object; type = type; within = ltb-false n i within; pointer = same })
@@ -107,7 +107,7 @@ module _ (names : Names) where
 
   -- the address of a scalar
   scalar_starts : (number : ℕ) (m : Option Meaning) (port : Bool) (at place : ℕ) → Means number m → Gives (λ z. IfSome (static_scalar m) (Starts (not_null z)))
-      (breaks port Mismatch place (named_as place m) >>= λ x. prefixed prefix.Address (is_some (array_of m)) at x >>= λ y. of_object false at y)
+      (breaks port Mismatch place (named_as place m) >>= λ x. prefixed prefix.Address (is_some (length_of_array m)) at x >>= λ y. of_object false at y)
   scalar_starts number m true at place means = broken Mismatch place
   scalar_starts number (Some (meanings.Object (refs.Static v) (Single kind))) false at place means =
       let object = means (meanings.Object (refs.Static v) (Single kind)) refl in
@@ -135,14 +135,14 @@ module _ (names : Names) where
 
     known_address : (e : Expression) → Gives (KnownAddress e) (typing s e)
     known_address (tree.Node (tree.Name name) at) =
-        weaker _ (named_kind name at) (λ x array. cell_starts (number_of s name) (s.meaning name) (Some 0) x (fits name) array)
+        weaker _ (named_kind name at) (λ x array. cell_starts (bodies_before s name) (s.meaning name) (Some 0) x (fits name) array)
     known_address (tree.Node (tree.Binary op.Add (tree.Node (tree.Name name) place) c) at) =
-        weaker _ (sum_kind name c at place) (λ z array. cell_starts (number_of s name) (s.meaning name) (index_in c z) z (fits name) array)
+        weaker _ (sum_kind name c at place) (λ z array. cell_starts (bodies_before s name) (s.meaning name) (index_in c z) z (fits name) array)
     known_address (tree.Node (tree.Prefix prefix.Address (tree.Node (tree.Name name) place)) at) =
-        scalar_starts (number_of s name) (s.meaning name) (is_in name || is_out name) at place (fits name)
+        scalar_starts (bodies_before s name) (s.meaning name) (is_in name || is_out name) at place (fits name)
     known_address (tree.Node (tree.Prefix prefix.Address (tree.Node (tree.Index (tree.Node (tree.Name name) p) c) place)) at) =
         weaker _ (behind _ _ (index_kind name c place p) (λ w loads. behind _ _ (address_array (s.meaning name) false at w loads) (λ y array. is y array)))
-        (λ z array. cell_starts (number_of s name) (s.meaning name) (index_in c z) z (fits name) array)
+        (λ z array. cell_starts (bodies_before s name) (s.meaning name) (index_in c z) z (fits name) array)
     known_address e = anything (typing s e)
 
     -- what an initialiser stands for

@@ -17,8 +17,8 @@ use Rattle.c_rules.specs.Kinds.{void_pointer, same_kind, is_void_pointer, pointe
 use Rattle.c_rules.specs.Operands.{Operand, null_of, converted, given_as, given}
 use Rattle.c_rules.specs.Scopes.{Scope}
 use Rattle.c_rules.specs.Typing.{place, typing}
-use Rattle.c_rules.specs.Declarations.{static_value, Entry, entry, entries, cell_value, cell, cells, listed}
-use Rattle.c_tree.specs.Kinds.{IsType, IsPointer}
+use Rattle.c_rules.specs.Declarations.{static_value, Entry, entry, entries, cell_value, cell, cells, array_list}
+use Rattle.c_tree.specs.Kinds.{IsScalarType, IsPointer}
 use Rattle.c_tree.specs.WellFormed.{Names, IsWellTyped, StartsAt, IsInitial}
 use Rattle.c_rules.proofs.Formed.Context.{Gives, Fits, static_in, broken, is, behind, unless}
 use Rattle.c_rules.proofs.Formed.GivesLemmas.{always, anything, weaker, together, if_there}
@@ -102,11 +102,11 @@ module _ (names : Names) where
           behind _ _ (null_fills _ _ (of_class (Some kind)) (of_class (kind_of x.value)) (pointer_from (kind_of x.value) starts)) (λ v pointer. is _ pointer)
       entry_fills (initial.Address v i) starts = behind _ _ (address_fills v i starts.0 starts.1) (λ w fills. is _ fills)
 
-  pub entry_cell : (kind : ScalarType) (at : ℕ) (y : Entry) → IsType kind → IsEntry names y → Gives (IsInitial (static_in names) kind) (cell kind at y)
+  pub entry_cell : (kind : ScalarType) (at : ℕ) (y : Entry) → IsScalarType kind → IsEntry names y → Gives (IsInitial (static_in names) kind) (cell kind at y)
   entry_cell kind at y type known = entry_fills kind at y.operand y.initial known.starts
 
   -- the list of an array
-  cells_fill : (kind : ScalarType) (at : ℕ) (ys : List Entry) → IsType kind → All (IsEntry names) ys
+  cells_fill : (kind : ScalarType) (at : ℕ) (ys : List Entry) → IsScalarType kind → All (IsEntry names) ys
       → Gives (λ is. (length is ≡ length ys) × All (IsInitial (static_in names) kind) is) (cells kind at ys)
   cells_fill kind at [] type known = is _ (refl, All-nil (IsInitial (static_in names) kind))
   cells_fill kind at (y ∷ ys) type known =
@@ -114,7 +114,7 @@ module _ (names : Names) where
       behind _ _ (cells_fill kind at ys type (All-tail (IsEntry names) y ys known)) (λ others rest.
       is _ (ap suc rest.0, All-cons (IsInitial (static_in names) kind) i others fills rest.1)))
 
-  pub typed_list : (kind : ScalarType) (n at : ℕ) (ys : List Entry) → IsType kind → All (IsEntry names) ys
-      → Gives (λ is. (length is ≤ n) × All (IsInitial (static_in names) kind) is) (listed kind n at ys)
+  pub typed_list : (kind : ScalarType) (n at : ℕ) (ys : List Entry) → IsScalarType kind → All (IsEntry names) ys
+      → Gives (λ is. (length is ≤ n) × All (IsInitial (static_in names) kind) is) (array_list kind n at ys)
   typed_list kind n at ys type known = unless (nat_lt n (length ys)) Mismatch at _ (λ within.
       weaker _ (cells_fill kind at ys type known) (λ others fills. let most : length ys ≤ n = ltb-false n (length ys) within in (omega (arith, fills.0, most), fills.1)))

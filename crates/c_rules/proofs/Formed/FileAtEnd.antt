@@ -8,7 +8,7 @@ use Rattle.c_tree.specs.declared.program.VarRef.TheVariants as refs
 use Rattle.c_rules.specs.declared.meaning.Meaning.{Meaning}
 use Rattle.c_rules.specs.declared.meaning.Meaning.TheVariants as meanings
 use Rattle.c_rules.specs.declared.meaning.FunctionType.{FunctionType}
-use Rattle.c_rules.specs.Typing.{number_of}
+use Rattle.c_rules.specs.Typing.{bodies_before}
 use Rattle.c_rules.specs.Units.{StaticTree, TypedFunction, File}
 use Rattle.c_tree.specs.WellFormed.{Shape, Signature}
 use Rattle.c_rules.proofs.Formed.Context.{Fits, Holds, IsMeaning, signature_of}
@@ -26,24 +26,24 @@ signature_known file g known = λ i. Some (record { parameters = known.parameter
 
 module _ (file : File) (known : IsFileSoFar [] file) where
   module _ (name : List ℕ) (type : FunctionType) (there : file.scope.meaning name ≡ Some (meanings.Function type)) where
-    function_there : (g : TypedFunction) → slice_get file.functions (number_of file.scope name) ≡ Some g → signature (Some g) ≡ Some (signature_of type)
+    function_there : (g : TypedFunction) → slice_get file.functions (bodies_before file.scope name) ≡ Some g → signature (Some g) ≡ Some (signature_of type)
     function_there g is =
-        let right = at_place (IsFunctionIn file.scope) file.functions (number_of file.scope name) g known.functions is in
+        let right = at_place (IsFunctionIn file.scope) file.functions (bodies_before file.scope name) g known.functions is in
         let named : g.name ≡ name = function_named name file.functions g (ap (λ ns. slice_get file.functions (place_of name ns)) (sym known.bodies) ∙ is) in
         let same : right.type ≡ type = same_meaning right.type type (sym right.named ∙ ap file.scope.meaning named ∙ there) in
         signature_known file g right ∙ ap (λ t. Some (signature_of t)) same
 
-    signature_fits : (o : Option TypedFunction) (s : Signature) → slice_get file.functions (number_of file.scope name) ≡ o → signature o ≡ Some s → s ≡ signature_of type
+    signature_fits : (o : Option TypedFunction) (s : Signature) → slice_get file.functions (bodies_before file.scope name) ≡ o → signature o ≡ Some s → s ≡ signature_of type
     signature_fits None s is given = absurd (none-some s given)
     signature_fits (Some g) s is given = same_Some s (signature_of type) (sym given ∙ function_there g is)
 
   module _ (f : TypedFunction) where
-    meaning_fits : (name : List ℕ) (m : Meaning) → file.scope.meaning name ≡ Some m → Stands file.statics m → IsMeaning (names_in file f) (number_of file.scope name) m
+    meaning_fits : (name : List ℕ) (m : Meaning) → file.scope.meaning name ≡ Some m → Stands file.statics m → IsMeaning (names_in file f) (bodies_before file.scope name) m
     meaning_fits name (meanings.Object (refs.Scalar n) type) there stands = absurd stands
     meaning_fits name (meanings.Object (refs.Local n) type) there stands = absurd stands
     meaning_fits name (meanings.Object (refs.Static n) type) there stands = (stands.0, stands.1, tt {0})
     meaning_fits name (meanings.Function type) there stands =
-        ((λ s given. signature_fits name type there (slice_get file.functions (number_of file.scope name)) s refl given), stands.0, stands.1)
+        ((λ s given. signature_fits name type there (slice_get file.functions (bodies_before file.scope name)) s refl given), stands.0, stands.1)
 
     names_fit : Fits (names_in file f) file.scope
     names_fit name m there = meaning_fits name m there (known.names name m there)

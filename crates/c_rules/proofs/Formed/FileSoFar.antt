@@ -17,9 +17,9 @@ use Rattle.c_rules.specs.declared.meaning.FunctionType.{FunctionType}
 use Rattle.c_rules.specs.Programs.{cell_kind, is_single}
 use Rattle.c_rules.specs.Scopes.{Scope, declare}
 use Rattle.c_rules.specs.Statements.{LocalTree}
-use Rattle.c_rules.specs.Typing.{number_of}
+use Rattle.c_rules.specs.Typing.{bodies_before}
 use Rattle.c_rules.specs.Units.{StaticTree, TypedFunction, File, bodies_behind, empty_file}
-use Rattle.c_tree.specs.Kinds.{IsType, IsKind}
+use Rattle.c_tree.specs.Kinds.{IsScalarType, IsKind}
 use Rattle.c_tree.specs.WellFormed.{Shape, Names, IsWellFormed, opened}
 use Rattle.c_rules.proofs.Formed.Context.{shape_of, Fits, IsMeaning, IsStored, IsLocal, static_in, numbers_from}
 use Rattle.c_rules.proofs.Formed.OpenedNames.{Suits}
@@ -33,8 +33,8 @@ at_place P xs n x all there = subst P (get_or_from_slice_get xs n x x there) (al
 abbrev pub Stands : List StaticTree → Meaning → Type 0
 Stands statics (meanings.Object (refs.Scalar n) type) = ⊥
 Stands statics (meanings.Object (refs.Local n) type) = ⊥
-Stands statics (meanings.Object (refs.Static n) type) = (static_shape (slice_get statics n) ≡ Some (shape_of type)) × IsType (cell_kind type)
-Stands statics (meanings.Function type) = IsKind type.result × All IsType type.parameters
+Stands statics (meanings.Object (refs.Static n) type) = (static_shape (slice_get statics n) ≡ Some (shape_of type)) × IsScalarType (cell_kind type)
+Stands statics (meanings.Function type) = IsKind type.result × All IsScalarType type.parameters
 
 -- an object is right whatever the names of this scope stand for
 abbrev pub IsStaticIn : Scope → StaticTree → Type 0
@@ -85,7 +85,7 @@ grows_by_none s = record { kept = λ name m there. there; bodies = refl }
 module _ (s t : Scope) (grows : Grows s t) where
   fits_fewer : (names : Names) → Fits names t → Fits names s
   fits_fewer names fits name m there =
-      let same : number_of t name ≡ number_of s name = ap (position_or_len (λ body. bytes_eq body name)) grows.bodies in
+      let same : bodies_before t name ≡ bodies_before s name = ap (position_or_len (λ body. bytes_eq body name)) grows.bodies in
       subst (λ n. IsMeaning names n m) same (fits name m (grows.kept name m there))
 
   suits_fewer : (all : List LocalTree) (objects : VarRef → Option Shape) (names : Names) → Suits t all 0 objects names → Suits s all 0 objects names

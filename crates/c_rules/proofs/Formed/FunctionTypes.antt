@@ -12,14 +12,14 @@ use Rattle.c_rules.specs.declared.meaning.ObjectType.{ObjectType}
 use Rattle.c_rules.specs.declared.meaning.ObjectType.TheVariants.{Single, Array}
 use Rattle.c_tree.specs.declared.uses.Use.{Use}
 use Rattle.c_tree.specs.declared.uses.Use.TheVariants.{Address, Call, Cases}
-use Rattle.c_rules.specs.Programs.{frame, function_tree, program_tree, is_pointed, is_single, cell_kind, cell_count, local_object, static_object}
+use Rattle.c_rules.specs.Programs.{frame, function_tree, program_tree, is_pointed, is_single, cell_kind, cell_count, local_object, object_tree}
 use Rattle.c_rules.specs.Renumbering as by
 use Rattle.c_rules.specs.Statements.{LocalTree}
 use Rattle.c_rules.specs.Units.{StaticTree, TypedFunction, File}
 use Rattle.c_tree.specs.Uses.{statement_uses}
 use Rattle.c_tree.specs.WellFormed.{Shape, Names, IsAddressable, IsAutomatic, IsThere, opened}
 use Rattle.c_tree.specs.WellFormedProgram as whole
-use Rattle.c_tree.specs.WellFormedProgram.{IsParameter, parameter_kind, names_of, scalar_shape, object_shape, object_kind}
+use Rattle.c_tree.specs.WellFormedProgram.{IsParameter, kind_of_parameter, names_within, scalar_shape, object_shape, object_kind}
 use Rattle.c_rules.proofs.Formed.Context.{shape_of, numbers_from}
 use Rattle.c_rules.proofs.Formed.FileContext.{names_in, object_in, static_names, local_shape, static_shape, local_kind, signature, is_array}
 use Rattle.c_rules.proofs.Formed.FrameTypes.{IsPlaced, placed_in, references_differ, references_length, same_taken}
@@ -60,12 +60,12 @@ single_count : (t : ObjectType) → is_single t ≡ true → cell_count t ≡ 1
 single_count (Single kind) single = refl
 single_count (Array kind n) single = absurd (cc single)
 
-static_carried : (o : Option StaticTree) → object_shape (option_map static_object o) ≡ static_shape o
+static_carried : (o : Option StaticTree) → object_shape (option_map object_tree o) ≡ static_shape o
 static_carried None = refl
 static_carried (Some o) = refl
 
 pub static_kept : (file : File) (n : ℕ) → whole.static_in (program_tree file) n ≡ static_shape (slice_get file.statics n)
-static_kept file n = ap object_shape (slice_get-map static_object file.statics n) ∙ static_carried (slice_get file.statics n)
+static_kept file n = ap object_shape (slice_get-map object_tree file.statics n) ∙ static_carried (slice_get file.statics n)
 
 -- no object is called what another is
 one_place : (rs : List VarRef) → AllPairs (λ a b. a ≢ b) rs → (i j : ℕ) (r : VarRef) → slice_get rs i ≡ Some r → slice_get rs j ≡ Some r → i ≡ j
@@ -114,7 +114,7 @@ module _ (file : File) (f : TypedFunction) where
   later = whole.object_in (program_tree file) (function_tree f)
 
   abbrev others : Names
-  others = names_of (program_tree file) (function_tree f)
+  others = names_within (program_tree file) (function_tree f)
 
   -- an object in memory, and a frame scalar
   object_carried : (k : ℕ) (l : LocalTree) → InFrame f k l ⊎ InMemory f k l → later (by.numbered (frame f) k) ≡ Some (shape_of l.object_type)
@@ -204,21 +204,21 @@ one_reference : (o : Option VarRef) (r s : VarRef) → o ≡ Some r → o ≡ So
 one_reference o r s first second = let same : Some r ≡ Some s = sym first ∙ second in cc same
 
 kind_as : (f : TypedFunction) (k : ℕ) (r : VarRef) (l : LocalTree) → slice_get (frame f) k ≡ Some r → InFrame f k l ⊎ InMemory f k l
-    → parameter_kind (function_tree f) r ≡ local_kind l
-kind_as f k r l named (inl is) = ap (parameter_kind (function_tree f)) (one_reference _ r (refs.Scalar is.number) named is.reference) ∙ is.kind
-kind_as f k r l named (inr is) = ap (parameter_kind (function_tree f)) (one_reference _ r (refs.Local is.number) named is.reference) ∙ ap object_kind is.object
+    → kind_of_parameter (function_tree f) r ≡ local_kind l
+kind_as f k r l named (inl is) = ap (kind_of_parameter (function_tree f)) (one_reference _ r (refs.Scalar is.number) named is.reference) ∙ is.kind
+kind_as f k r l named (inr is) = ap (kind_of_parameter (function_tree f)) (one_reference _ r (refs.Local is.number) named is.reference) ∙ ap object_kind is.object
 
 parameter_carried : (f : TypedFunction) (k : ℕ) (r : VarRef) (l : LocalTree) → slice_get (frame f) k ≡ Some r → slice_get f.locals k ≡ Some l
-    → parameter_kind (function_tree f) r ≡ local_kind l
+    → kind_of_parameter (function_tree f) r ≡ local_kind l
 parameter_carried f k r l named there = kind_as f k r l named (object_of f k l there)
 
 same_signature : (o : Option TypedFunction) → whole.signature (option_map function_tree o) ≡ signature o
 same_signature None = refl
 same_signature (Some f) =
     ap (λ kinds. Some (record { parameters = kinds; result = f.result }))
-    (same_taken (parameter_kind (function_tree f)) local_kind f.parameters (frame f) f.locals (references_length (statement_uses f.body) f.locals) (parameter_carried f))
+    (same_taken (kind_of_parameter (function_tree f)) local_kind f.parameters (frame f) f.locals (references_length (statement_uses f.body) f.locals) (parameter_carried f))
 
-all_carried : (file : File) (f : TypedFunction) → Carries (frame f) (object_in file f) (names_in file f) (names_of (program_tree file) (function_tree f))
+all_carried : (file : File) (f : TypedFunction) → Carries (frame f) (object_in file f) (names_in file f) (names_within (program_tree file) (function_tree f))
 all_carried file f = record {
   object = static_kept_as file f;
   function = λ n. ap whole.signature (slice_get-map function_tree file.functions n) ∙ same_signature (slice_get file.functions n);
@@ -253,15 +253,15 @@ first_there file f first (suc m) within =
 -- the names in the body
 pub body_carried : (file : File) (f : TypedFunction) → f.parameters ≤ length f.locals
     → Carries (frame f) (object_in file f) (opened (object_in file f) (numbers_from 0 f.parameters) (names_in file f))
-    (opened (whole.object_in (program_tree file) (function_tree f)) (function_tree f).params (names_of (program_tree file) (function_tree f)))
+    (opened (whole.object_in (program_tree file) (function_tree f)) (function_tree f).params (names_within (program_tree file) (function_tree f)))
 body_carried file f few =
     let long = references_length (statement_uses f.body) f.locals
     in let params : map (by.renumbered (frame f)) (numbers_from 0 f.parameters) ≡ (function_tree f).params
     = first_named (frame f) 0 f.parameters (frame f) (λ k. ap (slice_get (frame f)) (omega arith)) (omega (arith, few, long))
     in subst (λ ps. Carries (frame f) (object_in file f) (opened (object_in file f) (numbers_from 0 f.parameters) (names_in file f))
-    (opened (whole.object_in (program_tree file) (function_tree f)) ps (names_of (program_tree file) (function_tree f)))) params
+    (opened (whole.object_in (program_tree file) (function_tree f)) ps (names_within (program_tree file) (function_tree f)))) params
     (opened_carries (frame f) (object_in file f) (whole.object_in (program_tree file) (function_tree f)) (renumbers file f) (names_in file f)
-    (names_of (program_tree file) (function_tree f)) (all_carried file f) (numbers_from 0 f.parameters) (first_there file f 0 f.parameters (omega (arith, few))))
+    (names_within (program_tree file) (function_tree f)) (all_carried file f) (numbers_from 0 f.parameters) (first_there file f 0 f.parameters (omega (arith, few))))
 
 past_all : {A : Type 0} (xs : List A) (k : ℕ) → slice_get xs k ≡ None → length xs ≤ k
 past_all [] k none = omega arith

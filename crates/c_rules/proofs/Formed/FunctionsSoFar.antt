@@ -23,7 +23,7 @@ use Rattle.c_rules.specs.Statements.{LocalTree, Typed, typed_body}
 use Rattle.c_rules.specs.Typing.{spelled}
 use Rattle.c_rules.specs.Units.{TypedFunction, File, may_declare, with_parameters, parameter_locals}
 use Rattle.c_rules.specs.Units.{with_function, with_body, is_defined, behind_name, function_as, file_function}
-use Rattle.c_tree.specs.Kinds.{IsType, IsKind}
+use Rattle.c_tree.specs.Kinds.{IsScalarType, IsKind}
 use Rattle.c_tree.specs.WellFormed.{Shape, Names, opened}
 use Rattle.c_rules.proofs.Formed.OperandKinds.{starred_is_kind}
 use Rattle.c_rules.proofs.Formed.Context.{Gives, is, behind, unless, Lies, IsLocal, numbers_from}
@@ -38,7 +38,7 @@ use Rattle.c_rules.proofs.Formed.DeclaredNames.{function_declared}
 use Rattle.c_rules.proofs.Formed.ParametersAsLocals.{typed_parameters, length_locals, kinds_of_locals, first_locals, locals_within, single_locals, right_locals, fits_parameters}
 use Rattle.c_rules.proofs.PlaceLemmas.{place_kept}
 
-module _ (f : FunctionSyntax) (type : FunctionType) (result : IsKind type.result) (types : All IsType type.parameters)
+module _ (f : FunctionSyntax) (type : FunctionType) (result : IsKind type.result) (types : All IsScalarType type.parameters)
     (many : length type.parameters ≡ length f.parameters.list) where
   abbrev of_parameters : List LocalTree
   of_parameters = parameter_locals f.parameters.list type.parameters

@@ -19,10 +19,10 @@ use Rattle.c_rules.specs.declared.meaning.ObjectType.TheVariants.{Single, Array}
 use Rattle.c_rules.specs.Operands.{given}
 use Rattle.c_rules.specs.Programs.{cell_kind, cell_count, is_single}
 use Rattle.c_rules.specs.Scopes.{Scope, declare, is_taken}
-use Rattle.c_rules.specs.Typing.{typing, number_of}
-use Rattle.c_rules.specs.Declarations.{entries, listed}
-use Rattle.c_rules.specs.Statements.{LocalTree, Initialiser, Absent, Value, Listed, Misbraced, all_typed, initialiser, Start, started, with_object}
-use Rattle.c_tree.specs.Kinds.{IsType}
+use Rattle.c_rules.specs.Typing.{typing, bodies_before}
+use Rattle.c_rules.specs.Declarations.{entries, array_list}
+use Rattle.c_rules.specs.Statements.{LocalTree, Initialiser, Absent, Value, Listed, Misbraced, all_typed, initialiser, ObjectStart, started, with_named_object}
+use Rattle.c_tree.specs.Kinds.{IsScalarType}
 use Rattle.c_tree.specs.WellFormed.{Shape, Names, IsWellTyped, IsInitial, IsFilled, IsWellFormed}
 use Rattle.c_rules.proofs.Formed.Context.{Gives, is, broken, behind, shape_of, IsMeaning, Fits, static_in}
 use Rattle.c_rules.proofs.Formed.OpenedNames.{Knows, there_is}
@@ -58,16 +58,16 @@ module _ (names : Names) (n : ℕ) (m : Meaning) (old : Option Meaning) where
   meaning_as true new one others there = let same : new ≡ m = cc there in subst (IsMeaning names n) same one
   meaning_as false new one others there = others m there
 
-fits_declared : (names : Names) (s : Scope) (name : List ℕ) (new : Meaning) → ((n : List ℕ) → IsMeaning names (number_of s n) new) → Fits names s
+fits_declared : (names : Names) (s : Scope) (name : List ℕ) (new : Meaning) → ((n : List ℕ) → IsMeaning names (bodies_before s n) new) → Fits names s
     → Fits names (declare s name new)
-fits_declared names s name new one fits = λ n m there. meaning_as names (number_of s n) m (s.meaning n) (bytes_eq name n) new (one n) (fits n) there
+fits_declared names s name new one fits = λ n m there. meaning_as names (bodies_before s n) m (s.meaning n) (bytes_eq name n) new (one n) (fits n) there
 
 fits_either : (names : Names) (s t : Scope) (b : Bool) → Fits names s → Fits names t → Fits names (if b then s else t)
 fits_either names s t true first second = first
 fits_either names s t false first second = second
 
-pub fits_with_object : (names : Names) (s : Scope) (name : List ℕ) (n : ℕ) (type : ObjectType) → IsType (cell_kind type) → IsHeld names n type
-    → Fits names s → Fits names (with_object s name (refs.Local n) (declares.Object type))
+pub fits_with_object : (names : Names) (s : Scope) (name : List ℕ) (n : ℕ) (type : ObjectType) → IsScalarType (cell_kind type) → IsHeld names n type
+    → Fits names s → Fits names (with_named_object s name (refs.Local n) (declares.Object type))
 fits_with_object names s name n type is_type held fits =
     let m : Meaning = meanings.Object (refs.Local n) type in
     fits_either names s (declare s name m) (is_taken s name) fits (fits_declared names s name m (λ k. (held.object, is_type, tt {0})) fits)
@@ -91,7 +91,7 @@ module _ (names : Names) (s : Scope) (fits : Fits names s) where
   typed_initialiser false (Some (tree.Braced es at)) = braced es
 
 -- the start of an object
-pub record IsStart (names : Names) (type : ObjectType) (start : Start) : Type 0 where
+pub record IsStart (names : Names) (type : ObjectType) (start : ObjectStart) : Type 0 where
   pub within : length start.values ≤ cell_count type
   pub starts : All (IsInitial (static_in names) (cell_kind type)) start.values
   pub statements : (objects : VarRef → Option Shape) (result : Kind) (c : Enclosing) → All (IsWellFormed objects result names c) start.statements
@@ -100,14 +100,14 @@ module _ (names : Names) (n : ℕ) (at : ℕ) where
   abbrev assignment : ScalarType → Expr → Expr
   assignment kind v = Node (Assign (Named (refs.Local n) at) v) (Some kind) at
 
-  assigned : (kind : ScalarType) (v : Expr) → IsType kind → IsHeld names n (Single kind) → IsWellTyped names v × (kind_of v ≡ Some kind)
+  assigned : (kind : ScalarType) (v : Expr) → IsScalarType kind → IsHeld names n (Single kind) → IsWellTyped names v × (kind_of v ≡ Some kind)
       → IsWellTyped names (assignment kind v)
   assigned kind v is_type held typed = (is_type, (held.object, typed.0, typed.1))
 
   filled : (type : ObjectType) → IsHeld names n type → is_single type ≡ false → IsFilled names n
   filled type held array = record { lives = there_is names.object (refs.Local n) (shape_of type) held.object; filled = held.filled array }
 
-  pub typed_start : (type : ObjectType) (i : Initialiser) → IsType (cell_kind type) → IsHeld names n type → IsInitialiser names i
+  pub typed_start : (type : ObjectType) (i : Initialiser) → IsScalarType (cell_kind type) → IsHeld names n type → IsInitialiser names i
       → Gives (IsStart names type) (started (refs.Local n) type at i)
   typed_start type Absent is_type held value = is _ (record { within = zero-le; starts = All-nil _; statements = λ objects result c. All-nil _ })
   typed_start (Single kind) (Value x) is_type held value =
@@ -121,7 +121,7 @@ module _ (names : Names) (n : ℕ) (at : ℕ) where
   typed_start (Single kind) Misbraced is_type held value = broken _ at
   typed_start (Array kind count) (Value x) is_type held value = broken _ at
   typed_start (Array kind count) (Listed es) is_type held value =
-      behind (listed kind count at es) _ (typed_list names kind count at es is_type value) λ values typed.
+      behind (array_list kind count at es) _ (typed_list names kind count at es is_type value) λ values typed.
       is _ (record {
         within = typed.0;
         starts = typed.1;

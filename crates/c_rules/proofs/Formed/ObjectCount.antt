@@ -19,7 +19,7 @@ use Rattle.c_rules.specs.declared.meaning.ObjectType.{ObjectType}
 use Rattle.c_rules.specs.Outcome.{Is}
 use Rattle.c_rules.specs.Declarations.{declarator, parameters}
 use Rattle.c_rules.specs.Kinds.{starred}
-use Rattle.c_rules.specs.Programs.{function_tree, static_object, program_tree}
+use Rattle.c_rules.specs.Programs.{function_tree, object_tree, program_tree}
 use Rattle.c_rules.specs.Scopes.{Scope, open_scope}
 use Rattle.c_rules.specs.Statements.{typed_body}
 use Rattle.c_rules.specs.Typing.{spelled}
@@ -127,4 +127,4 @@ locals_few (f ∷ fs) =
 pub few_objects : (unit : UnitTree) (file : File) → typed_unit unit ≡ Is file → unit_count unit ≤ MOST_NODES → object_count (program_tree file) ≤ MOST_OBJECTS
 few_objects unit file same within =
     let few : file_objects file ≤ file_objects (empty_file unit) + unit_weight code unit = of_is (typed_unit unit) file (externals_few (empty_file unit) unit) same in
-    omega (arith, few, within, locals_few file.functions, length-map file.statics static_object)
+    omega (arith, few, within, locals_few file.functions, length-map file.statics object_tree)

@@ -15,7 +15,7 @@ use Rattle.c_rules.specs.declared.meaning.Meaning.TheVariants as meanings
 use Rattle.c_rules.specs.Programs.{is_single}
 use Rattle.c_rules.specs.Scopes.{Scope}
 use Rattle.c_rules.specs.Statements.{LocalTree}
-use Rattle.c_rules.specs.Typing.{number_of}
+use Rattle.c_rules.specs.Typing.{bodies_before}
 use Rattle.c_tree.specs.WellFormed.{Shape, Names, IsThere, IsNew, AreNew, is_among, opened}
 use Rattle.c_rules.proofs.Formed.Context.{shape_of, IsMeaning, Fits, Holds, Lies, numbers_from, static_in}
 use Rattle.c_rules.proofs.PlaceLemmas.{place_within}
@@ -117,7 +117,7 @@ module _ (s : Scope) (all others : List LocalTree) (first : ℕ) (stand : StandF
 
   suits_inside : Suits s all (first + length others) objects inner
   suits_inside = record {
-    fits = λ name m there. meaning_kept (number_of s name) m (suits.fits name m there);
+    fits = λ name m there. meaning_kept (bodies_before s name) m (suits.fits name m there);
     holds = record { object = suits.holds.object; filled = suits.holds.filled };
     lies = record {
       within = λ v shape there. from_either (objects v) (names.object v) (Some shape) (is_among v declared) (suits.lies.within v shape) there;

@@ -10,7 +10,7 @@ use Rattle.c_rules.specs.declared.class.Class.{Class}
 use Rattle.c_rules.specs.declared.class.Class.TheVariants.{Nothing, Integer, Pointer}
 use Rattle.c_rules.specs.Kinds.{int, unsigned, void_pointer, class_of, same_base, same_type, same_kind, is_void, pointer_to, starred, pointed}
 use Rattle.c_rules.specs.Operands.{common_of}
-use Rattle.c_tree.specs.Kinds.{HasStars, IsType, IsKind, IsInteger, IsPointer, IsValue}
+use Rattle.c_tree.specs.Kinds.{HasStars, IsScalarType, IsKind, IsInteger, IsPointer, IsValue}
 use Rattle.c_tree.specs.WellFormed.{Converts, Leads}
 
 -- a type of this class
@@ -57,7 +57,7 @@ kinds_same a b is = absurd (true≢false (sym is))
 
 -- the common type of two integers
 abbrev IsWord : ScalarType → Type 0
-IsWord kind = IsType kind × (is_pointer kind ≡ false)
+IsWord kind = IsScalarType kind × (is_pointer kind ≡ false)
 
 common_by : (b : Bool) → IsWord (if b then unsigned else int)
 common_by true = (tt {0}, refl)
@@ -112,11 +112,11 @@ has_more_stars base.Void stars = omega arith
 has_more_stars base.Int stars = tt {0}
 has_more_stars base.Unsigned stars = tt {0}
 
-pub pointer_is_type : (kind : ScalarType) → IsType (pointer_to kind)
+pub pointer_is_type : (kind : ScalarType) → IsScalarType (pointer_to kind)
 pointer_is_type kind = has_more_stars kind.base kind.stars
 
 -- an object's type isn't void, so that its pointer is no void pointer
-pub is_no_void_pointer : (kind : ScalarType) → IsType kind → pointer_to kind ≡ void_pointer → ⊥
+pub is_no_void_pointer : (kind : ScalarType) → IsScalarType kind → pointer_to kind ≡ void_pointer → ⊥
 is_no_void_pointer kind type is =
     let stars : kind.stars + 1 ≡ 1 = ap (λ k. k.stars) is in
     let some : HasStars base.Void kind.stars = subst (λ b. HasStars b kind.stars) (ap (λ k. k.base) is) type in

@@ -4,14 +4,14 @@ use Rattle.std.specs.Prelude.{⊤}
 use Rattle.c_tree.specs.declared.program.ScalarType.{ScalarType}
 use Rattle.c_tree.specs.Store.{is_pointer}
 use Rattle.c_tree.specs.TypedTree.{Kind, Expr, Node, Convert, Read, Load}
-use Rattle.c_tree.specs.Eval.{kind_of, place_of}
+use Rattle.c_tree.specs.Eval.{kind_of, expression_place}
 use Rattle.c_rules.specs.declared.fault.Rule.TheVariants.{Mismatch}
 use Rattle.c_rules.specs.declared.class.Class.{Class}
 use Rattle.c_rules.specs.declared.class.Class.TheVariants.{Nothing, Integer, Pointer}
 use Rattle.c_rules.specs.Outcome.{Is, breaks}
 use Rattle.c_rules.specs.Kinds.{class_of, same_kind, is_void_pointer, is_void}
 use Rattle.c_rules.specs.Operands.{Operand, class_at, converted, null_of, pointer_given, given_as, given, Pair, common_of, balanced, null_like, converted_like, pointers_met, met_as, arms_as, picked}
-use Rattle.c_tree.specs.Kinds.{IsType, IsKind, IsInteger, IsPointer, IsValue}
+use Rattle.c_tree.specs.Kinds.{IsScalarType, IsKind, IsInteger, IsPointer, IsValue}
 use Rattle.c_tree.specs.WellFormed.{Names, IsAddressable, Converts, IsWellTyped}
 use Rattle.c_rules.proofs.Formed.Context.{Gives, broken, is, behind, unless}
 use Rattle.c_rules.proofs.Formed.GivesLemmas.{weaker}
@@ -35,11 +35,11 @@ module _ (names : Names) where
   abbrev IsOf : Kind → Expr → Type 0
   IsOf kind v = IsWellTyped names v × (kind_of v ≡ kind)
 
-  null_typed : (kind : ScalarType) (e : Expr) → IsType kind → IsOf (Some kind) (null_of kind e)
+  null_typed : (kind : ScalarType) (e : Expr) → IsScalarType kind → IsOf (Some kind) (null_of kind e)
   null_typed kind e type = ((type, λ pointer. refl), refl)
 
-  module _ (kind : ScalarType) (e : Expr) (type : IsType kind) (typed : IsWellTyped names e) (converts : Converts (kind_of e) (Some kind)) where
-    converted_by : (b : Bool) → same_kind (kind_of e) (Some kind) ≡ b → IsOf (Some kind) (if b then e else Node (Convert e) (Some kind) (place_of e))
+  module _ (kind : ScalarType) (e : Expr) (type : IsScalarType kind) (typed : IsWellTyped names e) (converts : Converts (kind_of e) (Some kind)) where
+    converted_by : (b : Bool) → same_kind (kind_of e) (Some kind) ≡ b → IsOf (Some kind) (if b then e else Node (Convert e) (Some kind) (expression_place e))
     converted_by true same = (typed, kinds_same (kind_of e) (Some kind) same)
     converted_by false same = ((type, (typed, converts)), refl)
 
@@ -47,7 +47,7 @@ module _ (names : Names) where
     converted_typed = converted_by (same_kind (kind_of e) (Some kind)) refl
 
   -- a value where one of this type is wanted
-  module _ (kind : ScalarType) (at : ℕ) (x : Operand) (type : IsType kind) (typed : IsWellTyped names x.value) where
+  module _ (kind : ScalarType) (at : ℕ) (x : Operand) (type : IsScalarType kind) (typed : IsWellTyped names x.value) where
     module _ (wanted : is_pointer kind ≡ true) (pointer : IsPointer (kind_of x.value)) where
       pointer_by : (null void same : Bool) → same_kind (kind_of x.value) (Some kind) ≡ same
           → Gives (IsOf (Some kind)) (if null then Is (null_of kind x.value)

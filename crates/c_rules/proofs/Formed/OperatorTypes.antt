@@ -10,7 +10,7 @@ use Rattle.c_rules.specs.declared.fault.Rule.TheVariants.{Mismatch}
 use Rattle.c_rules.specs.declared.class.Class.{Class}
 use Rattle.c_rules.specs.declared.class.Class.TheVariants.{Integer, Pointer}
 use Rattle.c_rules.specs.Kinds.{int, same_kind, is_void}
-use Rattle.c_rules.specs.Operands.{Operand, Pair, balanced, on_pair, calculated, product_as, sum_as, pointers, difference_as, shift_as, order_as, equality, binary_as, binary, unary_as, unary, negated, both_true, either_true}
+use Rattle.c_rules.specs.Operands.{Operand, Pair, balanced, on_pair, calculated, product_as, sum_as, pointers, difference_as, shift_as, order_as, typed_equality, binary_as, binary, unary_as, unary, negated, both_true, either_true}
 use Rattle.c_tree.specs.Kinds.{IsInteger, IsPointer}
 use Rattle.c_tree.specs.WellFormed.{Names, Takes, Calculates, Shifts, Compares, Moves, Moves_right, Subtracts, IsWellTyped, is_comparison, is_shift}
 use Rattle.c_rules.proofs.Formed.Context.{Gives, broken, is, behind, unless}
@@ -87,7 +87,7 @@ module _ (names : Names) where
     negated_typed = unless (is_void (kind_of x)) Mismatch at _ (λ value. is _ ((tt {0}, (typed, value_unless_void (kind_of x) value, refl)), tt {0}))
 
   module _ (at : ℕ) (x y : Operand) (typed : IsWellTyped names x.value) (typed_other : IsWellTyped names y.value) where
-    equality_typed : (o : BinaryOp) → is_comparison o ≡ true → Gives (IsOperand names) (equality o at x y)
+    equality_typed : (o : BinaryOp) → is_comparison o ≡ true → Gives (IsOperand names) (typed_equality o at x y)
     equality_typed o row =
         behind _ _ (met_typed names at x y typed typed_other _ _ (of_class (kind_of x.value)) (of_class (kind_of y.value))) (λ p met. is _ (compared o at p row met))
 

@@ -15,9 +15,9 @@ use Rattle.c_rules.specs.Declarations.{parameter, parameters, with_single}
 use Rattle.c_rules.specs.Programs.{is_single}
 use Rattle.c_rules.specs.Scopes.{Scope}
 use Rattle.c_rules.specs.Statements.{LocalTree}
-use Rattle.c_rules.specs.Typing.{number_of}
+use Rattle.c_rules.specs.Typing.{bodies_before}
 use Rattle.c_rules.specs.Units.{with_parameters, parameter_locals}
-use Rattle.c_tree.specs.Kinds.{IsType}
+use Rattle.c_tree.specs.Kinds.{IsScalarType}
 use Rattle.c_tree.specs.WellFormed.{Names, IsInitial}
 use Rattle.c_rules.proofs.Formed.Context.{Gives, is, behind, Fits, IsMeaning, IsLocal, shape_of, static_in}
 use Rattle.c_rules.proofs.Formed.FileContext.{local_kind}
@@ -34,7 +34,7 @@ as_many s naming (p ∷ ps) =
     (λ kind there. behind (parameters (with_single s p.name (refs.Local 0) kind) naming ps) (λ kinds. Is (kind ∷ kinds))
     (as_many (with_single s p.name (refs.Local 0) kind) naming ps) (λ kinds same. is (kind ∷ kinds) (ap suc same)))
 
-pub typed_parameters : (s : Scope) (naming : Naming) (ps : List ParameterTree) → Gives (λ kinds. All IsType kinds × (length kinds ≡ length ps)) (parameters s naming ps)
+pub typed_parameters : (s : Scope) (naming : Naming) (ps : List ParameterTree) → Gives (λ kinds. All IsScalarType kinds × (length kinds ≡ length ps)) (parameters s naming ps)
 typed_parameters s naming ps = together (parameters s naming ps) (parameter_types s naming ps) (as_many s naming ps)
 
 -- the objects that they are
@@ -68,30 +68,30 @@ single_locals (p ∷ ps) [] = All-nil (λ (l : LocalTree). is_single l.object_ty
 single_locals (p ∷ ps) (kind ∷ kinds) =
     All-cons (λ (l : LocalTree). is_single l.object_type ≡ true) (local_of p kind) (parameter_locals ps kinds) refl (single_locals ps kinds)
 
-pub right_locals : (names : Names) (ps : List ParameterTree) (kinds : List ScalarType) → All IsType kinds → All (IsLocal names) (parameter_locals ps kinds)
+pub right_locals : (names : Names) (ps : List ParameterTree) (kinds : List ScalarType) → All IsScalarType kinds → All (IsLocal names) (parameter_locals ps kinds)
 right_locals names [] kinds types = All-nil (IsLocal names)
 right_locals names (p ∷ ps) [] types = All-nil (IsLocal names)
 right_locals names (p ∷ ps) (kind ∷ kinds) types =
     let right : IsLocal names (local_of p kind) = record {
-      is_type = All-head IsType kind kinds types;
+      is_type = All-head IsScalarType kind kinds types;
       from_one = omega arith;
       most = omega arith;
       within = omega arith;
       starts = All-nil (IsInitial (static_in names) kind);
     } in
-    All-cons (IsLocal names) (local_of p kind) (parameter_locals ps kinds) right (right_locals names ps kinds (All-tail IsType kind kinds types))
+    All-cons (IsLocal names) (local_of p kind) (parameter_locals ps kinds) right (right_locals names ps kinds (All-tail IsScalarType kind kinds types))
 
 -- the scope that they stand in
-fits_single : (names : Names) (s : Scope) (name : Option (List ℕ)) (n : ℕ) (kind : ScalarType) → Fits names s → IsType kind
+fits_single : (names : Names) (s : Scope) (name : Option (List ℕ)) (n : ℕ) (kind : ScalarType) → Fits names s → IsScalarType kind
     → names.object (refs.Local n) ≡ Some (shape_of (Single kind)) → Fits names (with_single s name (refs.Local n) kind)
 fits_single names s None n kind fits type there = fits
 fits_single names s (Some name) n kind fits type there = λ k m found.
     elim (declared_or_old s name (meanings.Object (refs.Local n) (Single kind)) k m found) [
-      | inl new ↦ subst (IsMeaning names (number_of s k)) new (there, type, tt {0})
+      | inl new ↦ subst (IsMeaning names (bodies_before s k)) new (there, type, tt {0})
       | inr old ↦ fits k m old
     ]
 
-pub fits_parameters : (names : Names) (s : Scope) (n : ℕ) (ps : List ParameterTree) (kinds : List ScalarType) → Fits names s → All IsType kinds
+pub fits_parameters : (names : Names) (s : Scope) (n : ℕ) (ps : List ParameterTree) (kinds : List ScalarType) → Fits names s → All IsScalarType kinds
     → AreThere names n (parameter_locals ps kinds) → Fits names (with_parameters s n ps kinds)
 fits_parameters names s n [] kinds fits types there = fits
 fits_parameters names s n (p ∷ ps) [] fits types there = fits
@@ -101,4 +101,4 @@ fits_parameters names s n (p ∷ ps) (kind ∷ kinds) fits types there =
     let more : AreThere names (suc n) (parameter_locals ps kinds) =
     λ k l found. subst (λ m. names.object (refs.Local m) ≡ Some (shape_of l.object_type)) (omega arith) (there (suc k) l found)
     in fits_parameters names (with_single s p.name (refs.Local n) kind) (suc n) ps kinds
-    (fits_single names s p.name n kind fits (All-head IsType kind kinds types) first) (All-tail IsType kind kinds types) more
+    (fits_single names s p.name n kind fits (All-head IsScalarType kind kinds types) first) (All-tail IsScalarType kind kinds types) more

@@ -20,15 +20,15 @@ use Rattle.c_rules.specs.declared.fault.LimitName.TheVariants as limit
 use Rattle.c_tree.specs.declared.enclosing.Enclosing.TheVariants as around
 use Rattle.c_rules.specs.Checked.{AreWhole}
 use Rattle.c_rules.specs.Kinds.{int, same_base, same_kind}
-use Rattle.c_rules.specs.Programs.{frame, function_tree, program_tree, cell_kind, local_object, static_object, is_main, has_main, calls_of}
+use Rattle.c_rules.specs.Programs.{frame, function_tree, program_tree, cell_kind, local_object, object_tree, is_main, has_main, calls_of}
 use Rattle.c_rules.specs.Statements.{LocalTree}
 use Rattle.c_rules.specs.Units.{StaticTree, TypedFunction, File}
 use Rattle.c_tree.specs.Rounds.{CallsAmong, HasNoRound}
 use Rattle.c_tree.specs.Uses.{called, statement_uses}
-use Rattle.c_tree.specs.Kinds.{IsType}
+use Rattle.c_tree.specs.Kinds.{IsScalarType}
 use Rattle.c_tree.specs.WellFormed.{Shape, IsInitial, StartsAt, opened}
 use Rattle.c_tree.specs.WellFormedProgram as whole
-use Rattle.c_tree.specs.WellFormedProgram.{IsObject, IsFunction, IsLimited, IsMain, IsProgram, object_count, names_of}
+use Rattle.c_tree.specs.WellFormedProgram.{IsObject, IsFunction, IsLimited, IsMain, IsProgram, object_count, names_within}
 use Rattle.c_rules.specs.Whole.{uses_of, case_counts, all_cases, first_above, frame_size}
 use Rattle.c_rules.proofs.Formed.Context.{IsLocal, numbers_from}
 use Rattle.c_rules.proofs.Formed.FileContext.{names_in, object_in, static_shape, IsTypedFunction, IsStatic, IsTypedFile}
@@ -53,7 +53,7 @@ module _ (file : File) where
   same_statics : (n : ℕ) → statics n ≡ whole.static_in (program_tree file) n
   same_statics n = sym (static_kept file n)
 
-  static_formed : (o : StaticTree) → IsStatic file o → IsObject (program_tree file) (static_object o)
+  static_formed : (o : StaticTree) → IsStatic file o → IsObject (program_tree file) (object_tree o)
   static_formed o is = record {
     is_type = is.is_type;
     from_one = is.from_one;
@@ -75,13 +75,13 @@ module _ (file : File) where
     function_formed : IsFunction (program_tree file) (function_tree f)
     function_formed = record {
       result = typed.result;
-      scalars = all_scalars (IsLocal (names_in file f)) IsType (λ l is. is.is_type) (frame f) f.locals typed.locals;
+      scalars = all_scalars (IsLocal (names_in file f)) IsScalarType (λ l is. is.is_type) (frame f) f.locals typed.locals;
       locals = all_objects (IsLocal (names_in file f)) (IsObject (program_tree file)) local_formed (frame f) f.locals typed.locals;
       parameters = all_parameters f typed.single;
       differ = references_differ (statement_uses f.body) f.parameters f.locals;
       body = kept_statement (frame f) (object_in file f) (whole.object_in (program_tree file) (function_tree f)) (renumbers file f) f.result
           (opened (object_in file f) (numbers_from 0 f.parameters) (names_in file f))
-          (opened (whole.object_in (program_tree file) (function_tree f)) (function_tree f).params (names_of (program_tree file) (function_tree f)))
+          (opened (whole.object_in (program_tree file) (function_tree f)) (function_tree f).params (names_within (program_tree file) (function_tree f)))
           (body_carried file f typed.parameters) around.Body f.body (all_addresses f) typed.tree;
     }
 
@@ -132,7 +132,7 @@ main_among [] has = absurd (true≢false (sym has))
 main_among (f ∷ fs) has = main_here f fs (is_main f) refl has (main_among fs)
 
 -- calls stay
-calls_kept : (fs : List TypedFunction) → whole.calls_of (map function_tree fs) ≡ calls_of fs
+calls_kept : (fs : List TypedFunction) → whole.program_calls (map function_tree fs) ≡ calls_of fs
 calls_kept [] = refl
 calls_kept (f ∷ fs) =
     ap (λ ls. called (statement_uses (function_tree f).body) ∷ ls) (calls_kept fs)
@@ -204,7 +204,7 @@ limits_hold fs is = record {
 pub well_formed_program : (file : File) → IsTypedFile file → AreWhole file.functions → All IsName (map (λ f. f.name) file.functions)
     → object_count (program_tree file) ≤ MOST_OBJECTS → IsProgram (program_tree file)
 well_formed_program file typed is names few = record {
-  statics = All-map (IsObject (program_tree file)) static_object file.statics (λ k d below. static_formed file (get_or file.statics k d) (typed.statics k d below));
+  statics = All-map (IsObject (program_tree file)) object_tree file.statics (λ k d below. static_formed file (get_or file.statics k d) (typed.statics k d below));
   functions = All-map (IsFunction (program_tree file)) function_tree file.functions (λ k d below. function_formed file _ (typed.functions k d below));
   names = subst (All IsName) (sym (same_names file.functions)) names;
   differ = subst (AllPairs (λ a b. a ≢ b)) (sym (same_names file.functions)) typed.names_differ;

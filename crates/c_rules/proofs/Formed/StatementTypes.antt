@@ -19,7 +19,7 @@ use Rattle.c_rules.specs.Kinds.{class_of, is_void}
 use Rattle.c_rules.specs.Operands.{Operand, given, is_integer}
 use Rattle.c_rules.specs.Scopes.{Scope, open_scope}
 use Rattle.c_rules.specs.Typing.{typing, operand, constant_typing, word_at}
-use Rattle.c_rules.specs.Statements.{LocalTree, Opened, opened_in, declarations, before, optional, is_void_test, returned, may_break, may_continue, in_switch, repeats_label}
+use Rattle.c_rules.specs.Statements.{LocalTree, Opened, opened_in, declarations, before, optional, is_void_test, typed_return, may_break, may_continue, in_switch, repeats_label}
 use Rattle.c_rules.specs.Statements.{Typed, Labelled, just, typed_statement, typed_statements, typed_choices, typed_body}
 use Rattle.c_tree.specs.Kinds.{IsKind, IsInteger, IsValue}
 use Rattle.c_tree.specs.WellFormed.{Shape, Names, IsWellTyped, IsTest, IsOptional, IsOptionalTest, IsReturned, IsWellFormed, AreWellFormed, HasChoices, opened}
@@ -68,7 +68,7 @@ module _ (s : Scope) where
   return_as names kind v value = ((value.0, subst IsValue (sym value.1) tt), value.1)
 
   return_value : (result : Kind) (at : ℕ) (x : Operand) → IsKind result → ((names : Names) → Fits names s → IsWellTyped names x.value)
-      → Gives (λ v. (names : Names) → Fits names s → IsReturned names result (Some v)) (returned result at x)
+      → Gives (λ v. (names : Names) → Fits names s → IsReturned names result (Some v)) (typed_return result at x)
   return_value None at x type value = broken Mismatch at
   return_value (Some kind) at x type value =
       for_all {F = λ names. Fits names s} (given kind at x) λ names fits.
@@ -116,7 +116,7 @@ module _ (result : Kind) (type : IsKind result) where
         unless (not (is_void result)) _ _ _ λ void. with_none s ls _ λ objects names fits. no_result result (not-false (is_void result) void)
     statement_grows s c ls (tree.Return (Some e) at) =
         behind (typing s e) _ (expression s e) λ x value.
-        behind (returned result at (operand e x)) _ (return_value s result at (operand e x) type value) λ v good. with_none s ls _ (λ objects. good)
+        behind (typed_return result at (operand e x)) _ (return_value s result at (operand e x) type value) λ v good. with_none s ls _ (λ objects. good)
     -- choices
     statement_grows s c ls (tree.If e a at) =
         behind (typing s e) _ (expression s e) λ x test.

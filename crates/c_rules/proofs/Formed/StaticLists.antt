@@ -9,11 +9,11 @@ use Rattle.c_rules.specs.declared.fault.Rule.TheVariants.{Mismatch}
 use Rattle.c_rules.specs.declared.meaning.ObjectType.{ObjectType}
 use Rattle.c_rules.specs.declared.meaning.ObjectType.TheVariants.{Single, Array}
 use Rattle.c_rules.specs.Outcome.{Is}
-use Rattle.c_rules.specs.Declarations.{entry, entries, cell, listed}
+use Rattle.c_rules.specs.Declarations.{entry, entries, cell, array_list}
 use Rattle.c_rules.specs.Programs.{cell_kind, cell_count}
 use Rattle.c_rules.specs.Scopes.{Scope}
 use Rattle.c_rules.specs.Units.{Starts, NoStart, One, Braced, starts, static_list}
-use Rattle.c_tree.specs.Kinds.{IsType}
+use Rattle.c_tree.specs.Kinds.{IsScalarType}
 use Rattle.c_tree.specs.WellFormed.{Shape, Names, IsInitial}
 use Rattle.c_rules.proofs.Formed.Context.{Gives, is, broken, behind, Fits, shape_of, static_in, IsStored}
 use Rattle.c_rules.proofs.Formed.GivesLemmas.{of_each}
@@ -44,7 +44,7 @@ IsList names type list = (length (unwrap_or list []) ≤ cell_count type) × All
 no_list : (names : Names) (type : ObjectType) → IsList names type None
 no_list names type = (omega arith, All-nil (IsInitial (static_in names) (cell_kind type)))
 
-list_of_start : (names : Names) (type : ObjectType) (at : ℕ) (i : Starts) → IsType (cell_kind type) → IsStart names i → Gives (IsList names type) (static_list type at i)
+list_of_start : (names : Names) (type : ObjectType) (at : ℕ) (i : Starts) → IsScalarType (cell_kind type) → IsStart names i → Gives (IsList names type) (static_list type at i)
 list_of_start names (Single kind) at NoStart right start = is None (no_list names (Single kind))
 list_of_start names (Array kind n) at NoStart right start = is None (no_list names (Array kind n))
 list_of_start names (Single kind) at (One e) right start =
@@ -53,9 +53,9 @@ list_of_start names (Single kind) at (One e) right start =
 list_of_start names (Array kind n) at (One e) right start = broken Mismatch at
 list_of_start names (Single kind) at (Braced es) right start = broken Mismatch at
 list_of_start names (Array kind n) at (Braced es) right start =
-    behind (listed kind n at es) (λ list. Is (Some list)) (typed_list names kind n at es right start) (λ list holds. is (Some list) holds)
+    behind (array_list kind n at es) (λ list. Is (Some list)) (typed_list names kind n at es right start) (λ list holds. is (Some list) holds)
 
-pub typed_static_list : (s : Scope) (type : ObjectType) (at : ℕ) (i : Starts) → IsType (cell_kind type) → ((names : Names) → Fits names s → IsStart names i)
+pub typed_static_list : (s : Scope) (type : ObjectType) (at : ℕ) (i : Starts) → IsScalarType (cell_kind type) → ((names : Names) → Fits names s → IsStart names i)
     → Gives (λ list. (names : Names) → Fits names s → IsList names type list) (static_list type at i)
 typed_static_list s type at i right start =
     of_each (static_list type at i) (λ names. of_each (static_list type at i) (λ fits. list_of_start names type at i right (start names fits)))
@@ -70,7 +70,7 @@ stored_alike static a b values alike right =
     let kinds : cell_kind a ≡ cell_kind b = ap (λ (s : Shape). s.kind) alike in
     let counts : cell_count a ≡ cell_count b = ap (λ (s : Shape). s.length) alike in
     record {
-      is_type = subst IsType kinds right.is_type;
+      is_type = subst IsScalarType kinds right.is_type;
       from_one = subst (λ n. 1 ≤ n) counts right.from_one;
       most = subst (λ n. n ≤ MOST_CELLS) counts right.most;
       within = subst (λ n. length values ≤ n) counts right.within;

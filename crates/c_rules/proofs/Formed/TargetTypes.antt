@@ -11,8 +11,8 @@ use Rattle.c_rules.specs.declared.class.Class.{Class}
 use Rattle.c_rules.specs.declared.class.Class.TheVariants.{Nothing, Integer, Pointer}
 use Rattle.c_rules.specs.Outcome.{Is, Broken}
 use Rattle.c_rules.specs.Kinds.{int, unsigned, void_pointer, class_of, is_void, same_type, pointer_to}
-use Rattle.c_rules.specs.Operands.{Operand, class_at, number, lvalue_of, written, assigned_as, assigned, takes, assigned_by, stepped_before, stepped_after, address_of, address, target_of, loaded_as, loaded, indexed, cast_as, cast, behind as comma, sized}
-use Rattle.c_tree.specs.Kinds.{IsType, IsKind}
+use Rattle.c_rules.specs.Operands.{Operand, class_at, typed_number, lvalue_of, written, assigned_as, assigned, takes, assigned_by, stepped_before, stepped_after, address_of, address, target_of, loaded_as, loaded, indexed, cast_as, cast, typed_comma as comma, sized}
+use Rattle.c_tree.specs.Kinds.{IsScalarType, IsKind}
 use Rattle.c_tree.specs.WellFormed.{is_comparison, Shape, Names, PointsTo, Updates, Updates_word, Updates_pointer, IsWellTyped, IsTarget}
 use Rattle.c_rules.proofs.Formed.Context.{Gives, broken, is, behind, unless}
 use Rattle.c_rules.proofs.Formed.OperandKinds.{OfClass, of_class, integer_converts, pointer_converts, starred_is_kind, pointed_leads, pointer_is_type}
@@ -28,7 +28,7 @@ pub points_to : (object : Option Shape) (shape : Shape) → object ≡ Some shap
 points_to object shape there = subst (λ o. PointsTo o (Some (pointer_to shape.kind))) (sym there) refl
 
 module _ (names : Names) where
-  pub constant_typed : (w at : ℕ) (kind : ScalarType) → IsType kind → is_pointer kind ≡ false → IsOperand names (Node (Const w) (Some kind) at)
+  pub constant_typed : (w at : ℕ) (kind : ScalarType) → IsScalarType kind → is_pointer kind ≡ false → IsOperand names (Node (Const w) (Some kind) at)
   constant_typed w at kind type word = ((type, λ pointer. absurd (true≢false (sym pointer ∙ word))), tt {0})
 
   number_by : (value at : ℕ) (long marked short decimal : Bool) → Gives (IsOperand names) (
@@ -43,7 +43,7 @@ module _ (names : Names) where
   number_by value at false false false true = broken LongConstant at
   number_by value at false false false false = is _ (constant_typed value at unsigned (tt {0}) refl)
 
-  pub number_typed : (value : ℕ) (marked decimal : Bool) (at : ℕ) → Gives (IsOperand names) (number value marked decimal at)
+  pub number_typed : (value : ℕ) (marked decimal : Bool) (at : ℕ) → Gives (IsOperand names) (typed_number value marked decimal at)
   number_typed value marked decimal at = number_by value at (nat_lt 65535 value) marked (nat_lt value 32768) decimal
 
   -- a node over what is written
@@ -57,7 +57,7 @@ module _ (names : Names) where
     assigned_to : (y : Operand) (kind : Kind) → kind_of x ≡ kind → IsWellTyped names y.value → Gives (IsOperand names) (assigned_as kind at x y)
     assigned_to y None same typed_other = broken Mismatch at
     assigned_to y (Some kind) same typed_other =
-        let type : IsType kind = subst IsKind same (kind_typed names x typed) in
+        let type : IsScalarType kind = subst IsKind same (kind_typed names x typed) in
         behind _ _ (given_value names kind at y type typed_other) (λ v of. written_typed at x _ typed
         (λ l target. ((type, (subst (IsTarget names l) same target, of.0, of.1)), tt {0})))
 
@@ -97,7 +97,7 @@ module _ (names : Names) where
     loaded_by : (kind : Kind) (c : Class) (target : Kind) → kind_of x ≡ kind → OfClass c kind → target_of kind c ≡ target → Gives (IsOperand names) (loaded_as target at x)
     loaded_by kind c None same class target = broken Mismatch at
     loaded_by (Some kind) Pointer (Some type) same class target =
-        let there : IsType type = subst IsKind target (starred_is_kind kind.base (kind.stars - 1)) in
+        let there : IsScalarType type = subst IsKind target (starred_is_kind kind.base (kind.stars - 1)) in
         is _ ((there, (typed.0, same ∙ pointed_leads kind type class target)), typed.1)
     loaded_by (Some kind) Nothing (Some type) same class target = absurd (cc class)
     loaded_by kind c (Some type) same class target = absurd (cc target)
@@ -111,7 +111,7 @@ module _ (names : Names) where
 
   -- casts
   module _ (at : ℕ) (x : Operand) (typed : IsWellTyped names x.value) where
-    cast_by : (kind : ScalarType) (c d : Class) → IsType kind → OfClass c (Some kind) → OfClass d (kind_of x.value) → Gives (IsOperand names) (cast_as c d kind at x)
+    cast_by : (kind : ScalarType) (c d : Class) → IsScalarType kind → OfClass c (Some kind) → OfClass d (kind_of x.value) → Gives (IsOperand names) (cast_as c d kind at x)
     cast_by kind Integer Integer type wanted class = is _ ((type, (typed, integer_converts (kind_of x.value) kind class wanted)), tt {0})
     cast_by kind Pointer Pointer type wanted class = is _ ((type, (typed, pointer_converts (kind_of x.value) kind class wanted)), tt {0})
     cast_by kind Pointer Integer type wanted class = unless (not (x.null && same_type kind void_pointer)) Mismatch at _ (λ null. is _ ((type, λ pointer. refl), tt {0}))

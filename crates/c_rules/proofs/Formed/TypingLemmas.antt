@@ -15,7 +15,7 @@ use Rattle.c_rules.specs.Outcome.{Outcome, Is, Broken, ◌>>=◌}
 use Rattle.c_rules.specs.Kinds.{int, unsigned, is_void}
 use Rattle.c_rules.specs.Operands.{Operand}
 use Rattle.c_rules.specs.Scopes.{Scope, is_in, is_out}
-use Rattle.c_rules.specs.Typing.{plain, type_named, named_as, named, number_of, array_length, prefixed, is_address, takes_address, of_object, is_of_calls, no_constant, word_at, operand, Arguments, Operands, NoPort, Port, arguments_from, call_of, typing, typing_form, operands, port_arguments, constant_typing}
+use Rattle.c_rules.specs.Typing.{plain, type_named, named_as, typed_name, bodies_before, array_length, prefixed, is_address, takes_address, of_object, is_of_calls, no_constant, word_at, operand, Arguments, Operands, NoPort, Port, arguments_from, call_of, typing, typing_form, operands, port_arguments, constant_typing}
 use Rattle.c_tree.specs.Kinds.{IsKind}
 use Rattle.c_tree.specs.WellFormed.{Names, IsWellTyped}
 use Rattle.c_rules.proofs.Formed.Context.{Gives, Fits, IsMeaning, broken, is, behind, unless}
@@ -72,11 +72,11 @@ module _ (names : Names) where
   are_arguments name port xs first second = one_of (is_in name || is_out name) _ _ first (behind _ _ second (λ xs those. is _ those))
 
   module _ (s : Scope) (fits : Fits names s) where
-    named_typed : (name : List ℕ) (at : ℕ) → Gives (IsOperand names) (named s name at)
-    named_typed name at = unless (is_in name || is_out name) Mismatch at _ (λ no_port. named_by (number_of s name) at (s.meaning name) (fits name))
+    named_typed : (name : List ℕ) (at : ℕ) → Gives (IsOperand names) (typed_name s name at)
+    named_typed name at = unless (is_in name || is_out name) Mismatch at _ (λ no_port. named_by (bodies_before s name) at (s.meaning name) (fits name))
 
     call_of_typed : (name : List ℕ) (at : ℕ) (a : Arguments) → AreArguments a → Gives (IsOperand names) (call_of s name at a)
-    call_of_typed name at (Operands xs) typed = called_typed names (number_of s name) (s.meaning name) at xs (fits name) typed
+    call_of_typed name at (Operands xs) typed = called_typed names (bodies_before s name) (s.meaning name) at xs (fits name) typed
     call_of_typed name at NoPort typed = broken ArgCount at
     call_of_typed name at (Port class port xs) typed = one_of (is_in name) _ _ (input_typed names at class port xs) (output_typed names at class port xs typed)
 

@@ -14,7 +14,7 @@ use Rattle.c_rules.specs.Outcome.{breaks, there_or}
 use Rattle.c_rules.specs.Scopes.{Scope, open_scope, is_taken}
 use Rattle.c_rules.specs.Typing.{plain, typing, constant_typing, word_at}
 use Rattle.c_rules.specs.Declarations.{length_within, typed_length, parameter_kind, is_bad_length, is_name_taken, parameter, with_single, parameters, declarator, static_value, entry, entries}
-use Rattle.c_rules.specs.Statements.{Initialiser, initialiser, all_typed, is_array, started, Opened, with_object, placed, declared_as, block_item, block_items, declarations}
+use Rattle.c_rules.specs.Statements.{Initialiser, initialiser, all_typed, is_array, started, Opened, with_named_object, placed, declared_as, block_item, block_items, declarations}
 use Rattle.c_rules.specs.Visits.{visit}
 use Rattle.c_rules.specs.ExpressionWalk.{plain_rules, visits, constant_visits}
 use Rattle.c_rules.specs.DeclarationWalk.{length_visits, parameter_rules, parameter_visits, parameters_visits, declarator_visits, entry_visits, entries_visits, values_visits, initial_visits, block_item_rules, block_declared_visits, block_item_visits, block_items_visits, declarations_visits}
@@ -80,11 +80,11 @@ module _ (s : Scope) where
 -- an item of a block
 item_node : (o : Opened) (r : VarRef) (item : ItemTree) (d : Declared) (i : Initialiser)
     → Finds (visit item.at (block_item_rules o.scope r item d i) ∷ [])
-    (breaks (is_taken o.scope item.name) Redeclared item.at (declared_as o (with_object o.scope item.name r d) r d item i))
+    (breaks (is_taken o.scope item.name) Redeclared item.at (declared_as o (with_named_object o.scope item.name r d) r d item i))
 item_node o r item declares.Untyped i = untyped Opened item.at (is_taken o.scope item.name)
 item_node o r item (declares.Function type) i = misplaced Opened item.at (is_taken o.scope item.name) (is_some item.initial)
 item_node o r item (declares.Object type) i = redeclared_or item.at (is_taken o.scope item.name) (started r type item.at i)
-    (placed o (with_object o.scope item.name r (declares.Object type)) item.name r type) (started_only item.at r type i)
+    (placed o (with_named_object o.scope item.name r (declares.Object type)) item.name r type) (started_only item.at r type i)
 
 pub item_find : (o : Opened) (b : Base) (item : ItemTree) → Finds (block_item_visits o.scope (refs.Local (length o.locals)) b item) (block_item o b item)
 item_find o b item = followed (declarator_visits o.scope item.form) (block_declared_visits o.scope r item)
@@ -96,7 +96,7 @@ item_find o b item = followed (declarator_visits o.scope item.form) (block_decla
     r = refs.Local (length o.locals)
 
     within : Declared → Scope
-    within d = with_object o.scope item.name r d
+    within d = with_named_object o.scope item.name r d
 
 pub items_find : (o : Opened) (b : Base) (items : List ItemTree) → Finds (block_items_visits o b items) (block_items o b items)
 items_find o b [] = refl

@@ -15,9 +15,9 @@ use Rattle.c_rules.specs.declared.meaning.Meaning.TheVariants as meanings
 use Rattle.c_rules.specs.declared.meaning.ObjectType.TheVariants.{Single, Array}
 use Rattle.c_rules.specs.Outcome.{Outcome, Is, Broken, ◌>>=◌, breaks}
 use Rattle.c_rules.specs.Kinds.{is_void}
-use Rattle.c_rules.specs.Operands.{Operand, number, given, written, lvalue_of, assigned_as, assigned, assigned_by, stepped_before, stepped_after, address_of, any_void, passed, no_more, sent}
+use Rattle.c_rules.specs.Operands.{Operand, typed_number, given, written, lvalue_of, assigned_as, assigned, assigned_by, stepped_before, stepped_after, address_of, any_void, passed, no_more, sent}
 use Rattle.c_rules.specs.Scopes.{Scope, is_in, is_out}
-use Rattle.c_rules.specs.Typing.{Arguments, Operands, NoPort, Port, call_of, plain, type_named, named_as, named, called, prefixed, takes_address, of_object}
+use Rattle.c_rules.specs.Typing.{Arguments, Operands, NoPort, Port, call_of, plain, type_named, named_as, typed_name, typed_call, prefixed, takes_address, of_object}
 use Rattle.c_rules.specs.Visits.{visit, BrokenRule, first, when, rule_of}
 use Rattle.c_rules.specs.ExpressionWalk.{plain_rules, type_visits, object_rules, step_rules, prefix_rules, is_broken, misfits, assign_rules, update_rules, any_misfit, other_count, any_behind, isnt_one, called_rules, call_rules}
 use Rattle.c_rules.proofs.Walked.Finding.{Finds}
@@ -49,14 +49,14 @@ named_by at false (Some (meanings.Object r (Single kind))) = refl
 named_by at false (Some (meanings.Object r (Array kind n))) = refl
 named_by at false (Some (meanings.Function type)) = refl
 
-pub named_find : (s : Scope) (name : List ℕ) (at : ℕ) → Node_finds at (rule_of (named s name at)) (named s name at)
+pub named_find : (s : Scope) (name : List ℕ) (at : ℕ) → Node_finds at (rule_of (typed_name s name at)) (typed_name s name at)
 named_find s name at = named_by at (is_in name || is_out name) (s.meaning name)
 
 choose : {A : Type 0} (at : ℕ) (b : Bool) (o p : Outcome A) → Node_finds at (rule_of o) o → Node_finds at (rule_of p) p → Node_finds at (rule_of (if b then o else p)) (if b then o else p)
 choose at true o p one other = one
 choose at false o p one other = other
 
-pub number_find : (value : ℕ) (marked decimal : Bool) (at : ℕ) → Node_finds at (rule_of (number value marked decimal at)) (number value marked decimal at)
+pub number_find : (value : ℕ) (marked decimal : Bool) (at : ℕ) → Node_finds at (rule_of (typed_number value marked decimal at)) (typed_number value marked decimal at)
 number_find value marked decimal at =
     choose at _ (Broken LongConstant at) _ refl (choose at marked (Is _) _ refl (choose at _ (Is _) _ refl (choose at decimal (Broken LongConstant at) (Is _) refl refl)))
 
@@ -154,7 +154,7 @@ undeclared_least : (at : ℕ) (b : Bool) → Node_finds {A = Expr} at (Undeclare
 undeclared_least at true = refl
 undeclared_least at false = refl
 
-function_find : (n : ℕ) (m : Option Meaning) (at : ℕ) (xs : List Operand) → Node_finds at (called_rules m at xs) (called n m at xs)
+function_find : (n : ℕ) (m : Option Meaning) (at : ℕ) (xs : List Operand) → Node_finds at (called_rules m at xs) (typed_call n m at xs)
 function_find n None at xs = undeclared_least at (any_void xs)
 function_find n (Some (meanings.Object r type)) at xs = refl
 function_find n (Some (meanings.Function type)) at xs = mapped (visit at (called_rules (Some (meanings.Function type)) at xs) ∷ []) (passed type.parameters at xs) _ (passed_find at type.parameters xs)

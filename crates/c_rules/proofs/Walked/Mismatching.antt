@@ -12,7 +12,7 @@ use Rattle.c_rules.specs.declared.class.Class.{Class}
 use Rattle.c_rules.specs.declared.class.Class.TheVariants.{Nothing, Integer, Pointer}
 use Rattle.c_rules.specs.Outcome.{Outcome, Is, Broken, ◌>>=◌, breaks}
 use Rattle.c_rules.specs.Kinds.{is_void_pointer, same_kind, class_of}
-use Rattle.c_rules.specs.Operands.{Operand, given, given_as, pointers_met, met_as, product_as, sum_as, difference_as, shift_as, order_as, equality, binary_as, binary, unary_as, unary, negated, both_true, either_true, arms_as, picked, loaded_as, loaded, indexed, cast_as, cast, sized}
+use Rattle.c_rules.specs.Operands.{Operand, given, given_as, pointers_met, met_as, product_as, sum_as, difference_as, shift_as, order_as, typed_equality, binary_as, binary, unary_as, unary, negated, both_true, either_true, arms_as, picked, loaded_as, loaded, indexed, cast_as, cast, sized}
 use Rattle.c_rules.specs.Visits.{visit, rule_of}
 use Rattle.c_rules.proofs.Walked.Finding.{Finds}
 
@@ -97,7 +97,7 @@ module _ (at : ℕ) where
   order_only Pointer Pointer o x y = if_not _ _ (typed _)
   order_only c d o x y = mismatch
 
-  equality_only : (o : BinaryOp) (x y : Operand) → Mismatches at (equality o at x y)
+  equality_only : (o : BinaryOp) (x y : Operand) → Mismatches at (typed_equality o at x y)
   equality_only o x y = behind _ _ (met_as_only _ _ x y) (λ p. typed _)
 
   binary_as_only : (o : BinaryOp) (c d : Class) (x y : Operand) → Mismatches at (binary_as o c d at x y)

@@ -6,8 +6,8 @@ use Rattle.c_tree.specs.TypedTree.{Kind}
 use Rattle.c_rules.specs.declared.meaning.ObjectType.{ObjectType}
 use Rattle.c_rules.specs.declared.meaning.ObjectType.TheVariants.{Single, Array}
 use Rattle.c_rules.specs.Operands.{Operand}
-use Rattle.c_rules.specs.Declarations.{Entry, cell, cells, listed}
-use Rattle.c_rules.specs.Statements.{Initialiser, Absent, Value, Listed, started, returned}
+use Rattle.c_rules.specs.Declarations.{Entry, cell, cells, array_list}
+use Rattle.c_rules.specs.Statements.{Initialiser, Absent, Value, Listed, started, typed_return}
 use Rattle.c_rules.specs.Units.{Starts, NoStart, One, Braced, static_list}
 use Rattle.c_rules.proofs.Walked.Mismatching.{Mismatches, typed, mismatch, if_not, behind, given_only}
 
@@ -20,7 +20,7 @@ module _ (at : ℕ) where
   cells_only kind [] = typed _
   cells_only kind (e ∷ es) = behind _ _ (cell_only kind e) (λ i. behind _ _ (cells_only kind es) (λ is. typed _))
 
-  pub listed_only : (kind : ScalarType) (n : ℕ) (es : List Entry) → Mismatches at (listed kind n at es)
+  pub listed_only : (kind : ScalarType) (n : ℕ) (es : List Entry) → Mismatches at (array_list kind n at es)
   listed_only kind n es = if_not _ _ (cells_only kind es)
 
   -- the start of an object of a block, and of one of file scope
@@ -37,6 +37,6 @@ module _ (at : ℕ) where
   static_list_only type i = mismatch
 
   -- the value of a return
-  pub returned_only : (result : Kind) (x : Operand) → Mismatches at (returned result at x)
+  pub returned_only : (result : Kind) (x : Operand) → Mismatches at (typed_return result at x)
   returned_only None x = mismatch
   returned_only (Some kind) x = given_only at kind x

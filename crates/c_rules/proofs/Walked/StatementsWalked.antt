@@ -12,7 +12,7 @@ use Rattle.c_rules.specs.Kinds.{is_void, class_of}
 use Rattle.c_rules.specs.Operands.{is_integer}
 use Rattle.c_rules.specs.Scopes.{Scope, open_scope}
 use Rattle.c_rules.specs.Typing.{operand, typing, constant_typing, word_at}
-use Rattle.c_rules.specs.Statements.{LocalTree, opened_in, declarations, may_break, may_continue, in_switch, repeats_label, optional, is_void_test, returned, behind_case, behind_default, behind_body, typed_statement, typed_statements, typed_choices, typed_body}
+use Rattle.c_rules.specs.Statements.{LocalTree, opened_in, declarations, may_break, may_continue, in_switch, repeats_label, optional, is_void_test, typed_return, behind_case, behind_default, behind_body, typed_statement, typed_statements, typed_choices, typed_body}
 use Rattle.c_rules.specs.Visits.{visit, rule_of}
 use Rattle.c_rules.specs.ExpressionWalk.{visits, constant_visits}
 use Rattle.c_rules.specs.DeclarationWalk.{declarations_visits}
@@ -45,8 +45,8 @@ module _ (result : Kind) where
     statement_find s c ls (tree.Break at) = one_rule at (not (may_break c)) Misplaced _
     statement_find s c ls (tree.Continue at) = one_rule at (not (may_continue c)) Misplaced _
     statement_find s c ls (tree.Return None at) = one_rule at (not (is_void result)) Mismatch _
-    statement_find s c ls (tree.Return (Some e) at) = of_part at (visits s e) (typing s e) (λ x. rule_of (returned result at (operand e x))) _ (visits_find s e)
-        (λ x. return_node at (returned result at (operand e x)) _ (returned_only at result (operand e x)))
+    statement_find s c ls (tree.Return (Some e) at) = of_part at (visits s e) (typing s e) (λ x. rule_of (typed_return result at (operand e x))) _ (visits_find s e)
+        (λ x. return_node at (typed_return result at (operand e x)) _ (returned_only at result (operand e x)))
     -- choices
     statement_find s c ls (tree.If e a at) = test_before at (λ x. is_void (kind_of x)) (visits s e) (statement_visits result s c ls a)
         (typing s e) (typed_statement result s c ls a) _ (visits_find s e) (statement_find s c ls a)

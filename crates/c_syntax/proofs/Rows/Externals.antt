@@ -4,7 +4,7 @@ use Rattle.c_syntax.specs.declared.token.Token.{Token}
 use Rattle.c_syntax.specs.declared.token.Punct.TheVariants as mark
 use Rattle.c_syntax.specs.SyntaxTree.{ParametersTree, Parameters, ItemTree, DeclarationTree, Block, Statements, FunctionSyntax, ExternalTree, Defined, Declared, UnitTree}
 use Rattle.c_syntax.specs.Grammar.{IsMark, place_of, AreStars}
-use Rattle.c_syntax.specs.Derives.{IsName, DerivesParameters, FunctionRule, DerivesItem, DerivesItems, LastItem, MoreItems, DerivesDeclaration, Closing, Closed, DerivesStatement, BlockRule, DerivesFunction, DerivesExternal, DerivesUnit, LastExternal, MoreExternals}
+use Rattle.c_syntax.specs.Derives.{IsNameToken, DerivesParameters, FunctionRule, DerivesItem, DerivesItems, LastItem, MoreItems, DerivesDeclaration, Closing, Closed, DerivesStatement, BlockRule, DerivesFunction, DerivesExternal, DerivesUnit, LastExternal, MoreExternals}
 use Rattle.c_syntax.proofs.Rows.Fronts.{TypeWord, AnyName, StarMark, ParenOpens, BracketOpens, BraceOpens, SemicolonMark, kind_sort, first, Agree, agree, cut_both, same_head, same_tail}
 use Rattle.c_syntax.proofs.Rows.SpecsAndStars.{specs_first, stars_one}
 use Rattle.c_syntax.proofs.Rows.Given.{OneExpression, differs, mark_first}
@@ -28,10 +28,10 @@ external_first a r (Defined x) g = function_first a r x g
 external_first a r (Declared x) g = declaration_first a r x g
 
 -- behind the words of a type stand stars or a name
-pub name_other : (b more : List Token) (n : Token) (stars : ℕ) (name : List ℕ) → AreStars b stars → IsName name n → first (b ++ (n ∷ more)) ≢ TypeWord
+pub name_other : (b more : List Token) (n : Token) (stars : ℕ) (name : List ℕ) → AreStars b stars → IsNameToken name n → first (b ++ (n ∷ more)) ≢ TypeWord
 name_other b more n stars name g h = stars_other b (n ∷ more) stars TypeWord g (λ e. cc) (λ e. let both : AnyName ≡ TypeWord = sym (name_first n more name h) ∙ e in cc)
 
-name_no_star : (more : List Token) (n : Token) (name : List ℕ) → IsName name n → first (n ∷ more) ≢ StarMark
+name_no_star : (more : List Token) (n : Token) (name : List ℕ) → IsNameToken name n → first (n ∷ more) ≢ StarMark
 name_no_star more n name h e = let both : AnyName ≡ StarMark = sym (name_first n more name h) ∙ e in cc
 
 same_function : (x y : FunctionSyntax) → x.specs ≡ y.specs → x.stars ≡ y.stars → x.name ≡ y.name → x.parameters ≡ y.parameters → x.declarations ≡ y.declarations → x.statements ≡ y.statements → x.body_at ≡ y.body_at → x.at ≡ y.at → x ≡ y
@@ -70,7 +70,7 @@ module _ (known : OneExpression) where
       (same_function x y specs.tree stars.tree (same_name g.n h.n x.name y.name g.name h.name named) (cc (heads.tree)) (cc (body.tree)) (cc (body.tree)) (cc (body.tree)) (g.place ∙ ap place_of front ∙ sym h.place)) e
 
   -- no item has a brace behind its parameters
-  no_item : (b c i r s : List Token) (n t u : Token) (stars : ℕ) (name : List ℕ) (x : ParametersTree) (y : ItemTree) → AreStars b stars → IsName name n → IsMark mark.OpenParen t → DerivesParameters c x → IsMark mark.CloseParen u
+  no_item : (b c i r s : List Token) (n t u : Token) (stars : ℕ) (name : List ℕ) (x : ParametersTree) (y : ItemTree) → AreStars b stars → IsNameToken name n → IsMark mark.OpenParen t → DerivesParameters c x → IsMark mark.CloseParen u
       → first r ≡ BraceOpens → DerivesItem i y → ends_item (first s) ≡ true → b ++ (n ∷ t ∷ (c ++ (u ∷ r))) ≡ i ++ s → ⊥
   no_item b c i r s n t u stars name x y g named opens parameters closes p h q e =
       let is : b ++ (n ∷ t ∷ (c ++ (u ∷ r))) ≡ h.a ++ (h.t ∷ (h.b ++ (h.c ++ s))) = e ∙ simp append_assoc at (ap (λ l. l ++ s) h.cut) in
@@ -82,7 +82,7 @@ module _ (known : OneExpression) where
       form in
       initialiser_other h.c s y.initial BraceOpens h.initial (λ e. cc) (differs ends_item (first s) BraceOpens q refl) (sym (ap first same.rest) ∙ p)
 
-  no_items : (b c i r s : List Token) (n t u : Token) (stars : ℕ) (name : List ℕ) (x : ParametersTree) (ys : List ItemTree) → AreStars b stars → IsName name n → IsMark mark.OpenParen t → DerivesParameters c x → IsMark mark.CloseParen u
+  no_items : (b c i r s : List Token) (n t u : Token) (stars : ℕ) (name : List ℕ) (x : ParametersTree) (ys : List ItemTree) → AreStars b stars → IsNameToken name n → IsMark mark.OpenParen t → DerivesParameters c x → IsMark mark.CloseParen u
       → first r ≡ BraceOpens → DerivesItems i ys → first s ≡ SemicolonMark → b ++ (n ∷ t ∷ (c ++ (u ∷ r))) ≡ i ++ s → ⊥
   no_items b c i r s n t u stars name x _ g named opens parameters closes p (LastItem {tree = y} h) q e = no_item b c i r s n t u stars name x y g named opens parameters closes p h (ap ends_item q) e
   no_items b c _ r s n t u stars name x _ g named opens parameters closes p (MoreItems f k v {tree = y} cut h comma more) q e =

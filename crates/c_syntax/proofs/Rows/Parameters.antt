@@ -7,7 +7,7 @@ use Rattle.c_syntax.specs.declared.token.Punct.TheVariants as mark
 use Rattle.c_syntax.specs.declared.syntax.SpecWord.TheVariants as word
 use Rattle.c_syntax.specs.SyntaxTree.{SpecsTree, ArrayMark, ParameterTree, ParametersTree}
 use Rattle.c_syntax.specs.Grammar.{IsMark, IsKeyword, place_of, LastSpec, AreStars, NoStar, MoreStars}
-use Rattle.c_syntax.specs.Derives.{IsName, DerivesSpecs, DerivesArrayMark, DerivesName, DerivesParameter, DerivesParameterList, LastParameter, MoreParameters, DerivesParameters, VoidRule, ParametersRule}
+use Rattle.c_syntax.specs.Derives.{IsNameToken, DerivesSpecs, DerivesArrayMark, DerivesName, DerivesParameter, DerivesParameterList, LastParameter, MoreParameters, DerivesParameters, VoidRule, ParametersRule}
 use Rattle.c_syntax.proofs.Rows.Fronts.{Sort, TypeWord, AnyName, StarMark, BracketOpens, ParenCloses, CommaMark, kind_sort, first, Agree, agree, cut_both, same_head, same_tail}
 use Rattle.c_syntax.proofs.Rows.SpecsAndStars.{star_first, specs_one, stars_one}
 use Rattle.c_syntax.proofs.Rows.Given.{OneExpression, differs, mark_first}
@@ -28,7 +28,7 @@ pub stars_other : (a r : List Token) (n : ℕ) (k : Sort) → AreStars a n → k
 stars_other _ r _ k NoStar other p = p
 stars_other _ r _ k (MoreStars {t = t} {tokens = a} g more) other p = λ e. other (sym e ∙ star_first t (a ++ r) g)
 
-pub name_first : (t : Token) (more : List Token) (name : List ℕ) → IsName name t → first (t ∷ more) ≡ AnyName
+pub name_first : (t : Token) (more : List Token) (name : List ℕ) → IsNameToken name t → first (t ∷ more) ≡ AnyName
 name_first t more name g = ap kind_sort g
 
 name_other : (a r : List Token) (name : Option (List ℕ)) (k : Sort) → DerivesName a name → k ≢ AnyName → first r ≢ k → first (a ++ r) ≢ k
@@ -39,7 +39,7 @@ array_other : (a r : List Token) (x : ArrayMark) (k : Sort) → DerivesArrayMark
 array_other a r None k g other p = λ e. p (ap first (sym (ap (λ l. l ++ r) g)) ∙ e)
 array_other a r (Some x) k g other p = λ e. other (sym e ∙ array_first a r x g)
 
-pub same_name : (t u : Token) (m n : List ℕ) → IsName m t → IsName n u → t ≡ u → m ≡ n
+pub same_name : (t u : Token) (m n : List ℕ) → IsNameToken m t → IsNameToken n u → t ≡ u → m ≡ n
 same_name t u m n g h e = let both : token.Name m ≡ token.Name n = sym g ∙ ap (λ (x : Token). x.kind) e ∙ h in cc
 
 name_one : (a b r s : List Token) (x y : Option (List ℕ)) → DerivesName a x → DerivesName b y → first r ≢ AnyName → first s ≢ AnyName → a ++ r ≡ b ++ s → Agree a b r s x y

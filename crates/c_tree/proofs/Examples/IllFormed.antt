@@ -14,16 +14,16 @@ use Rattle.c_tree.specs.TypedTree.{Kind, Expr, Node, Exprs, Stmt, Choices, Named
 use Rattle.c_tree.specs.Store.{is_pointer}
 use Rattle.c_tree.specs.Kinds.{IsInteger, IsPointer}
 use Rattle.c_tree.specs.WellFormed.{Shape, Names, IsWellTyped, IsWellFormed, Takes, Updates, Calculates, Shifts, Compares, Moves, Moves_right, Subtracts, Updates_word, Updates_pointer, is_comparison, moves, opened}
-use Rattle.c_tree.specs.WellFormedProgram.{IsProgram, IsObject, IsMain, object_in, names_of}
+use Rattle.c_tree.specs.WellFormedProgram.{IsProgram, IsObject, IsMain, object_in, names_within}
 use Rattle.c_tree.proofs.Examples.Types.{int, int_pointer, int_at, pointer_at, void_at, words, object, function, program}
 use Rattle.c_tree.proofs.Examples.WellFormed.{parts, doubles_main, doubles}
 
 -- a statement and an expression there
 abbrev IsStatement : Stmt → Type 0
-IsStatement s = IsWellFormed (object_in doubles doubles_main) (Some int) (names_of doubles doubles_main) around.Body s
+IsStatement s = IsWellFormed (object_in doubles doubles_main) (Some int) (names_within doubles doubles_main) around.Body s
 
 abbrev within : Names
-within = opened (object_in doubles doubles_main) ((Local 0) ∷ (Scalar 0) ∷ []) (names_of doubles doubles_main)
+within = opened (object_in doubles doubles_main) ((Local 0) ∷ (Scalar 0) ∷ []) (names_within doubles doubles_main)
 
 abbrev IsExpression : Expr → Type 0
 IsExpression e = IsWellTyped within e

@@ -14,18 +14,18 @@ use Rattle.c_tree.specs.declared.program.Initial.TheVariants as initial
 use Rattle.c_syntax.specs.declared.operator.BinaryOp.TheVariants as op
 use Rattle.c_tree.specs.Temporaries.{statement_temporaries}
 use Rattle.c_tree.specs.TypedTree.{Named, Const, Read, AddressOf, Load, Binary, Assign, Call, Out, none, more, Block, Fill, Do_expr, Return, done, both, ObjectTree, FunctionTree, ProgramTree}
-use Rattle.c_tree.specs.Kinds.{IsType, IsKind}
+use Rattle.c_tree.specs.Kinds.{IsScalarType, IsKind}
 use Rattle.c_tree.specs.Rounds.{CallsAmong, IsWay, HasNoRound}
 use Rattle.c_tree.specs.Uses.{statement_uses, case_counts}
 use Rattle.c_tree.specs.WellFormed.{Shape, Names, IsInitial, IsWellFormed, IsNew, AreNew, IsFilled, opened, Calculates, Shifts, Compares, Moves, Moves_right, Subtracts, Updates_word, Updates_pointer}
-use Rattle.c_tree.specs.WellFormedProgram.{IsProgram, IsFunction, IsObject, IsParameter, IsLimited, calls_of, static_in, object_in, names_of}
+use Rattle.c_tree.specs.WellFormedProgram.{IsProgram, IsFunction, IsObject, IsParameter, IsLimited, program_calls, static_in, object_in, names_within}
 use Rattle.c_tree.proofs.Examples.Types.{int, int_pointer, int_at, pointer_at, void_at, words, object, function, main_with, program}
 use Rattle.c_tree.proofs.Examples.Pointers.{sum}
 use Rattle.c_tree.proofs.Examples.Statements.{falls}
 
 -- a body in its function
 abbrev pub HasGoodBody : ProgramTree → FunctionTree → Type 0
-HasGoodBody p f = IsWellFormed (object_in p f) f.result (opened (object_in p f) f.params (names_of p f)) around.Body f.body
+HasGoodBody p f = IsWellFormed (object_in p f) f.result (opened (object_in p f) f.params (names_within p f)) around.Body f.body
 
 -- each differs from each further one
 abbrev pub Differ : {X : Type 0} → List X → Type 0
@@ -41,16 +41,16 @@ pub new_by : (objects : VarRef → Option Shape) (names : Names) (declared : Lis
     → AreNew objects names declared
 new_by objects names declared differ each = record { differ = differ_by declared differ; each = All-from_recursion (IsNew objects names) declared each }
 
-pub object_by : (p : ProgramTree) (o : ObjectTree) → IsType o.kind → 1 ≤ o.length → o.length ≤ 32767 → length o.initial ≤ o.length
+pub object_by : (p : ProgramTree) (o : ObjectTree) → IsScalarType o.kind → 1 ≤ o.length → o.length ≤ 32767 → length o.initial ≤ o.length
     → AllByRecursion (IsInitial (static_in p) o.kind) o.initial → IsObject p o
 object_by p o is_type from_one most within starts =
     record { is_type = is_type; from_one = from_one; most = most; within = within; starts = All-from_recursion (IsInitial (static_in p) o.kind) o.initial starts }
 
-pub function_by : (p : ProgramTree) (f : FunctionTree) → IsKind f.result → AllByRecursion IsType f.scalars → AllByRecursion (IsObject p) f.locals
+pub function_by : (p : ProgramTree) (f : FunctionTree) → IsKind f.result → AllByRecursion IsScalarType f.scalars → AllByRecursion (IsObject p) f.locals
     → AllByRecursion (IsParameter f) f.params → Differ f.params → HasGoodBody p f → IsFunction p f
 function_by p f result scalars locals parameters differ body = record {
   result = result;
-  scalars = All-from_recursion IsType f.scalars scalars;
+  scalars = All-from_recursion IsScalarType f.scalars scalars;
   locals = All-from_recursion (IsObject p) f.locals locals;
   parameters = All-from_recursion (IsParameter f) f.params parameters;
   differ = differ_by f.params differ;
@@ -149,7 +149,7 @@ doubles_names = search (name_by, letter, arith)
 doubles_limits : IsLimited doubles.functions
 doubles_limits = limited_by doubles.functions (omega arith) (search parts)
 
-doubles_calls : CallBefore 0 (calls_of doubles.functions)
+doubles_calls : CallBefore 0 (program_calls doubles.functions)
 doubles_calls = search arith
 
 doubles_is : IsProgram doubles
@@ -159,8 +159,8 @@ doubles_is = record {
   names = All-from_recursion IsName (codes "twice" ∷ codes "main" ∷ []) doubles_names;
   differ = differ_by (codes "twice" ∷ codes "main" ∷ []) ((λ same. omega (arith, ap length same), tt), (tt, tt));
   main = (1, doubles_main, omega arith, refl, record { name = refl; result = refl; parameters = refl });
-  bodies = have_bodies (calls_of doubles.functions) doubles_calls;
-  no_cycle = no_round (calls_of doubles.functions) doubles_calls;
+  bodies = have_bodies (program_calls doubles.functions) doubles_calls;
+  no_cycle = no_round (program_calls doubles.functions) doubles_calls;
   limits = doubles_limits;
   objects = omega arith;
 }

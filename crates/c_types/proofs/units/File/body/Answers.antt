@@ -1,5 +1,5 @@
 use Rattle.std.proofs.Common.{◌≡◌, ◌∙◌, ap, sym, refl, length, map, reverse}
-use Rattle.c_syntax.specs.SyntaxView.{function_of, parameter_of, declaration_of, body_of}
+use Rattle.c_syntax.specs.SyntaxView.{function_syntax_of, parameter_of, declaration_of, body_of}
 use Rattle.c_tree.specs.View.{stmt_of}
 use Rattle.c_rules.specs.Scopes.{open_scope}
 use Rattle.c_rules.specs.Statements.{typed_body}
@@ -21,7 +21,7 @@ returns c =
     (c.in_ok-tree.ensures.around ∙ ap around_of c.replace.ensures.value ∙ c.in_ok-declare_parameters.ensures.around ∙ c.in_ok-open.ensures.around) in
     let kept : scope_of c.close.new.self ≡ scope_of old =
     scope_kept c.close.new.self old tables (c.close.ensures.bodies ∙ c.in_ok-tree.ensures.bodies ∙ ap (λ x. (scope_of x).bodies) c.replace.ensures.value ∙ c.in_ok-declare_parameters.ensures.bodies ∙ c.in_ok-open.ensures.bodies) in
-    body_typed (file_of c.args.self.now) (function_of f) c.args.kind c.args.kinds.now
+    body_typed (file_of c.args.self.now) (function_syntax_of f) c.args.kind c.args.kinds.now
     (scope_of c.declare_parameters.new.scopes) (map local_tree_of c.in_ok-locals.locals.items) (record { tree = stmt_of c.in_ok-tree.tree; locals = map local_tree_of c.body.new.self.locals.items })
     (file_of (record { scopes = c.close.new.self; statics = c.args.self.now.statics; functions = c.push.new.self }))
     (c.in_ok-declare_parameters.ensures.declared
