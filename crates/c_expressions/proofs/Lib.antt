@@ -1,4 +1,5 @@
 pub mod Refusals
+pub mod Parts
 pub mod Arguments
 pub mod Firsts
 pub mod Nexts

@@ -5,3 +5,4 @@ pub mod Operators
 pub mod Parses
 pub mod Takes
 pub mod Fronts
+pub mod Parts

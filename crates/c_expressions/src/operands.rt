@@ -340,8 +340,7 @@ impl<'a> Parser<'a> {
         let mut inner = self.expression(None, depth)?;
         while let Some(at) = places.pop() {
             self.cursor.expect(Punct::CloseParen)?;
-            inner.at = at;
-            inner.is_unary = true;
+            inner.enclose(at);
             if !places.is_empty() {
                 inner = self.expression(Some(inner), depth)?;
             }

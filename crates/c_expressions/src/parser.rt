@@ -1,5 +1,5 @@
 //! What the parts of the parser share: where it stands, and how high a tree may be.
-ghost use Rattle.std.specs.Prelude.{◌≡◌, ◌↔◌, ◌+◌, ◌<◌, ◌≤◌, ◌^◌, length, IfOk, IfErr, None};
+ghost use Rattle.std.specs.Prelude.{◌≡◌, ◌↔◌, ◌+◌, ◌<◌, ◌≤◌, ◌^◌, true, length, IfOk, IfErr, None};
 ghost use Rattle.c_syntax.specs.Measures.{greatest_height};
 ghost use Rattle.c_syntax.specs.SyntaxView.{specs_of, type_of};
 ghost use Rattle.c_expressions.specs.Parses.{ReadsSpecs, ReadsStars, ReadsType};
@@ -59,6 +59,14 @@ impl Parsed {
             at,
             is_unary,
         }
+    }
+
+    /// Puts it in parentheses, of which the first stands there.
+    pub(crate) fn enclose(&mut self, at: u32)
+        ensures { self.new ≡ record { tree = self.old.tree; height = self.old.height; at = at; is_unary = true } }
+    {
+        self.at = at;
+        self.is_unary = true;
     }
 }
 

@@ -2,7 +2,7 @@
 ghost use Rattle.std.specs.Prelude.{◌≡◌, ◌+◌, ◌<◌, ◌≤◌, length, IfOk, IfErr, None};
 ghost use Rattle.c_syntax.specs.Grammar.{Derives, ExpressionRow, AssignmentRow, ConditionalRow, AreStars};
 ghost use Rattle.c_syntax.specs.Derives.{DerivesSpecs};
-ghost use Rattle.c_syntax.specs.Measures.{expression_height};
+ghost use Rattle.c_syntax.specs.Measures.{expression_height, greatest_height};
 ghost use Rattle.c_syntax.specs.SyntaxView.{expression_of, specs_of};
 ghost use Rattle.c_expressions.specs.Takes.{Takes};
 ghost use Rattle.c_expressions.specs.Fronts.{NoFront, OnlyTo, ExpressionFront, SpecsFront, StarsFront};
@@ -44,12 +44,12 @@ impl<'a> Parser<'a> {
 
     /// The row `expression`, under so many nodes.
     pub fn whole_expression(&mut self, depth: u32) -> Result<Tall<Expr>, Refusal>
-        requires { depth < 200 }
+        requires { depth < greatest_height }
         ensures tree { IfOk result (λ p. Takes (λ taken. Derives ExpressionRow taken (expression_of p.tree)) self.old.cursor self.new.cursor) }
         ensures only { IfOk result (λ _. OnlyTo (ExpressionFront ExpressionRow depth) self.old.cursor self.new.cursor) }
         ensures refused { IfErr result (Refuses (NoFront (ExpressionFront ExpressionRow depth) self.old.cursor)) }
         ensures height { IfOk result (λ p. p.height ≡ expression_height (expression_of p.tree)) }
-        ensures room { IfOk result (λ p. depth + p.height ≤ 200) }
+        ensures room { IfOk result (λ p. depth + p.height ≤ greatest_height) }
         ensures fewer { IfOk result (λ _. length self.new.cursor < length self.old.cursor) }
     {
         let parsed = self.expression(None, depth)?;
@@ -58,12 +58,12 @@ impl<'a> Parser<'a> {
 
     /// The row `assignment`, under so many nodes.
     pub fn whole_assignment(&mut self, depth: u32) -> Result<Tall<Expr>, Refusal>
-        requires { depth < 200 }
+        requires { depth < greatest_height }
         ensures tree { IfOk result (λ p. Takes (λ taken. Derives AssignmentRow taken (expression_of p.tree)) self.old.cursor self.new.cursor) }
         ensures only { IfOk result (λ _. OnlyTo (ExpressionFront AssignmentRow depth) self.old.cursor self.new.cursor) }
         ensures refused { IfErr result (Refuses (NoFront (ExpressionFront AssignmentRow depth) self.old.cursor)) }
         ensures height { IfOk result (λ p. p.height ≡ expression_height (expression_of p.tree)) }
-        ensures room { IfOk result (λ p. depth + p.height ≤ 200) }
+        ensures room { IfOk result (λ p. depth + p.height ≤ greatest_height) }
         ensures fewer { IfOk result (λ _. length self.new.cursor < length self.old.cursor) }
     {
         let parsed = self.assignment(None, depth)?;
@@ -72,12 +72,12 @@ impl<'a> Parser<'a> {
 
     /// The row `conditional`, under so many nodes.
     pub fn whole_conditional(&mut self, depth: u32) -> Result<Tall<Expr>, Refusal>
-        requires { depth < 200 }
+        requires { depth < greatest_height }
         ensures tree { IfOk result (λ p. Takes (λ taken. Derives ConditionalRow taken (expression_of p.tree)) self.old.cursor self.new.cursor) }
         ensures only { IfOk result (λ _. OnlyTo (ExpressionFront ConditionalRow depth) self.old.cursor self.new.cursor) }
         ensures refused { IfErr result (Refuses (NoFront (ExpressionFront ConditionalRow depth) self.old.cursor)) }
         ensures height { IfOk result (λ p. p.height ≡ expression_height (expression_of p.tree)) }
-        ensures room { IfOk result (λ p. depth + p.height ≤ 200) }
+        ensures room { IfOk result (λ p. depth + p.height ≤ greatest_height) }
         ensures fewer { IfOk result (λ _. length self.new.cursor < length self.old.cursor) }
     {
         let parsed = self.conditional(None, depth)?;

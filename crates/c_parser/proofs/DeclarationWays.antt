@@ -8,7 +8,7 @@ use Rattle.c_syntax.specs.Derives.{DerivesOptional, DerivesInitial, OneRule, Bra
 use Rattle.c_syntax.specs.Derives as rows
 use Rattle.c_syntax.specs.Lookahead.{Ends}
 use Rattle.c_syntax.specs.SyntaxTree.{Expression, ItemTree, ItemForm, InitialTree}
-use Rattle.c_syntax.specs.Measures.{greatest, optional_height, item_form_height, initial_height, item_height}
+use Rattle.c_syntax.specs.Measures.{greatest, optional_height, item_form_height, initial_height, item_height, greatest_height}
 use Rattle.c_syntax.proofs.Rows.Fronts.{TypeWord, AnyName, ParenOpens, BracketOpens, BracketCloses, BraceOpens, CommaMark, SemicolonMark, mark_sort, first}
 use Rattle.c_syntax.proofs.Rows.Given.{expression_first}
 use Rattle.c_syntax.proofs.Rows.Initialisers.{array_first}
@@ -57,19 +57,19 @@ declaration_ways depth b after f =
       };
     }
 
-items_cut : (depth : ℕ) (b taken after : List Token) (xs : List ItemTree) → DerivesItems taken xs → b ≡ taken ++ after → mark_at after ≡ Some mark.Semicolon → depth + greatest (map item_height xs) ≤ 200 → Then (ItemFront depth) (MoreItems depth) b after
+items_cut : (depth : ℕ) (b taken after : List Token) (xs : List ItemTree) → DerivesItems taken xs → b ≡ taken ++ after → mark_at after ≡ Some mark.Semicolon → depth + greatest (map item_height xs) ≤ greatest_height → Then (ItemFront depth) (MoreItems depth) b after
 items_cut depth b taken after _ (LastItem {tree = x} d) cut ends low = record {
   middle = after;
-  first = record { taken = taken; tree = x; cut = cut; derives = d; follows = inr ends; low = first_low item_height x [] depth 200 low };
+  first = record { taken = taken; tree = x; cut = cut; derives = d; follows = inr ends; low = first_low item_height x [] depth greatest_height low };
   second = Ended (refl, ends);
 }
 items_cut depth b taken after _ (rows.MoreItems a c t {tree = x} {trees = xs} cut d comma more) is ends low = record {
   middle = t ∷ (c ++ after);
-  first = record { taken = a; tree = x; cut = is ∙ simp append_assoc at (ap (λ l. l ++ after) cut); derives = d; follows = inl (mark_here t (c ++ after) comma); low = first_low item_height x xs depth 200 low };
+  first = record { taken = a; tree = x; cut = is ∙ simp append_assoc at (ap (λ l. l ++ after) cut); derives = d; follows = inl (mark_here t (c ++ after) comma); low = first_low item_height x xs depth greatest_height low };
   second = GoesOn (record {
     middle = c ++ after;
     first = record { t = t; cut = refl; is = comma };
-    second = record { taken = c; tree = xs; cut = refl; derives = more; follows = ends; low = others_low item_height x xs depth 200 low };
+    second = record { taken = c; tree = xs; cut = refl; derives = more; follows = ends; low = others_low item_height x xs depth greatest_height low };
   });
 }
 
@@ -112,7 +112,7 @@ item_ways depth b after f =
 
 -- ---- what stands behind a name
 
-form_paren : (depth : ℕ) (b taken after : List Token) (x : ItemForm) → DerivesForm taken x → b ≡ taken ++ after → mark_at b ≡ Some mark.OpenParen → EndsForm after → depth + item_form_height x ≤ 200
+form_paren : (depth : ℕ) (b taken after : List Token) (x : ItemForm) → DerivesForm taken x → b ≡ taken ++ after → mark_at b ≡ Some mark.OpenParen → EndsForm after → depth + item_form_height x ≤ greatest_height
     → Then (One (IsMark mark.OpenParen)) (Then (ParametersFront depth) (One (IsMark mark.CloseParen))) b after
 form_paren depth b taken after _ PlainRule cut e ends low = absurd (ends.no_paren (sym (ap mark_at cut) ∙ e))
 form_paren depth b taken after _ (FunctionRule a t u {tree = x} cut m d n) is e ends low = record {
@@ -131,7 +131,7 @@ form_paren depth b taken after _ (ArrayFormRule {length = x} d) cut e ends low =
 pub paren_ways : (depth : ℕ) (b : List Token) → mark_at b ≡ Some mark.OpenParen → (after : List Token) → FormFront depth b after → Then (One (IsMark mark.OpenParen)) (Then (ParametersFront depth) (One (IsMark mark.CloseParen))) b after
 paren_ways depth b e after f = form_paren depth b f.taken after f.tree f.derives f.cut e f.follows f.low
 
-form_bracket : (depth : ℕ) (b taken after : List Token) (x : ItemForm) → DerivesForm taken x → b ≡ taken ++ after → mark_at b ≡ Some mark.OpenBracket → EndsForm after → depth + item_form_height x ≤ 200 → ArrayFront depth b after
+form_bracket : (depth : ℕ) (b taken after : List Token) (x : ItemForm) → DerivesForm taken x → b ≡ taken ++ after → mark_at b ≡ Some mark.OpenBracket → EndsForm after → depth + item_form_height x ≤ greatest_height → ArrayFront depth b after
 form_bracket depth b taken after _ PlainRule cut e ends low = absurd (ends.no_bracket (sym (ap mark_at cut) ∙ e))
 form_bracket depth b taken after _ (FunctionRule a t u {tree = x} cut m d n) is e ends low =
     absurd (other_mark b mark.OpenBracket mark.OpenParen (λ k. cc) e (ap mark_at (is ∙ ap (λ l. l ++ after) cut) ∙ mark_here t ((a ++ u ∷ []) ++ after) m))
@@ -148,7 +148,7 @@ form_plain b taken after _ (ArrayFormRule (ArrayRule a t u cut m d n)) is p q = 
 pub plain_leads : {depth : ℕ} {b : List Token} → mark_at b ≢ Some mark.OpenParen → mark_at b ≢ Some mark.OpenBracket → OnlyTo (FormFront depth) b b
 plain_leads {b = b} p q = record { same = λ after f. form_plain b f.taken after f.tree f.derives f.cut p q }
 
-array_cut : (depth : ℕ) (b taken after : List Token) (x : Option Expression) → DerivesArray taken x → b ≡ taken ++ after → depth + optional_height x ≤ 200 → Then (One (IsMark mark.OpenBracket)) (Then (LengthFront depth) (One (IsMark mark.CloseBracket))) b after
+array_cut : (depth : ℕ) (b taken after : List Token) (x : Option Expression) → DerivesArray taken x → b ≡ taken ++ after → depth + optional_height x ≤ greatest_height → Then (One (IsMark mark.OpenBracket)) (Then (LengthFront depth) (One (IsMark mark.CloseBracket))) b after
 array_cut depth b taken after x (ArrayRule a t u cut m d n) is low = record {
   middle = a ++ (u ∷ after);
   first = record { t = t; cut = is ∙ simp append_assoc at (ap (λ l. l ++ after) cut); is = m };
@@ -169,7 +169,7 @@ no_length b taken after (Some x) d cut e = absurd (expression_first known Condit
 pub no_length_leads : {depth : ℕ} {b : List Token} → mark_at b ≡ Some mark.CloseBracket → OnlyTo (LengthFront depth) b b
 no_length_leads {b = b} e = record { same = λ after f. no_length b f.taken after f.tree f.derives f.cut e }
 
-length_cut : (depth : ℕ) (b taken after : List Token) (x : Option Expression) → DerivesOptional ConditionalRow taken x → b ≡ taken ++ after → mark_at after ≡ Some mark.CloseBracket → depth + optional_height x ≤ 200 → mark_at b ≢ Some mark.CloseBracket
+length_cut : (depth : ℕ) (b taken after : List Token) (x : Option Expression) → DerivesOptional ConditionalRow taken x → b ≡ taken ++ after → mark_at after ≡ Some mark.CloseBracket → depth + optional_height x ≤ greatest_height → mark_at b ≢ Some mark.CloseBracket
     → ExpressionFront ConditionalRow depth b after
 length_cut depth b taken after None d cut ends low n = absurd (n (ap mark_at (cut ∙ ap (λ l. l ++ after) d) ∙ ends))
 length_cut depth b taken after (Some x) d cut ends low n = record { taken = taken; tree = x; cut = cut; derives = d; follows = ends_at_mark ConditionalRow mark.CloseBracket after ends (omega arith); low = low }
@@ -179,7 +179,7 @@ length_ways depth b n after f = length_cut depth b f.taken after f.tree f.derive
 
 -- ---- initialisers
 
-initialiser_cut : (depth : ℕ) (b taken after : List Token) (x : Option InitialTree) → DerivesInitialiser taken x → b ≡ taken ++ after → EndsItem after → depth + initial_height x ≤ 200 → mark_at b ≡ Some mark.Assign → Then (One (IsMark mark.Assign)) (InitialFront depth) b after
+initialiser_cut : (depth : ℕ) (b taken after : List Token) (x : Option InitialTree) → DerivesInitialiser taken x → b ≡ taken ++ after → EndsItem after → depth + initial_height x ≤ greatest_height → mark_at b ≡ Some mark.Assign → Then (One (IsMark mark.Assign)) (InitialFront depth) b after
 initialiser_cut depth b taken after None d cut ends low e = absurd (item_ends_not after mark.Assign (λ k. cc) (λ k. cc) ends (sym (ap mark_at (cut ∙ ap (λ l. l ++ after) d)) ∙ e))
 initialiser_cut depth b taken after (Some x) (t, a, cut, m, d) is ends low e =
     behind_one t m (is ∙ ap (λ l. l ++ after) cut) (record { taken = a; tree = x; cut = refl; derives = d; follows = ends; low = low })
@@ -194,7 +194,7 @@ no_initial b taken after (Some x) (t, a, cut, m, d) is n = absurd (n (ap mark_at
 pub no_initial_leads : {depth : ℕ} {b : List Token} → mark_at b ≢ Some mark.Assign → OnlyTo (InitialiserFront depth) b b
 no_initial_leads {b = b} n = record { same = λ after f. no_initial b f.taken after f.tree f.derives f.cut n }
 
-braced_cut : (depth : ℕ) (b taken after : List Token) (x : InitialTree) → DerivesInitial taken x → b ≡ taken ++ after → depth + initial_height (Some x) ≤ 200 → mark_at b ≡ Some mark.OpenBrace → BracedFront depth b after
+braced_cut : (depth : ℕ) (b taken after : List Token) (x : InitialTree) → DerivesInitial taken x → b ≡ taken ++ after → depth + initial_height (Some x) ≤ greatest_height → mark_at b ≡ Some mark.OpenBrace → BracedFront depth b after
 braced_cut depth b taken after _ (OneRule {tree = x} d) cut low e = absurd (expression_first known AssignmentRow taken after x BraceOpens d refl (sym (ap first cut) ∙ mark_sorted mark.OpenBrace b e))
 braced_cut depth b taken after _ (BracedRule a c t u {trees = xs} cut m d comma n) is low e = record {
   middle = (a ++ c) ++ (u ∷ after);
@@ -209,7 +209,7 @@ braced_cut depth b taken after _ (BracedRule a c t u {trees = xs} cut m d comma 
 pub braced_ways : (depth : ℕ) (b : List Token) → mark_at b ≡ Some mark.OpenBrace → (after : List Token) → InitialFront depth b after → BracedFront depth b after
 braced_ways depth b e after f = braced_cut depth b f.taken after f.tree f.derives f.cut f.low e
 
-value_cut : (depth : ℕ) (b taken after : List Token) (x : InitialTree) → DerivesInitial taken x → b ≡ taken ++ after → EndsItem after → depth + initial_height (Some x) ≤ 200 → mark_at b ≢ Some mark.OpenBrace → ExpressionFront AssignmentRow depth b after
+value_cut : (depth : ℕ) (b taken after : List Token) (x : InitialTree) → DerivesInitial taken x → b ≡ taken ++ after → EndsItem after → depth + initial_height (Some x) ≤ greatest_height → mark_at b ≢ Some mark.OpenBrace → ExpressionFront AssignmentRow depth b after
 value_cut depth b taken after _ (OneRule {tree = x} d) cut ends low n = record { taken = taken; tree = x; cut = cut; derives = d; follows = ends_item_row after ends; low = low }
 value_cut depth b taken after _ (BracedRule a c t u cut m d comma k) is ends low n = absurd (n (ap mark_at (is ∙ ap (λ l. l ++ after) cut) ∙ mark_here t ((a ++ c ++ u ∷ []) ++ after) m))
 

@@ -4,7 +4,7 @@ use Rattle.c_syntax.specs.declared.token.Token.{Token}
 use Rattle.c_syntax.specs.declared.token.Punct.{Punct}
 use Rattle.c_syntax.specs.Grammar.{Row, IsMark}
 use Rattle.c_syntax.specs.Lookahead.{row_rank, next_mark, next_rank, Ends}
-use Rattle.c_syntax.specs.Measures.{greatest}
+use Rattle.c_syntax.specs.Measures.{greatest, greatest_height}
 use Rattle.c_syntax.proofs.Parsing.ExpressionOne.{ends_mark}
 use Rattle.c_syntax.proofs.Rows.Fronts.{Sort, mark_sort, first}
 use Rattle.c_expressions.specs.Front.{kind_mark, mark_at}
@@ -20,7 +20,7 @@ first_low h x xs depth limit low = let e = greatest_first (h x) (map h xs) in om
 pub others_low : {T : Type 0} (h : T → ℕ) (x : T) (xs : List T) (depth limit : ℕ) → depth + greatest (map h (x ∷ xs)) ≤ limit → depth + greatest (map h xs) ≤ limit
 others_low h x xs depth limit low = let e = greatest_first (h x) (map h xs) in omega (arith, low, e)
 
-pub expression_too_high : {row : Row} {depth : ℕ} {b : List Token} → 200 ≤ depth + 0 → NoFront (ExpressionFront row depth) b
+pub expression_too_high : {row : Row} {depth : ℕ} {b : List Token} → greatest_height ≤ depth + 0 → NoFront (ExpressionFront row depth) b
 expression_too_high h = record { never = λ after f. let some = expression_some f.tree in omega (arith, h, f.low, some) }
 
 -- marks at the front

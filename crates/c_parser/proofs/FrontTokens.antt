@@ -15,7 +15,7 @@ use Rattle.c_syntax.specs.Lookahead.{keyword_spec, kind_spec, spec_of}
 use Rattle.c_syntax.proofs.Rows.Fronts.{Sort, TypeWord, ElseWord, BreakWord, ContinueWord, ReturnWord, DoWord, IfWord, WhileWord, ForWord, SwitchWord, BraceOpens, SemicolonMark, keyword_sort, mark_sort, kind_sort, first}
 use Rattle.c_syntax.proofs.Rows.Statements.{Fits}
 use Rattle.c_expressions.specs.Front.{kind_mark, kind_word, mark_at, word_at}
-use Rattle.c_parser.specs.StatementRows.{Ends}
+use Rattle.c_parser.specs.StatementRows.{EndsStatement}
 use Rattle.c_parser.specs.StatementFronts.{begins_statement}
 use Rattle.c_expressions.proofs.TakesLemmas.{kind_marked, kind_worded}
 
@@ -56,11 +56,11 @@ pub no_else_word : (r : List Token) → first r ≢ ElseWord → word_at r ≢ S
 no_else_word r n e = n (word_sorted keyword.Else r e)
 
 -- what may stand behind a statement
-pub fits_ends : (c : Closing) (r : List Token) → Ends c r → Fits c r
+pub fits_ends : (c : Closing) (r : List Token) → EndsStatement c r → Fits c r
 fits_ends Closed r h = tt
 fits_ends Open r h = no_else r h
 
-pub ends_fitting : (c : Closing) (r : List Token) → word_at r ≢ Some keyword.Else → Ends c r
+pub ends_fitting : (c : Closing) (r : List Token) → word_at r ≢ Some keyword.Else → EndsStatement c r
 ends_fitting Closed r n = tt {0}
 ends_fitting Open r n = n
 

@@ -16,3 +16,4 @@ pub mod StatementLists
 pub mod UnitWays
 pub mod UnitTaken
 pub mod Places
+pub mod Joined

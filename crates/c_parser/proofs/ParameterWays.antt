@@ -10,7 +10,7 @@ use Rattle.c_syntax.specs.Grammar.{IsKeyword, AreSpecs, LastSpec, MoreSpecs, Are
 use Rattle.c_syntax.specs.Derives.{IsNameToken, ArrayRule, DerivesName, DerivesArrayMark, DerivesParameterList, LastParameter, DerivesParameters, VoidRule, ParametersRule}
 use Rattle.c_syntax.specs.Derives as rows
 use Rattle.c_syntax.specs.SyntaxTree.{ParameterTree, ParametersTree}
-use Rattle.c_syntax.specs.Measures.{greatest, array_height, parameter_height, parameters_height}
+use Rattle.c_syntax.specs.Measures.{greatest, array_height, parameter_height, parameters_height, greatest_height}
 use Rattle.c_syntax.proofs.Rows.Fronts.{TypeWord, StarMark, AnyName, BracketOpens, CommaMark, ParenCloses, kind_sort, first}
 use Rattle.c_syntax.proofs.Rows.Initialisers.{array_first}
 use Rattle.c_syntax.proofs.Rows.Parameters.{name_first, stars_other}
@@ -23,20 +23,20 @@ use Rattle.c_parser.proofs.FrontMarks.{first_low, others_low, mark_here}
 
 -- ---- lists
 
-parameters_cut : (depth : ℕ) (b taken after : List Token) (xs : List ParameterTree) → DerivesParameterList taken xs → b ≡ taken ++ after → mark_at after ≡ Some mark.CloseParen → depth + greatest (map parameter_height xs) ≤ 200
+parameters_cut : (depth : ℕ) (b taken after : List Token) (xs : List ParameterTree) → DerivesParameterList taken xs → b ≡ taken ++ after → mark_at after ≡ Some mark.CloseParen → depth + greatest (map parameter_height xs) ≤ greatest_height
     → Then (ParameterFront depth) (MoreParameters depth) b after
 parameters_cut depth b taken after _ (LastParameter {tree = x} d) cut ends low = record {
   middle = after;
-  first = record { taken = taken; tree = x; cut = cut; derives = d; follows = inr ends; low = first_low parameter_height x [] depth 200 low };
+  first = record { taken = taken; tree = x; cut = cut; derives = d; follows = inr ends; low = first_low parameter_height x [] depth greatest_height low };
   second = Ended (refl, ends);
 }
 parameters_cut depth b taken after _ (rows.MoreParameters a c t {tree = x} {trees = xs} cut d comma more) is ends low = record {
   middle = t ∷ (c ++ after);
-  first = record { taken = a; tree = x; cut = is ∙ simp append_assoc at (ap (λ l. l ++ after) cut); derives = d; follows = inl (mark_here t (c ++ after) comma); low = first_low parameter_height x xs depth 200 low };
+  first = record { taken = a; tree = x; cut = is ∙ simp append_assoc at (ap (λ l. l ++ after) cut); derives = d; follows = inl (mark_here t (c ++ after) comma); low = first_low parameter_height x xs depth greatest_height low };
   second = GoesOn (record {
     middle = c ++ after;
     first = record { t = t; cut = refl; is = comma };
-    second = record { taken = c; tree = xs; cut = refl; derives = more; follows = ends; low = others_low parameter_height x xs depth 200 low };
+    second = record { taken = c; tree = xs; cut = refl; derives = more; follows = ends; low = others_low parameter_height x xs depth greatest_height low };
   });
 }
 
@@ -80,7 +80,7 @@ no_mark_cut b taken after (Some x) (ArrayRule a t u cut m d k) is n = absurd (n 
 pub no_array_leads : {depth : ℕ} {b : List Token} → mark_at b ≢ Some mark.OpenBracket → OnlyTo (ArrayMarkFront depth) b b
 no_array_leads {b = b} n = record { same = λ after f. no_mark_cut b f.taken after f.tree f.derives f.cut n }
 
-mark_cut : (depth : ℕ) (b taken after : List Token) (x : _) → DerivesArrayMark taken x → b ≡ taken ++ after → mark_at after ≢ Some mark.OpenBracket → depth + array_height x ≤ 200 → mark_at b ≡ Some mark.OpenBracket → ArrayFront depth b after
+mark_cut : (depth : ℕ) (b taken after : List Token) (x : _) → DerivesArrayMark taken x → b ≡ taken ++ after → mark_at after ≢ Some mark.OpenBracket → depth + array_height x ≤ greatest_height → mark_at b ≡ Some mark.OpenBracket → ArrayFront depth b after
 mark_cut depth b taken after None d cut n low e = absurd (n (sym (ap mark_at (cut ∙ ap (λ l. l ++ after) d)) ∙ e))
 mark_cut depth b taken after (Some x) d cut n low e = record { taken = taken; tree = x; cut = cut; derives = d; follows = tt {0}; low = low }
 
@@ -158,7 +158,7 @@ parameter_ways depth b after f =
       };
     }
 
-pub parameter_too_high : {depth : ℕ} {b : List Token} → 200 ≤ depth + 1 → NoFront (ParameterFront depth) b
+pub parameter_too_high : {depth : ℕ} {b : List Token} → greatest_height ≤ depth + 1 → NoFront (ParameterFront depth) b
 parameter_too_high h = record { never = λ after f. omega (arith, h, f.low) }
 
 separator_kind : (kind : TokenKind) → is_separator_kind kind ≡ false → (kind_mark kind ≡ Some mark.Comma) ⊎ (kind_mark kind ≡ Some mark.CloseParen) → ⊥
@@ -263,7 +263,7 @@ alone_is_word [] h = absurd cc
 alone_is_word (v ∷ []) h = absurd cc
 alone_is_word (v ∷ u ∷ more) h = let k = both_true (is_void_kind v.kind) (is_close_kind u.kind) h in ap (λ x. x && is_separator_kind u.kind) k.0 ∙ close_separates u.kind k.1
 
-void_cut : (depth : ℕ) (b taken after : List Token) (x : ParametersTree) → DerivesParameters taken x → b ≡ taken ++ after → mark_at after ≡ Some mark.CloseParen → depth + parameters_height x ≤ 200 → is_void_alone b ≡ true → after ≡ behind b
+void_cut : (depth : ℕ) (b taken after : List Token) (x : ParametersTree) → DerivesParameters taken x → b ≡ taken ++ after → mark_at after ≡ Some mark.CloseParen → depth + parameters_height x ≤ greatest_height → is_void_alone b ≡ true → after ≡ behind b
 void_cut depth b taken after _ (VoidRule k) cut ends low h = sym (ap behind cut)
 void_cut depth b taken after _ (ParametersRule {trees = xs} d) cut ends low h =
     let t = parameters_cut (depth + 1) b taken after xs d cut ends (omega (arith, low)) in
@@ -280,12 +280,12 @@ void_stands : (t : Token) (after : List Token) → IsKeyword keyword.Void t → 
 void_stands t [] h e = absurd cc
 void_stands t (u ∷ more) h e = ap (λ k. is_void_kind k && is_close_kind u.kind) h ∙ close_kind_here u.kind e
 
-listed_cut : (depth : ℕ) (b taken after : List Token) (x : ParametersTree) → DerivesParameters taken x → b ≡ taken ++ after → mark_at after ≡ Some mark.CloseParen → depth + parameters_height x ≤ 200 → is_void_alone b ≡ false → ParameterListFront (depth + 1) b after
+listed_cut : (depth : ℕ) (b taken after : List Token) (x : ParametersTree) → DerivesParameters taken x → b ≡ taken ++ after → mark_at after ≡ Some mark.CloseParen → depth + parameters_height x ≤ greatest_height → is_void_alone b ≡ false → ParameterListFront (depth + 1) b after
 listed_cut depth b taken after _ (VoidRule {t = t} k) cut ends low h = let both : false ≡ true = sym h ∙ ap is_void_alone cut ∙ void_stands t after k ends in absurd cc
 listed_cut depth b taken after _ (ParametersRule {trees = xs} d) cut ends low h = record { taken = taken; tree = xs; cut = cut; derives = d; follows = ends; low = omega (arith, low) }
 
 pub parameters_ways : (depth : ℕ) (b : List Token) → is_void_alone b ≡ false → (after : List Token) → ParametersFront depth b after → ParameterListFront (depth + 1) b after
 parameters_ways depth b h after f = listed_cut depth b f.taken after f.tree f.derives f.cut f.follows f.low h
 
-pub parameters_too_high : {depth : ℕ} {b : List Token} → 200 ≤ depth + 0 → NoFront (ParametersFront depth) b
+pub parameters_too_high : {depth : ℕ} {b : List Token} → greatest_height ≤ depth + 0 → NoFront (ParametersFront depth) b
 parameters_too_high h = record { never = λ after f. omega (arith, h, f.low) }

@@ -7,7 +7,7 @@ use Rattle.c_syntax.specs.Grammar.{ConditionalRow, IsMark}
 use Rattle.c_syntax.specs.Derives.{DerivesItems, LastItem, MoreItems, DerivesDeclarations, NoDeclaration, MoreDeclarations, DerivesStatements, NoStatement, MoreStatements, DerivesChoices, NoChoice, CaseRule, DefaultRule, ChosenRule}
 use Rattle.c_syntax.specs.Lookahead.{spec_of}
 use Rattle.c_syntax.specs.SyntaxTree.{DeclarationTree, ItemTree, Statements, Choices}
-use Rattle.c_syntax.specs.Measures.{greatest, item_height, declaration_height, statements_height, choices_height}
+use Rattle.c_syntax.specs.Measures.{greatest, item_height, declaration_height, statements_height, choices_height, greatest_height}
 use Rattle.c_syntax.proofs.Parsing.ExpressionOne.{ends_mark}
 use Rattle.c_syntax.proofs.Rows.Fronts.{CaseWord, DefaultWord, first}
 use Rattle.c_syntax.proofs.Rows.Given.{mark_first}
@@ -32,10 +32,10 @@ items_some : {a : List Token} {xs : List ItemTree} → DerivesItems a xs → 2 �
 items_some (LastItem {tree = x} g) = omega (arith, greatest_first (item_height x) [])
 items_some (MoreItems a b t {tree = x} {trees = xs} cut g comma more) = omega (arith, greatest_first (item_height x) (map item_height xs))
 
-pub declaration_too_high : {depth : ℕ} {b : List Token} → 200 ≤ depth + 2 → NoFront (DeclarationFront depth) b
+pub declaration_too_high : {depth : ℕ} {b : List Token} → greatest_height ≤ depth + 2 → NoFront (DeclarationFront depth) b
 declaration_too_high h = record { never = λ after f. let some = items_some f.derives.items in omega (arith, h, f.low, some) }
 
-next_declaration : (depth : ℕ) (b after a : List Token) (xs : List DeclarationTree) → spec_of b ≢ None → spec_of after ≡ None → b ≡ a ++ after → DerivesDeclarations a xs → depth + greatest (map declaration_height xs) ≤ 200
+next_declaration : (depth : ℕ) (b after a : List Token) (xs : List DeclarationTree) → spec_of b ≢ None → spec_of after ≡ None → b ≡ a ++ after → DerivesDeclarations a xs → depth + greatest (map declaration_height xs) ≤ greatest_height
     → Then (DeclarationFront depth) (DeclarationsFront depth) b after
 next_declaration depth b after _ _ n ends cut NoDeclaration low = absurd (n (ap spec_of cut ∙ ends))
 next_declaration depth b after _ _ n ends cut (MoreDeclarations c d {tree = x} {trees = xs} is g more) low = record {
@@ -76,7 +76,7 @@ body_ways depth b after f =
       second = record { taken = g.rest; tree = f.tree.statements; cut = refl; derives = h; follows = tt {0}; low = omega (arith, f.low) };
     }
 
-next_statement : (depth : ℕ) (b after a : List Token) (u : Token) (xs : Statements) → mark_at b ≢ Some mark.CloseBrace → b ≡ a ++ (u ∷ after) → IsMark mark.CloseBrace u → DerivesStatements a xs → depth + statements_height xs ≤ 200
+next_statement : (depth : ℕ) (b after a : List Token) (u : Token) (xs : Statements) → mark_at b ≢ Some mark.CloseBrace → b ≡ a ++ (u ∷ after) → IsMark mark.CloseBrace u → DerivesStatements a xs → depth + statements_height xs ≤ greatest_height
     → Then (StatementFront depth) (StatementsFront depth) b after
 next_statement depth b after _ u _ n cut h NoStatement low = absurd (n (brace_stands cut h))
 next_statement depth b after _ u _ n cut h (MoreStatements closing c d {tree = x} {trees = xs} is g more) low = record {
@@ -102,7 +102,7 @@ statements_ways depth b n after f =
 
 -- ---- the choices of a switch
 
-next_part : (depth : ℕ) (b after a : List Token) (u : Token) (xs : Choices) → mark_at b ≢ Some mark.CloseBrace → b ≡ a ++ (u ∷ after) → IsMark mark.CloseBrace u → DerivesChoices a xs → depth + (1 + choices_height xs) ≤ 200
+next_part : (depth : ℕ) (b after a : List Token) (u : Token) (xs : Choices) → mark_at b ≢ Some mark.CloseBrace → b ≡ a ++ (u ∷ after) → IsMark mark.CloseBrace u → DerivesChoices a xs → depth + (1 + choices_height xs) ≤ greatest_height
     → Then (PartFront (depth + 1)) (PartsFront depth) b after
 next_part depth b after _ u _ n cut h NoChoice low = absurd (n (brace_stands cut h))
 next_part depth b after _ u _ n cut h (CaseRule c d k v {value = x} {choices = xs} is word g colon more) low = record {

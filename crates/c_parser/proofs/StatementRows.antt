@@ -15,11 +15,11 @@ use Rattle.c_syntax.specs.Measures.{statement_height, statements_height, choices
 use Rattle.c_syntax.specs.SyntaxView.{body_of, part_before}
 use Rattle.c_expressions.specs.Front.{word_at}
 use Rattle.c_expressions.specs.Takes.{Takes, IsOne, Both}
-use Rattle.c_parser.specs.StatementRows.{Ends, IsStatement, tree_of, parts_of, IsBody, IsDoEnd}
+use Rattle.c_parser.specs.StatementRows.{EndsStatement, IsStatement, tree_of, parts_of, IsBody, IsDoEnd}
 use Rattle.c_expressions.proofs.TakesLemmas.{place_taken, one_before, one_behind, one_place}
 
 -- a statement that stands at the place of its tokens
-pub stated : (c : Closing) (f : ℕ → Statement) {R : List Token → Type 0} {k l : List Token} {at : ℕ} (r : Takes R k l) → length l < length k → at ≡ place_of k → Ends c l
+pub stated : (c : Closing) (f : ℕ → Statement) {R : List Token → Type 0} {k l : List Token} {at : ℕ} (r : Takes R k l) → length l < length k → at ≡ place_of k → EndsStatement c l
     → ((all : List Token) → R all → DerivesStatement c all (f (place_of all))) → Takes (IsStatement (f at) l) k l
 stated c f r h p e d = record {
   taken = r.taken;
@@ -72,7 +72,7 @@ if_row e x m all r =
     (IfRule s.second.closing (r.first.t ∷ s.front) s.rest r.first.t (one_before r ∙ ap (λ l. r.first.t ∷ l) s.cut) r.first.is (tested_behind r.first.t s.first) s.second.derives)
 
 -- before `else` stands a closed statement
-closed_by : (c : Closing) (x : Statement) (m a : List Token) → DerivesStatement c a x → Ends c m → word_at m ≡ Some keyword.Else → DerivesStatement Closed a x
+closed_by : (c : Closing) (x : Statement) (m a : List Token) → DerivesStatement c a x → EndsStatement c m → word_at m ≡ Some keyword.Else → DerivesStatement Closed a x
 closed_by Closed x m a d e w = d
 closed_by Open x m a d e w = absurd (e w)
 

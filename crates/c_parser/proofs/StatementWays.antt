@@ -10,13 +10,13 @@ use Rattle.c_syntax.specs.Grammar.{ExpressionRow, IsMark, IsKeyword}
 use Rattle.c_syntax.specs.Derives.{DerivesOptional, Closing, Closed, Open, IsTested, DerivesStatement}
 use Rattle.c_syntax.specs.Lookahead.{row_rank, next_mark, next_rank}
 use Rattle.c_syntax.specs.SyntaxTree.{Expression, Statement, Empty, Evaluate, Block, Break, Continue, Return, DoWhile, If, IfElse, While, For, Switch}
-use Rattle.c_syntax.specs.Measures.{expression_height, optional_height, statement_height}
+use Rattle.c_syntax.specs.Measures.{expression_height, optional_height, statement_height, greatest_height}
 use Rattle.c_syntax.proofs.Parsing.ExpressionOne.{ends_mark}
 use Rattle.c_syntax.proofs.Rows.Fronts.{Sort, BreakWord, ContinueWord, ReturnWord, DoWord, IfWord, WhileWord, ForWord, SwitchWord, AnyName, StarMark, ParenOpens, BracketOpens, BraceOpens, SemicolonMark, Others, first}
 use Rattle.c_syntax.proofs.Rows.Heads.{Head, EvaluateHead, BlockHead, BreakHead, ContinueHead, ReturnHead, DoHead, IfHead, IfElseHead, WhileHead, ForHead, SwitchHead, head_at}
 use Rattle.c_syntax.proofs.Rows.UnitOne.{known}
 use Rattle.c_expressions.specs.Front.{behind, kind_mark, kind_word, mark_at, word_at}
-use Rattle.c_parser.specs.StatementRows.{Ends}
+use Rattle.c_parser.specs.StatementRows.{EndsStatement}
 use Rattle.c_expressions.specs.Takes.{IsOne, Both}
 use Rattle.c_expressions.specs.Fronts.{Front, ExpressionFront, Then, One, NoFront}
 use Rattle.c_parser.specs.StatementFronts.{TestedFront, StatementFront, OptionalFront, DoTestFront, ForHeadFront, PartsFront, BodyFront, begins_statement}
@@ -53,10 +53,10 @@ statement_some (While x y at) = omega arith
 statement_some (For x y z w at) = omega arith
 statement_some (Switch x y b at) = omega arith
 
-pub statement_too_high : {depth : ℕ} {b : List Token} → 200 ≤ depth → NoFront (StatementFront depth) b
+pub statement_too_high : {depth : ℕ} {b : List Token} → greatest_height ≤ depth → NoFront (StatementFront depth) b
 statement_too_high h = record { never = λ after f. let some = statement_some f.front.tree in omega (arith, h, f.front.low, some) }
 
-pub tested_too_high : {depth : ℕ} {b : List Token} → 200 ≤ depth → NoFront (TestedFront depth) b
+pub tested_too_high : {depth : ℕ} {b : List Token} → greatest_height ≤ depth → NoFront (TestedFront depth) b
 tested_too_high h = record { never = λ after f. let some = expression_some f.tree in omega (arith, h, f.low, some) }
 
 before_while : (b a r : List Token) (u : Token) → b ≡ u ∷ a → IsKeyword keyword.While u → word_at (b ++ r) ≢ Some keyword.Else
@@ -79,7 +79,7 @@ continue_ways depth b e after f =
     let cut : b ≡ v.t ∷ (v.u ∷ after) = f.front.cut ∙ ap (λ l. l ++ after) v.cut in
     behind_one v.t (word_is e cut) cut (record { t = v.u; cut = refl; is = v.ends })
 
-optional_front : {depth : ℕ} {m : Punct} (a rest : List Token) (u : Token) (x : Option Expression) → DerivesOptional ExpressionRow a x → IsMark m u → depth + optional_height x ≤ 200 → OptionalFront m depth (a ++ (u ∷ rest)) rest
+optional_front : {depth : ℕ} {m : Punct} (a rest : List Token) (u : Token) (x : Option Expression) → DerivesOptional ExpressionRow a x → IsMark m u → depth + optional_height x ≤ greatest_height → OptionalFront m depth (a ++ (u ∷ rest)) rest
 optional_front a rest u x g h low = record {
   taken = a ++ u ∷ [];
   tree = x;
@@ -132,7 +132,7 @@ evaluate_ways depth b p q h after f =
 
 -- ---- a keyword and a test
 
-tested_front : {depth : ℕ} (k : Token) (a m : List Token) (x : Expression) (g : IsTested (k ∷ []) a x) → depth + expression_height x ≤ 200 → TestedFront depth ((g.t ∷ g.a ++ g.u ∷ []) ++ m) m
+tested_front : {depth : ℕ} (k : Token) (a m : List Token) (x : Expression) (g : IsTested (k ∷ []) a x) → depth + expression_height x ≤ greatest_height → TestedFront depth ((g.t ∷ g.a ++ g.u ∷ []) ++ m) m
 tested_front k a m x g low = record {
   taken = g.t ∷ g.a ++ g.u ∷ [];
   tree = x;
@@ -143,7 +143,7 @@ tested_front k a m x g low = record {
 }
 
 word_tested : {depth : ℕ} {w : Keyword} {S : List Token → List Token → Type 0} {b after : List Token} (k : Token) (a m : List Token) (x : Expression) → word_at b ≡ Some w → b ≡ a ++ m → IsTested (k ∷ []) a x
-    → depth + expression_height x ≤ 200 → S m after → Then (One (IsKeyword w)) (Then (TestedFront depth) S) b after
+    → depth + expression_height x ≤ greatest_height → S m after → Then (One (IsKeyword w)) (Then (TestedFront depth) S) b after
 word_tested {b = b} k a m x e cut g low s =
     let is : b ≡ k ∷ ((g.t ∷ g.a ++ g.u ∷ []) ++ m) = cut ∙ ap (λ l. l ++ m) g.cut in
     behind_one k (word_is e is) is (record { middle = m; first = tested_front k a m x g low; second = s })
@@ -161,9 +161,9 @@ while_ways depth b e after f =
 abbrev pub IfEnd : ℕ → List Token → List Token → Type 0
 IfEnd depth b after = ((b ≡ after) × (word_at b ≢ Some keyword.Else)) ⊎ Then (One (IsKeyword keyword.Else)) (StatementFront depth) b after
 
-before_else : (depth : ℕ) (closing c : Closing) (b after : List Token) (x : Statement) → c ≡ Open → Ends c after → DerivesStatement closing b x → depth + statement_height x ≤ 200 → Then (StatementFront depth) (IfEnd depth) (b ++ after) after
+before_else : (depth : ℕ) (closing c : Closing) (b after : List Token) (x : Statement) → c ≡ Open → EndsStatement c after → DerivesStatement closing b x → depth + statement_height x ≤ greatest_height → Then (StatementFront depth) (IfEnd depth) (b ++ after) after
 before_else depth closing c b after x is ends g low =
-    let alone : word_at after ≢ Some keyword.Else = subst (λ k. Ends k after) is ends in
+    let alone : word_at after ≢ Some keyword.Else = subst (λ k. EndsStatement k after) is ends in
     record {
       middle = after;
       first = record { closing = closing; front = record { taken = b; tree = x; cut = refl; derives = g; follows = ends_fitting closing after alone; low = low } };
@@ -283,7 +283,7 @@ for_head_ways depth b after f =
 
 -- an expression has to stand where its mark doesn't
 some_optional : (depth : ℕ) (m : Punct) (b after a : List Token) (u : Token) (x : Option Expression) → mark_at b ≢ Some m → (m ≡ mark.Semicolon) ⊎ (m ≡ mark.CloseParen) → DerivesOptional ExpressionRow a x → IsMark m u → b ≡ a ++ (u ∷ after)
-    → depth + optional_height x ≤ 200 → Then (ExpressionFront ExpressionRow depth) (One (IsMark m)) b after
+    → depth + optional_height x ≤ greatest_height → Then (ExpressionFront ExpressionRow depth) (One (IsMark m)) b after
 some_optional depth m b after a u None n is g h cut low = absurd (n (ap mark_at (cut ∙ ap (λ l. l ++ (u ∷ after)) g) ∙ ap kind_mark h))
 some_optional depth m b after a u (Some x) n is g h cut low = record {
   middle = u ∷ after;
@@ -301,7 +301,7 @@ optional_ways m depth b n is after f =
     some_optional depth m b after g.front g.second.t f.tree n is g.first g.second.is (f.cut ∙ ap (λ l. l ++ after) (one_behind g) ∙ append_assoc g.front (g.second.t ∷ []) after) f.low
 
 -- what stands before a closing brace
-pub closed_front : {X : Type 0} {Row : List Token → X → Type 0} {height : X → ℕ} {depth : ℕ} (d after : List Token) (u : Token) (x : X) → Row d x → IsMark mark.CloseBrace u → depth + height x ≤ 200
+pub closed_front : {X : Type 0} {Row : List Token → X → Type 0} {height : X → ℕ} {depth : ℕ} (d after : List Token) (u : Token) (x : X) → Row d x → IsMark mark.CloseBrace u → depth + height x ≤ greatest_height
     → Front (λ taken y. Both (λ a. Row a y) (IsOne (IsMark mark.CloseBrace)) taken) (λ _. Unit {0}) height depth (d ++ (u ∷ after)) after
 closed_front d after u x g h low = record {
   taken = d ++ u ∷ [];

@@ -6,7 +6,7 @@ use Rattle.c_syntax.specs.declared.token.Punct.TheVariants as mark
 use Rattle.c_syntax.specs.SyntaxTree.{ParametersTree, ItemForm, FunctionSyntax, DeclarationTree, Block, Statements, ExternalTree, Defined, Declared, UnitTree}
 use Rattle.c_syntax.specs.Grammar.{IsMark}
 use Rattle.c_syntax.specs.Derives.{DerivesForm, FunctionRule, PlainRule, ArrayFormRule, Closed, DerivesStatement, BlockRule, DerivesFunction, DerivesExternal, DerivesUnit, LastExternal, MoreExternals}
-use Rattle.c_syntax.specs.Measures.{greatest, parameters_height, item_form_height, external_height}
+use Rattle.c_syntax.specs.Measures.{greatest, parameters_height, item_form_height, external_height, greatest_height}
 use Rattle.c_syntax.specs.Source.{IsSource, NoSource}
 use Rattle.c_syntax.proofs.Rows.Fronts.{AnyName, ParenOpens, BracketOpens, first, same_tail}
 use Rattle.c_syntax.proofs.Rows.Given.{mark_first}
@@ -59,7 +59,7 @@ declared_ways b after f =
 block_begins : (r : List Token) {tokens : List Token} {xs : List DeclarationTree} {ys : Statements} {at : ℕ} → DerivesStatement Closed tokens (Block xs ys at) → mark_at (tokens ++ r) ≡ Some mark.OpenBrace
 block_begins r (BlockRule a b t u cut opens g h ends) = ap (λ l. mark_at (l ++ r)) cut ∙ mark_here t ((a ++ b ++ u ∷ []) ++ r) opens
 
-defined_ways : (b taken after : List Token) (x : FunctionSyntax) → DerivesFunction taken x → b ≡ taken ++ after → 1 + external_height (Defined x) ≤ 200 → Then SpecsFront (Then StarsFront (Then (One IsAnyName) RestFront)) b after
+defined_ways : (b taken after : List Token) (x : FunctionSyntax) → DerivesFunction taken x → b ≡ taken ++ after → 1 + external_height (Defined x) ≤ greatest_height → Then SpecsFront (Then StarsFront (Then (One IsAnyName) RestFront)) b after
 defined_ways b taken after x d cut low =
     let body : StatementFront 2 (d.d ++ after) after = record {
       closing = Closed;
@@ -100,7 +100,7 @@ defined_ways b taken after x d cut low =
 pub external_ways : (b after : List Token) → ExternalFront b after → Then SpecsFront (Then StarsFront (Then (One IsAnyName) RestFront)) b after
 external_ways b after f = by_form b f.taken after f.tree f.derives f.cut f.low
   where
-    by_form : (b taken after : List Token) (x : ExternalTree) → DerivesExternal taken x → b ≡ taken ++ after → 1 + external_height x ≤ 200 → Then SpecsFront (Then StarsFront (Then (One IsAnyName) RestFront)) b after
+    by_form : (b taken after : List Token) (x : ExternalTree) → DerivesExternal taken x → b ≡ taken ++ after → 1 + external_height x ≤ greatest_height → Then SpecsFront (Then StarsFront (Then (One IsAnyName) RestFront)) b after
     by_form b taken after (Defined x) d cut low = defined_ways b taken after x d cut low
     by_form b taken after (Declared x) d cut low = declared_ways b after (record { taken = taken; tree = x; cut = cut; derives = d; follows = tt {0}; low = low })
 
@@ -117,7 +117,7 @@ plain_rest b n after (AsDeclaration t) = t
 plain_rest b n after (AsFunction t) = absurd (n (listed_opens t.middle t.first))
 
 -- at a parenthesis the form is a list of parameters
-form_listed : (depth : ℕ) (b taken after : List Token) (x : ItemForm) → DerivesForm taken x → b ≡ taken ++ after → mark_at b ≡ Some mark.OpenParen → EndsForm after → depth + item_form_height x ≤ 200 → ListedFront depth b after
+form_listed : (depth : ℕ) (b taken after : List Token) (x : ItemForm) → DerivesForm taken x → b ≡ taken ++ after → mark_at b ≡ Some mark.OpenParen → EndsForm after → depth + item_form_height x ≤ greatest_height → ListedFront depth b after
 form_listed depth b taken after _ PlainRule cut e ends low = absurd (ends.no_paren (sym (ap mark_at cut) ∙ e))
 form_listed depth b taken after _ (FunctionRule a t u {tree = x} cut m d n) is e ends low = record { taken = taken; tree = x; cut = is; derives = FunctionRule a t u cut m d n; follows = tt {0}; low = low }
 form_listed depth b taken after _ (ArrayFormRule {length = x} d) cut e ends low =
@@ -156,13 +156,13 @@ listed_same : {depth : ℕ} {b m after : List Token} {x : ParametersTree} (r : T
 listed_same {m = m} {after = after} {x = x} r f = listed_one f.taken r.taken after m f.tree x f.derives r.is (sym f.cut ∙ r.cut)
 
 -- behind the parameters
-pub no_ends : {b m : List Token} {x : ParametersTree} → mark_at b ≡ Some mark.OpenParen → Takes (λ all. IsListed all x) b m → (3 + parameters_height x ≤ 200 → NoFront DeclarationEnd m) → NoFront FunctionEnd m → NoFront RestFront b
+pub no_ends : {b m : List Token} {x : ParametersTree} → mark_at b ≡ Some mark.OpenParen → Takes (λ all. IsListed all x) b m → (3 + parameters_height x ≤ greatest_height → NoFront DeclarationEnd m) → NoFront FunctionEnd m → NoFront RestFront b
 no_ends {b = b} {m = m} {x = x} e r p q = record { never = λ after k. go after (listed_rest b e after k) }
   where
     go : (after : List Token) → Listed b after → ⊥
     go after (OfDeclaration t) =
         let same = listed_same r t.first in
-        (p (subst (λ z. 3 + parameters_height z ≤ 200) same.1 t.first.low)).never after (subst (λ l. DeclarationEnd l after) same.0 t.second)
+        (p (subst (λ z. 3 + parameters_height z ≤ greatest_height) same.1 t.first.low)).never after (subst (λ l. DeclarationEnd l after) same.0 t.second)
     go after (OfFunction t) = let same = listed_same r t.first in q.never after (subst (λ l. FunctionEnd l after) same.0 t.second)
 
 -- a brace ends no declaration
@@ -182,7 +182,7 @@ no_function_end {m = m} n = first_fails (record { never = λ after o. n (mark_fo
 pub listed_ways : (depth : ℕ) (b after : List Token) → ListedFront depth b after → Then (One (IsMark mark.OpenParen)) (Then (ParametersFront depth) (One (IsMark mark.CloseParen))) b after
 listed_ways depth b after f = cut_at b f.taken after f.tree f.derives f.cut f.low
   where
-    cut_at : (b taken after : List Token) (x : ParametersTree) → IsListed taken x → b ≡ taken ++ after → depth + parameters_height x ≤ 200 → Then (One (IsMark mark.OpenParen)) (Then (ParametersFront depth) (One (IsMark mark.CloseParen))) b after
+    cut_at : (b taken after : List Token) (x : ParametersTree) → IsListed taken x → b ≡ taken ++ after → depth + parameters_height x ≤ greatest_height → Then (One (IsMark mark.OpenParen)) (Then (ParametersFront depth) (One (IsMark mark.CloseParen))) b after
     cut_at b taken after x (FunctionRule a t u cut m d n) is low = record {
       middle = a ++ (u ∷ after);
       first = record { t = t; cut = is ∙ simp append_assoc at (ap (λ l. l ++ after) cut); is = m };
@@ -198,7 +198,7 @@ listed_ways depth b after f = cut_at b f.taken after f.tree f.derives f.cut f.lo
 pub external_only : {b m : List Token} (x : ExternalTree) → Takes (λ all. DerivesExternal all x) b m → OnlyTo ExternalFront b m
 external_only {m = m} x r = record { same = λ after f. (external_one known f.taken r.taken after m f.tree x f.derives r.is (sym f.cut ∙ r.cut)).rest }
 
-unit_cut : (b after : List Token) (xs : UnitTree) → DerivesUnit b xs → 1 + greatest (map external_height xs) ≤ 200 → Then ExternalFront MoreUnits b []
+unit_cut : (b after : List Token) (xs : UnitTree) → DerivesUnit b xs → 1 + greatest (map external_height xs) ≤ greatest_height → Then ExternalFront MoreUnits b []
 unit_cut b after _ (LastExternal {tree = x} d) low =
     let k = greatest_first (external_height x) [] in
     record { middle = []; first = record { taken = b; tree = x; cut = sym (append-nil b); derives = d; follows = tt {0}; low = omega (arith, low, k) }; second = EndsHere refl }
@@ -225,7 +225,7 @@ nothing_left : (l : List Token) → length l ≡ 0 → l ≡ []
 nothing_left [] e = refl
 nothing_left (t ∷ more) e = absurd (omega (arith, e))
 
-pub units_taken : {tokens now : List Token} {highest : ℕ} (xs : UnitTree) → Takes (λ all. DerivesUnit all xs) tokens now → length now ≡ 0 → highest ≡ greatest (map external_height xs) → 1 + highest ≤ 200 → IsSource tokens xs
+pub units_taken : {tokens now : List Token} {highest : ℕ} (xs : UnitTree) → Takes (λ all. DerivesUnit all xs) tokens now → length now ≡ 0 → highest ≡ greatest (map external_height xs) → 1 + highest ≤ greatest_height → IsSource tokens xs
 units_taken {now = now} xs r none h low = record {
   derives = subst (λ l. DerivesUnit l xs) (sym (r.cut ∙ ap (λ l. r.taken ++ l) (nothing_left now none) ∙ append-nil r.taken)) r.is;
   low = omega (arith, low, h);

@@ -7,7 +7,7 @@ use Rattle.c_syntax.specs.Grammar.{AssignmentRow}
 use Rattle.c_syntax.specs.Derives.{IsLastComma, DerivesList, LastOfList, MoreOfList}
 use Rattle.c_syntax.specs.Lookahead.{Ends}
 use Rattle.c_syntax.specs.SyntaxTree.{Expression}
-use Rattle.c_syntax.specs.Measures.{greatest, expression_height}
+use Rattle.c_syntax.specs.Measures.{greatest, expression_height, greatest_height}
 use Rattle.c_syntax.proofs.Parsing.ExpressionOne.{ends_mark}
 use Rattle.c_syntax.proofs.Rows.Fronts.{BraceCloses, first}
 use Rattle.c_syntax.proofs.Rows.Given.{expression_first}
@@ -26,16 +26,16 @@ last_ends : (last after : List Token) → IsLastComma last → mark_at after ≡
 last_ends last after (inl e) ends = subst (λ l. Ends AssignmentRow (l ++ after)) (sym e) (ends_at_mark AssignmentRow mark.CloseBrace after ends (omega arith))
 last_ends last after (inr (t, e, m)) ends = subst (λ l. Ends AssignmentRow (l ++ after)) (sym e) (ends_mark AssignmentRow t after mark.Comma m (omega arith))
 
-values_cut : (depth : ℕ) (b list last after : List Token) (xs : List Expression) → DerivesList list xs → IsLastComma last → b ≡ list ++ (last ++ after) → mark_at after ≡ Some mark.CloseBrace → depth + greatest (map expression_height xs) ≤ 200
+values_cut : (depth : ℕ) (b list last after : List Token) (xs : List Expression) → DerivesList list xs → IsLastComma last → b ≡ list ++ (last ++ after) → mark_at after ≡ Some mark.CloseBrace → depth + greatest (map expression_height xs) ≤ greatest_height
     → Then (ExpressionFront AssignmentRow depth) (MoreValues depth) b after
 values_cut depth b list last after _ (LastOfList {tree = x} d) comma is ends low = record {
   middle = last ++ after;
-  first = record { taken = list; tree = x; cut = is; derives = d; follows = last_ends last after comma ends; low = first_low expression_height x [] depth 200 low };
+  first = record { taken = list; tree = x; cut = is; derives = d; follows = last_ends last after comma ends; low = first_low expression_height x [] depth greatest_height low };
   second = Ended (record { last = last; cut = refl; comma = comma; ends = ends });
 }
 values_cut depth b list last after _ (MoreOfList a c t {tree = x} {trees = xs} cut d m more) comma is ends low = record {
   middle = t ∷ (c ++ (last ++ after));
-  first = record { taken = a; tree = x; cut = is ∙ simp append_assoc at (ap (λ l. l ++ (last ++ after)) cut); derives = d; follows = ends_mark AssignmentRow t (c ++ (last ++ after)) mark.Comma m (omega arith); low = first_low expression_height x xs depth 200 low };
+  first = record { taken = a; tree = x; cut = is ∙ simp append_assoc at (ap (λ l. l ++ (last ++ after)) cut); derives = d; follows = ends_mark AssignmentRow t (c ++ (last ++ after)) mark.Comma m (omega arith); low = first_low expression_height x xs depth greatest_height low };
   second = GoesOn (record {
     middle = c ++ (last ++ after);
     first = record { t = t; cut = refl; is = m };
@@ -45,7 +45,7 @@ values_cut depth b list last after _ (MoreOfList a c t {tree = x} {trees = xs} c
       cut = sym (append_assoc c last after);
       derives = record { list = c; last = last; cut = refl; derives = more; comma = comma };
       follows = ends;
-      low = others_low expression_height x xs depth 200 low;
+      low = others_low expression_height x xs depth greatest_height low;
     };
   });
 }
@@ -93,7 +93,7 @@ value_some : (xs : List Token) (trees : List Expression) → DerivesList xs tree
 value_some _ _ (LastOfList {tree = x} d) = let e = greatest_first (expression_height x) [] in let k = expression_some x in omega (arith, e, k)
 value_some _ _ (MoreOfList a b t {tree = x} {trees = xs} cut d m more) = let e = greatest_first (expression_height x) (map expression_height xs) in let k = expression_some x in omega (arith, e, k)
 
-pub braced_too_high : (depth : ℕ) {b : List Token} → 200 ≤ depth + 1 → NoFront (BracedFront depth) b
+pub braced_too_high : (depth : ℕ) {b : List Token} → greatest_height ≤ depth + 1 → NoFront (BracedFront depth) b
 braced_too_high depth h = record {
   never = λ after t.
       let f = t.second.first in

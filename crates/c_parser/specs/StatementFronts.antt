@@ -1,23 +1,31 @@
 -- What may stand at the front of the tokens that are left by the rows of statements.
-use Rattle.std.specs.Prelude.{◌≡◌, ◌⊎◌, ◌+◌, ℕ, max, Bool, true, false, List, [], map, Option, Some, None}
+use Rattle.std.specs.Prelude.{◌≡◌, ◌⊎◌, ◌+◌, ℕ, max, Bool, true, false, List, [], map, Option, Some, None, Result}
 use Rattle.c_syntax.specs.declared.token.Token.{Token}
 use Rattle.c_syntax.specs.declared.token.Keyword.{Keyword}
 use Rattle.c_syntax.specs.declared.token.Keyword.TheVariants as keyword
 use Rattle.c_syntax.specs.declared.token.Punct.{Punct}
 use Rattle.c_syntax.specs.declared.token.Punct.TheVariants as mark
+use Rattle.c_syntax.specs.declared.stmt.Stmt.{Stmt}
 use Rattle.c_syntax.specs.SyntaxTree.{Expression, DeclarationTree, Statements}
 use Rattle.c_syntax.specs.Grammar.{ExpressionRow, ConditionalRow, IsMark, IsKeyword}
 use Rattle.c_syntax.specs.Derives.{DerivesOptional, IsTested, IsForHead, DerivesDeclarations, Closing, DerivesStatement, DerivesStatements, DerivesChoices}
 use Rattle.c_syntax.specs.Lookahead.{spec_of}
 use Rattle.c_syntax.specs.Measures.{greatest, expression_height, optional_height, declaration_height, statement_height, statements_height, choices_height}
-use Rattle.c_parser.specs.StatementRows.{Ends, IsBody, IsDoEnd}
+use Rattle.c_parser.specs.StatementRows.{EndsStatement, IsStatement, tree_of, IsBody, IsDoEnd}
+use Rattle.c_expressions.specs.declared.fault.Refusal.{Refusal}
+use Rattle.c_expressions.specs.declared.parser.Tall.{Tall}
 use Rattle.c_expressions.specs.Takes.{IsOne, Both}
 use Rattle.c_expressions.specs.Fronts.{Front, Then, One, ExpressionFront}
+use Rattle.c_expressions.specs.Parts.{ReadsPart}
 
 -- a statement of either row; an `else` behind it belongs to an outer `if`
 pub record StatementFront (depth : ℕ) (before after : List Token) : Type 0 where
   pub closing : Closing
-  pub front : Front (DerivesStatement closing) (Ends closing) statement_height depth before after
+  pub front : Front (DerivesStatement closing) (EndsStatement closing) statement_height depth before after
+
+-- a statement was read, or is refused
+abbrev pub ReadsStatement : ℕ → List Token → List Token → Result (Tall Stmt) Refusal → Type 0
+ReadsStatement depth before after result = ReadsPart (λ s. IsStatement (tree_of s) after) (StatementFront depth) (λ s. statement_height (tree_of s)) depth before after result
 
 -- `(`, an expression and `)`
 abbrev pub TestedFront : ℕ → List Token → List Token → Type 0

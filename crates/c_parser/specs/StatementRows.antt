@@ -17,15 +17,15 @@ abbrev pub tree_of : Stmt → Statement
 tree_of s = statement_of s.kind s.at
 
 -- before `else` stands no statement that may yet take it
-abbrev pub Ends : Closing → List Token → Type 0
-Ends Closed after = Unit {0}
-Ends Open after = word_at after ≢ Some keyword.Else
+abbrev pub EndsStatement : Closing → List Token → Type 0
+EndsStatement Closed after = Unit {0}
+EndsStatement Open after = word_at after ≢ Some keyword.Else
 
 -- tokens are a statement of either row, and an `else` behind them belongs to an outer `if`
 pub record IsStatement (tree : Statement) (after taken : List Token) : Type 0 where
   pub closing : Closing
   pub derives : DerivesStatement closing taken tree
-  pub ends : Ends closing after
+  pub ends : EndsStatement closing after
 
 -- what stands between the braces of a switch
 abbrev pub parts_of : List SwitchPart → Choices

@@ -4,8 +4,13 @@ ghost use Rattle.c_expressions.specs.Front.{behind, mark_at};
 ghost use Rattle.c_syntax.specs.declared.token.Punct.TheVariants as mark;
 ghost use Rattle.c_syntax.specs.SyntaxTree.{Braced};
 ghost use Rattle.c_syntax.specs.Grammar.{ConditionalRow, IsMark, place_of};
+<<<<<<< HEAD
 ghost use Rattle.c_syntax.specs.Derives.{IsNameToken, DerivesSpecs, DerivesOptional, DerivesList, DerivesInitial, DerivesArray, DerivesArrayMark, DerivesName, DerivesParameter, DerivesParameterList, DerivesParameters, DerivesForm, DerivesInitialiser, DerivesItem, DerivesItems, DerivesDeclaration, IsLastComma};
 ghost use Rattle.c_syntax.specs.Measures.{greatest, expression_height, optional_height, array_height, parameter_height, parameters_height, item_form_height, initial_height, item_height, declaration_height};
+=======
+ghost use Rattle.c_syntax.specs.Derives.{IsNameToken, DerivesSpecs, DerivesOptional, DerivesList, DerivesInitial, DerivesArray, DerivesArrayMark, DerivesName, DerivesParameter, DerivesParameterList, DerivesParameters, DerivesForm, DerivesInitialiser, DerivesItem, DerivesItems, DerivesDeclaration, IsLastComma};
+ghost use Rattle.c_syntax.specs.Measures.{greatest, expression_height, optional_height, array_height, parameter_height, parameters_height, item_form_height, initial_height, item_height, declaration_height, greatest_height};
+>>>>>>> 30fd9479f029787ec0c7e19d35ee20a1f2ea458e
 ghost use Rattle.c_syntax.specs.SyntaxView.{specs_of, expression_of, brackets_of, array_of, parameter_of, parameters_of, item_form_of, initial_of, item_of, declaration_of};
 ghost use Rattle.c_expressions.specs.Fronts.{NoFront, OnlyTo, Then, One};
 ghost use Rattle.c_parser.specs.DeclarationFronts.{DeclarationFront, ItemFront, FormFront, ArrayFront, LengthFront, InitialiserFront, BracedFront, ValuesFront, ParametersFront, ParameterListFront, ParameterFront, NameFront, ArrayMarkFront, IsAnyName, MoreItems};
@@ -13,6 +18,7 @@ ghost use Rattle.c_expressions.specs.Refusals.{Refuses};
 ghost use Rattle.c_expressions.specs.Takes.{Takes, IsOne, Both, Behind};
 ghost use Rattle.c_parser.specs.DeclarationRows.{IsItemFront, ListGoesOn};
 
+use crate::parts::{add, both, ended, separated};
 use c_expressions::{Parser, Refusal, Tall};
 use c_syntax::{Brackets, Decl, Expr, Init, Item, ItemKind, Keyword, Param, Params, Punct, Specs};
 use word_base::{Items, Text};
@@ -22,10 +28,10 @@ const LEAF: u32 = 1;
 
 /// The row `declaration`, under so many nodes.
 pub(crate) fn declaration(parser: &mut Parser<'_>, depth: u32) -> Result<Tall<Decl>, Refusal>
-    requires { depth < 198 }
+    requires { depth + 2 < greatest_height }
     ensures tree { IfOk result (λ p. Takes (λ all. DerivesDeclaration all (declaration_of p.tree)) parser.old.cursor parser.new.cursor) }
     ensures height { IfOk result (λ p. p.height ≡ declaration_height (declaration_of p.tree)) }
-    ensures room { IfOk result (λ p. depth + p.height ≤ 200) }
+    ensures room { IfOk result (λ p. depth + p.height ≤ greatest_height) }
     ensures fewer { IfOk result (λ _. length parser.new.cursor < length parser.old.cursor) }
     ensures refused { IfErr result (Refuses (NoFront (DeclarationFront depth) parser.old.cursor)) }
 {
@@ -41,12 +47,12 @@ pub(crate) fn declaration_from(
     first: Tall<Item>,
     depth: u32,
 ) -> Result<Tall<Decl>, Refusal>
-    requires low { depth < 198 }
+    requires low { depth + 2 < greatest_height }
     requires first_height { first.height ≡ item_height (item_of first.tree) }
-    requires first_room { depth + 1 + first.height ≤ 200 }
+    requires first_room { depth + 1 + first.height ≤ greatest_height }
     ensures tree { IfOk result (λ p. Takes (Behind (Both (λ a. DerivesSpecs a (specs_of specs)) (λ a. DerivesItem a (item_of first.tree))) (λ all. DerivesDeclaration all (declaration_of p.tree))) parser.old.cursor parser.new.cursor) }
     ensures height { IfOk result (λ p. p.height ≡ declaration_height (declaration_of p.tree)) }
-    ensures room { IfOk result (λ p. depth + p.height ≤ 200) }
+    ensures room { IfOk result (λ p. depth + p.height ≤ greatest_height) }
     ensures fewer { IfOk result (λ _. length parser.new.cursor < length parser.old.cursor) }
     ensures refused { IfErr result (Refuses (NoFront (Then (MoreItems (depth + 1)) (One (IsMark mark.Semicolon))) parser.old.cursor)) }
 {
@@ -69,24 +75,24 @@ fn items_from(
     first: Tall<Item>,
     depth: u32,
 ) -> Result<Tall<Vec<Item>>, Refusal>
-    requires low { depth < 199 }
+    requires low { depth + 1 < greatest_height }
     requires first_height { first.height ≡ item_height (item_of first.tree) }
-    requires first_room { depth + first.height ≤ 200 }
+    requires first_room { depth + first.height ≤ greatest_height }
     ensures tree { IfOk result (λ p. Takes (Behind (λ a. DerivesItem a (item_of first.tree)) (λ all. DerivesItems all (map item_of p.tree.items))) parser.old.cursor parser.new.cursor) }
     ensures height { IfOk result (λ p. p.height ≡ greatest (map item_height (map item_of p.tree.items))) }
     ensures high { IfOk result (λ p. 1 ≤ p.height) }
-    ensures room { IfOk result (λ p. depth + p.height ≤ 200) }
+    ensures room { IfOk result (λ p. depth + p.height ≤ greatest_height) }
     ensures no_more { IfOk result (λ _. length parser.new.cursor ≤ length parser.old.cursor) }
     ensures only { IfOk result (λ _. OnlyTo (MoreItems depth) parser.old.cursor parser.new.cursor) }
     ensures refused { IfErr result (Refuses (NoFront (MoreItems depth) parser.old.cursor)) }
 {
     let mut highest = first.height;
     let mut items = Vec::new(parser.alloc);
-    items.push(first.tree)?;
+    add(&mut items, first.tree)?;
     while parser.cursor.take(Punct::Comma) {
         let next = item(parser, depth)?;
         highest = highest.max(next.height);
-        items.push(next.tree)?;
+        add(&mut items, next.tree)?;
     }
     Ok(Tall {
         tree: items,
@@ -96,10 +102,10 @@ fn items_from(
 
 // The row `item`.
 fn item(parser: &mut Parser<'_>, depth: u32) -> Result<Tall<Item>, Refusal>
-    requires { depth < 199 }
+    requires { depth + 1 < greatest_height }
     ensures tree { IfOk result (λ p. Takes (λ all. DerivesItem all (item_of p.tree)) parser.old.cursor parser.new.cursor) }
     ensures height { IfOk result (λ p. p.height ≡ item_height (item_of p.tree)) }
-    ensures room { IfOk result (λ p. depth + p.height ≤ 200) }
+    ensures room { IfOk result (λ p. depth + p.height ≤ greatest_height) }
     ensures fewer { IfOk result (λ _. length parser.new.cursor < length parser.old.cursor) }
     ensures only { IfOk result (λ _. OnlyTo (ItemFront depth) parser.old.cursor parser.new.cursor) }
     ensures refused { IfErr result (Refuses (NoFront (ItemFront depth) parser.old.cursor)) }
@@ -132,24 +138,25 @@ pub(crate) fn item_from(
     kind: Tall<ItemKind>,
     depth: u32,
 ) -> Result<Tall<Item>, Refusal>
-    requires low { depth < 199 }
+    requires low { depth + 1 < greatest_height }
     requires kind_height { kind.height ≡ item_form_height (item_form_of kind.tree) }
-    requires kind_room { depth + 1 + kind.height ≤ 200 }
+    requires kind_room { depth + 1 + kind.height ≤ greatest_height }
     ensures tree { IfOk result (λ p. Takes (Behind (IsItemFront stars name (item_form_of kind.tree) at) (λ all. DerivesItem all (item_of p.tree))) parser.old.cursor parser.new.cursor) }
     ensures height { IfOk result (λ p. p.height ≡ item_height (item_of p.tree)) }
-    ensures room { IfOk result (λ p. depth + p.height ≤ 200) }
+    ensures room { IfOk result (λ p. depth + p.height ≤ greatest_height) }
     ensures no_more { IfOk result (λ _. length parser.new.cursor ≤ length parser.old.cursor) }
     ensures only { IfOk result (λ _. OnlyTo (InitialiserFront (depth + 1)) parser.old.cursor parser.new.cursor) }
     ensures refused { IfErr result (Refuses (NoFront (InitialiserFront (depth + 1)) parser.old.cursor)) }
 {
-    let init = initialiser(parser, depth + 1)?;
-    let parts = LEAF.max(kind.height).max(init.height);
+    let init = initialiser(parser, depth + 1);
+    let both = both(kind, init)?;
+    let parts = LEAF.max(both.0.height).max(both.1.height);
     Ok(Tall {
         tree: Item {
             stars,
             name,
-            kind: kind.tree,
-            init: init.tree,
+            kind: both.0.tree,
+            init: both.1.tree,
             at,
         },
         height: parts + 1,
@@ -158,10 +165,10 @@ pub(crate) fn item_from(
 
 /// What stands behind the name of an item, if anything.
 pub(crate) fn item_kind(parser: &mut Parser<'_>, depth: u32) -> Result<Tall<ItemKind>, Refusal>
-    requires { depth ≤ 200 }
+    requires { depth ≤ greatest_height }
     ensures tree { IfOk result (λ p. Takes (λ all. DerivesForm all (item_form_of p.tree)) parser.old.cursor parser.new.cursor) }
     ensures height { IfOk result (λ p. p.height ≡ item_form_height (item_form_of p.tree)) }
-    ensures room { IfOk result (λ p. depth + p.height ≤ 200) }
+    ensures room { IfOk result (λ p. depth + p.height ≤ greatest_height) }
     ensures no_more { IfOk result (λ _. length parser.new.cursor ≤ length parser.old.cursor) }
     ensures only { IfOk result (λ _. OnlyTo (FormFront depth) parser.old.cursor parser.new.cursor) }
     ensures refused { IfErr result (Refuses (NoFront (FormFront depth) parser.old.cursor)) }
@@ -189,26 +196,26 @@ pub(crate) fn item_kind(parser: &mut Parser<'_>, depth: u32) -> Result<Tall<Item
 
 // `[`, a length where there is one, and `]`.
 fn brackets(parser: &mut Parser<'_>, depth: u32) -> Result<Tall<Brackets>, Refusal>
-    requires { depth ≤ 200 }
+    requires { depth ≤ greatest_height }
     ensures tree { IfOk result (λ p. Takes (λ all. DerivesArray all (brackets_of p.tree)) parser.old.cursor parser.new.cursor) }
     ensures height { IfOk result (λ p. p.height ≡ optional_height (brackets_of p.tree)) }
-    ensures room { IfOk result (λ p. depth + p.height ≤ 200) }
+    ensures room { IfOk result (λ p. depth + p.height ≤ greatest_height) }
     ensures fewer { IfOk result (λ _. length parser.new.cursor < length parser.old.cursor) }
     ensures only { IfOk result (λ _. OnlyTo (ArrayFront depth) parser.old.cursor parser.new.cursor) }
     ensures refused { IfErr result (Refuses (NoFront (ArrayFront depth) parser.old.cursor)) }
 {
     parser.cursor.expect(Punct::OpenBracket)?;
     let length = array_length(parser, depth)?;
-    parser.cursor.expect(Punct::CloseBracket)?;
-    Ok(length)
+    let whole = ended(parser, length, Punct::CloseBracket)?;
+    Ok(whole)
 }
 
 // A length before `]`, where there is one.
 fn array_length(parser: &mut Parser<'_>, depth: u32) -> Result<Tall<Brackets>, Refusal>
-    requires { depth ≤ 200 }
+    requires { depth ≤ greatest_height }
     ensures tree { IfOk result (λ p. Takes (λ all. DerivesOptional ConditionalRow all (brackets_of p.tree)) parser.old.cursor parser.new.cursor) }
     ensures height { IfOk result (λ p. p.height ≡ optional_height (brackets_of p.tree)) }
-    ensures room { IfOk result (λ p. depth + p.height ≤ 200) }
+    ensures room { IfOk result (λ p. depth + p.height ≤ greatest_height) }
     ensures no_more { IfOk result (λ _. length parser.new.cursor ≤ length parser.old.cursor) }
     ensures only { IfOk result (λ _. OnlyTo (LengthFront depth) parser.old.cursor parser.new.cursor) }
     ensures refused { IfErr result (Refuses (NoFront (LengthFront depth) parser.old.cursor)) }
@@ -229,10 +236,10 @@ fn array_length(parser: &mut Parser<'_>, depth: u32) -> Result<Tall<Brackets>, R
 
 // `=` and an initialiser, where there are.
 fn initialiser(parser: &mut Parser<'_>, depth: u32) -> Result<Tall<Option<Init>>, Refusal>
-    requires { depth ≤ 200 }
+    requires { depth ≤ greatest_height }
     ensures tree { IfOk result (λ p. Takes (λ all. DerivesInitialiser all (initial_of p.tree)) parser.old.cursor parser.new.cursor) }
     ensures height { IfOk result (λ p. p.height ≡ initial_height (initial_of p.tree)) }
-    ensures room { IfOk result (λ p. depth + p.height ≤ 200) }
+    ensures room { IfOk result (λ p. depth + p.height ≤ greatest_height) }
     ensures no_more { IfOk result (λ _. length parser.new.cursor ≤ length parser.old.cursor) }
     ensures only { IfOk result (λ _. OnlyTo (InitialiserFront depth) parser.old.cursor parser.new.cursor) }
     ensures refused { IfErr result (Refuses (NoFront (InitialiserFront depth) parser.old.cursor)) }
@@ -264,10 +271,10 @@ fn initialiser(parser: &mut Parser<'_>, depth: u32) -> Result<Tall<Option<Init>>
 
 // `{`, values, perhaps a comma, and `}`.
 fn braced(parser: &mut Parser<'_>, depth: u32) -> Result<Tall<Items<Expr>>, Refusal>
-    requires { depth ≤ 200 }
+    requires { depth ≤ greatest_height }
     ensures tree { IfOk result (λ p. Takes (λ all. DerivesInitial all (Braced (map expression_of p.tree) (place_of parser.old.cursor))) parser.old.cursor parser.new.cursor) }
     ensures height { IfOk result (λ p. p.height ≡ 1 + greatest (map expression_height (map expression_of p.tree))) }
-    ensures room { IfOk result (λ p. depth + p.height ≤ 200) }
+    ensures room { IfOk result (λ p. depth + p.height ≤ greatest_height) }
     ensures fewer { IfOk result (λ _. length parser.new.cursor < length parser.old.cursor) }
     ensures only { IfOk result (λ _. OnlyTo (BracedFront depth) parser.old.cursor parser.new.cursor) }
     ensures refused { IfErr result (Refuses (NoFront (BracedFront depth) parser.old.cursor)) }
@@ -284,10 +291,10 @@ fn braced(parser: &mut Parser<'_>, depth: u32) -> Result<Tall<Items<Expr>>, Refu
 
 // Values with commas between them, and perhaps a comma before `}`.
 fn values(parser: &mut Parser<'_>, depth: u32) -> Result<Tall<Vec<Expr>>, Refusal>
-    requires { depth < 200 }
+    requires { depth < greatest_height }
     ensures tree { IfOk result (λ p. Takes (Both (λ all. DerivesList all (map expression_of p.tree.items)) IsLastComma) parser.old.cursor parser.new.cursor) }
     ensures height { IfOk result (λ p. p.height ≡ greatest (map expression_height (map expression_of p.tree.items))) }
-    ensures room { IfOk result (λ p. depth + p.height ≤ 200) }
+    ensures room { IfOk result (λ p. depth + p.height ≤ greatest_height) }
     ensures fewer { IfOk result (λ _. length parser.new.cursor < length parser.old.cursor) }
     ensures only { IfOk result (λ _. OnlyTo (ValuesFront depth) parser.old.cursor parser.new.cursor) }
     ensures refused { IfErr result (Refuses (NoFront (ValuesFront depth) parser.old.cursor)) }
@@ -295,11 +302,11 @@ fn values(parser: &mut Parser<'_>, depth: u32) -> Result<Tall<Vec<Expr>>, Refusa
     let first = parser.whole_assignment(depth)?;
     let mut highest = first.height;
     let mut values: Vec<Expr> = Vec::new(parser.alloc);
-    values.push(first.tree)?;
+    add(&mut values, first.tree)?;
     while list_goes_on(parser) {
         let next = parser.whole_assignment(depth)?;
         highest = highest.max(next.height);
-        values.push(next.tree)?;
+        add(&mut values, next.tree)?;
     }
     Ok(Tall {
         tree: values,
@@ -323,10 +330,10 @@ fn list_goes_on(parser: &mut Parser<'_>) -> bool
 
 /// The row `params`, before `)`.
 pub(crate) fn params(parser: &mut Parser<'_>, depth: u32) -> Result<Tall<Params>, Refusal>
-    requires { depth ≤ 200 }
+    requires { depth ≤ greatest_height }
     ensures tree { IfOk result (λ p. Takes (λ all. DerivesParameters all (parameters_of p.tree)) parser.old.cursor parser.new.cursor) }
     ensures height { IfOk result (λ p. p.height ≡ parameters_height (parameters_of p.tree)) }
-    ensures room { IfOk result (λ p. depth + p.height ≤ 200) }
+    ensures room { IfOk result (λ p. depth + p.height ≤ greatest_height) }
     ensures fewer { IfOk result (λ _. length parser.new.cursor < length parser.old.cursor) }
     ensures only { IfOk result (λ _. OnlyTo (ParametersFront depth) parser.old.cursor parser.new.cursor) }
     ensures refused { IfErr result (Refuses (NoFront (ParametersFront depth) parser.old.cursor)) }
@@ -355,10 +362,10 @@ pub(crate) fn params(parser: &mut Parser<'_>, depth: u32) -> Result<Tall<Params>
 
 // Parameters with commas between them.
 fn param_list(parser: &mut Parser<'_>, depth: u32) -> Result<Tall<Vec<Param>>, Refusal>
-    requires { depth ≤ 201 }
+    requires { depth ≤ greatest_height + 1 }
     ensures tree { IfOk result (λ p. Takes (λ all. DerivesParameterList all (map parameter_of p.tree.items)) parser.old.cursor parser.new.cursor) }
     ensures height { IfOk result (λ p. p.height ≡ greatest (map parameter_height (map parameter_of p.tree.items))) }
-    ensures room { IfOk result (λ p. depth + p.height ≤ 200) }
+    ensures room { IfOk result (λ p. depth + p.height ≤ greatest_height) }
     ensures fewer { IfOk result (λ _. length parser.new.cursor < length parser.old.cursor) }
     ensures only { IfOk result (λ _. OnlyTo (ParameterListFront depth) parser.old.cursor parser.new.cursor) }
     ensures refused { IfErr result (Refuses (NoFront (ParameterListFront depth) parser.old.cursor)) }
@@ -366,11 +373,11 @@ fn param_list(parser: &mut Parser<'_>, depth: u32) -> Result<Tall<Vec<Param>>, R
     let first = param(parser, depth)?;
     let mut highest = first.height;
     let mut list = Vec::new(parser.alloc);
-    list.push(first.tree)?;
+    add(&mut list, first.tree)?;
     while parser.cursor.take(Punct::Comma) {
         let next = param(parser, depth)?;
         highest = highest.max(next.height);
-        list.push(next.tree)?;
+        add(&mut list, next.tree)?;
     }
     Ok(Tall {
         tree: list,
@@ -380,10 +387,10 @@ fn param_list(parser: &mut Parser<'_>, depth: u32) -> Result<Tall<Vec<Param>>, R
 
 // The row `param`, before `,` or `)`.
 fn param(parser: &mut Parser<'_>, depth: u32) -> Result<Tall<Param>, Refusal>
-    requires { depth ≤ 201 }
+    requires { depth ≤ greatest_height + 1 }
     ensures tree { IfOk result (λ p. Takes (λ all. DerivesParameter all (parameter_of p.tree)) parser.old.cursor parser.new.cursor) }
     ensures height { IfOk result (λ p. p.height ≡ parameter_height (parameter_of p.tree)) }
-    ensures room { IfOk result (λ p. depth + p.height ≤ 200) }
+    ensures room { IfOk result (λ p. depth + p.height ≤ greatest_height) }
     ensures fewer { IfOk result (λ _. length parser.new.cursor < length parser.old.cursor) }
     ensures only { IfOk result (λ _. OnlyTo (ParameterFront depth) parser.old.cursor parser.new.cursor) }
     ensures refused { IfErr result (Refuses (NoFront (ParameterFront depth) parser.old.cursor)) }
@@ -397,26 +404,24 @@ fn param(parser: &mut Parser<'_>, depth: u32) -> Result<Tall<Param>, Refusal>
     let stars = parser.whole_stars();
     let name = param_name(parser)?;
     let array = param_array(parser, depth + 1)?;
-    if !parser.cursor.separates() {
-        return Err(parser.cursor.refused());
-    }
+    let last = separated(parser, array)?;
     Ok(Tall {
         tree: Param {
             specs,
             stars,
             name,
-            array: array.tree,
+            array: last.tree,
             at,
         },
-        height: LEAF.max(array.height) + 1,
+        height: LEAF.max(last.height) + 1,
     })
 }
 
 // Whether a parameter may stand under `depth` nodes. Where none may, the word `void` could still stand alone, so what is
 // behind it is refused. The first parameter of a list tells for all.
 fn allow_parameter(parser: &Parser<'_>, depth: u32) -> Result<(), Refusal>
-    ensures low { IfOk result (λ _. depth + 1 < 200) }
-    ensures refused { IfErr result (λ _. 200 ≤ depth + 1) }
+    ensures low { IfOk result (λ _. depth + 1 < greatest_height) }
+    ensures refused { IfErr result (λ _. greatest_height ≤ depth + 1) }
 {
     let allowed = parser.allow(1, depth);
     if allowed.is_err() && parser.cursor.stands_word(Keyword::Void) {
@@ -440,10 +445,10 @@ fn param_name(parser: &mut Parser<'_>) -> Result<Option<Text>, Refusal>
 
 // The brackets of a parameter, where there are.
 fn param_array(parser: &mut Parser<'_>, depth: u32) -> Result<Tall<Option<Brackets>>, Refusal>
-    requires { depth ≤ 200 }
+    requires { depth ≤ greatest_height }
     ensures tree { IfOk result (λ p. Takes (λ all. DerivesArrayMark all (array_of p.tree)) parser.old.cursor parser.new.cursor) }
     ensures height { IfOk result (λ p. p.height ≡ array_height (array_of p.tree)) }
-    ensures room { IfOk result (λ p. depth + p.height ≤ 200) }
+    ensures room { IfOk result (λ p. depth + p.height ≤ greatest_height) }
     ensures no_more { IfOk result (λ _. length parser.new.cursor ≤ length parser.old.cursor) }
     ensures only { IfOk result (λ _. OnlyTo (ArrayMarkFront depth) parser.old.cursor parser.new.cursor) }
     ensures refused { IfErr result (Refuses (NoFront (ArrayMarkFront depth) parser.old.cursor)) }

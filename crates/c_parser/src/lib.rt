@@ -3,6 +3,7 @@
 
 mod declarations;
 mod fault;
+mod parts;
 mod statements;
 mod units;
 

@@ -1,21 +1,22 @@
 //! The rows of statements.
-ghost use Rattle.std.specs.Prelude.{◌≡◌, ◌≢◌, ◌⊎◌, ◌+◌, ◌<◌, ◌≤◌, max, false, [], length, map, Some, IfOk, IfErr};
+ghost use Rattle.std.specs.Prelude.{◌≡◌, ◌≢◌, ◌⊎◌, ◌↔◌, ◌+◌, ◌<◌, ◌≤◌, max, false, [], length, map, Some, IfOk, IfErr, IsTrue, if◌then◌else◌};
 ghost use Rattle.c_syntax.specs.declared.token.Keyword.TheVariants as keyword;
 ghost use Rattle.c_syntax.specs.declared.token.Punct.TheVariants as mark;
 ghost use Rattle.c_syntax.specs.SyntaxTree.{no_choice, chosen, Block, DoWhile, If, IfElse, While, For, Switch};
 ghost use Rattle.c_syntax.specs.Grammar.{ExpressionRow, IsMark};
 ghost use Rattle.c_syntax.specs.Derives.{DerivesOptional, DerivesDeclarations, IsTested, IsForHead, DerivesChoices};
-ghost use Rattle.c_syntax.specs.Measures.{greatest, expression_height, optional_height, declaration_height, statement_height, statements_height, choices_height};
+ghost use Rattle.c_syntax.specs.Measures.{greatest, expression_height, optional_height, declaration_height, statement_height, statements_height, choices_height, greatest_height};
 ghost use Rattle.c_syntax.specs.SyntaxView.{expression_of, optional_of, declaration_of, body_of, part_before};
 ghost use Rattle.c_expressions.specs.declared.fault.Refusal.TheVariants as refusals;
-ghost use Rattle.c_expressions.specs.Front.{mark_at, word_at};
+ghost use Rattle.c_expressions.specs.Front.{behind, mark_at, word_at};
 ghost use Rattle.c_expressions.specs.Fronts.{NoFront, OnlyTo};
-ghost use Rattle.c_parser.specs.StatementFronts.{TestedFront, StatementFront, OptionalFront, DoTestFront, ForHeadFront, CaseFront, DefaultFront, PartFront, PartsFront, DeclarationsFront, BodyFront, holds_others, begins_statement};
+ghost use Rattle.c_parser.specs.StatementFronts.{TestedFront, StatementFront, ReadsStatement, OptionalFront, DoTestFront, ForHeadFront, CaseFront, DefaultFront, PartFront, PartsFront, DeclarationsFront, BodyFront, holds_others, begins_statement};
 ghost use Rattle.c_expressions.specs.Refusals.{Refuses};
 ghost use Rattle.c_expressions.specs.Takes.{Takes, IsOne, Both};
 ghost use Rattle.c_parser.specs.StatementRows.{IsStatement, tree_of, parts_of, IsBody, IsDoEnd};
 
 use crate::declarations::declaration;
+use crate::parts::{add, ended, kept};
 use c_expressions::{Parser, Refusal, Tall};
 use c_syntax::{Decl, Expr, Keyword, Punct, Stmt, StmtKind, SwitchPart};
 use std::alloc::Global;
@@ -31,15 +32,15 @@ pub(crate) struct BlockBody {
 /// What stands between the parentheses of a `for`, with the height of the highest.
 #[derive(Drop)]
 struct ForHead {
-    first: Option<Expr>,
-    test: Option<Expr>,
-    third: Option<Expr>,
+    first: Box<Option<Expr>>,
+    test: Box<Option<Expr>>,
+    third: Box<Option<Expr>>,
     highest: u32,
 }
 
 // A statement of a kind over parts of a height.
 fn over(kind: StmtKind, at: u32, parts: u32) -> Tall<Stmt>
-    requires { parts < 200 }
+    requires { parts < greatest_height }
     ensures { result ≡ record { tree = record { kind = kind; at = at }; height = parts + 1 } }
 {
     Tall {
@@ -51,12 +52,8 @@ fn over(kind: StmtKind, at: u32, parts: u32) -> Tall<Stmt>
 /// The rows `closed` and `open`, under so many nodes. An `else` goes with the innermost `if`.
 #[cycle(statements)]
 pub(crate) fn statement(parser: &mut Parser<'_>, depth: u32) -> Result<Tall<Stmt>, Refusal>
-    requires { depth ≤ 200 }
-    ensures tree { IfOk result (λ p. Takes (IsStatement (tree_of p.tree) parser.new.cursor) parser.old.cursor parser.new.cursor) }
-    ensures refused { IfErr result (Refuses (NoFront (StatementFront depth) parser.old.cursor)) }
-    ensures height { IfOk result (λ p. p.height ≡ statement_height (tree_of p.tree)) }
-    ensures room { IfOk result (λ p. depth + p.height ≤ 200) }
-    ensures fewer { IfOk result (λ _. length parser.new.cursor < length parser.old.cursor) }
+    requires { depth ≤ greatest_height }
+    ensures { ReadsStatement depth parser.old.cursor parser.new.cursor result }
 {
     parser.allow(0, depth)?;
     if parser.cursor.stands(Punct::OpenBrace) {
@@ -75,11 +72,11 @@ pub(crate) fn statement(parser: &mut Parser<'_>, depth: u32) -> Result<Tall<Stmt
 // A statement within another. It is kept in its box while the rest of the other is read.
 #[cycle(statements)]
 fn inner(parser: &mut Parser<'_>, depth: u32) -> Result<Tall<Box<Stmt>>, Refusal>
-    requires { depth ≤ 200 }
+    requires { depth ≤ greatest_height }
     ensures tree { IfOk result (λ p. Takes (IsStatement (tree_of p.tree.value) parser.new.cursor) parser.old.cursor parser.new.cursor) }
     ensures refused { IfErr result (Refuses (NoFront (StatementFront depth) parser.old.cursor)) }
     ensures height { IfOk result (λ p. p.height ≡ statement_height (tree_of p.tree.value)) }
-    ensures room { IfOk result (λ p. depth + p.height ≤ 200) }
+    ensures room { IfOk result (λ p. depth + p.height ≤ greatest_height) }
     ensures fewer { IfOk result (λ _. length parser.new.cursor < length parser.old.cursor) }
 {
     let read = statement(parser, depth)?;
@@ -99,14 +96,10 @@ fn boxed(alloc: Global, statement: Tall<Stmt>) -> Result<Tall<Box<Stmt>>, Refusa
 
 // A statement without other statements in it.
 fn simple(parser: &mut Parser<'_>, depth: u32) -> Result<Tall<Stmt>, Refusal>
-    requires low { depth < 200 }
+    requires low { depth < greatest_height }
     requires no_brace { mark_at parser.old.cursor ≢ Some mark.OpenBrace }
     requires no_other { holds_others (word_at parser.old.cursor) ≡ false }
-    ensures tree { IfOk result (λ p. Takes (IsStatement (tree_of p.tree) parser.new.cursor) parser.old.cursor parser.new.cursor) }
-    ensures refused { IfErr result (Refuses (NoFront (StatementFront depth) parser.old.cursor)) }
-    ensures height { IfOk result (λ p. p.height ≡ statement_height (tree_of p.tree)) }
-    ensures room { IfOk result (λ p. depth + p.height ≤ 200) }
-    ensures fewer { IfOk result (λ _. length parser.new.cursor < length parser.old.cursor) }
+    ensures { ReadsStatement depth parser.old.cursor parser.new.cursor result }
 {
     if parser.cursor.stands(Punct::Semicolon) {
         return empty(parser, depth);
@@ -120,13 +113,9 @@ fn simple(parser: &mut Parser<'_>, depth: u32) -> Result<Tall<Stmt>, Refusal>
 }
 
 fn empty(parser: &mut Parser<'_>, depth: u32) -> Result<Tall<Stmt>, Refusal>
-    requires low { depth < 200 }
+    requires low { depth < greatest_height }
     requires begun { mark_at parser.old.cursor ≡ Some mark.Semicolon }
-    ensures tree { IfOk result (λ p. Takes (IsStatement (tree_of p.tree) parser.new.cursor) parser.old.cursor parser.new.cursor) }
-    ensures refused { IfErr result (Refuses (NoFront (StatementFront depth) parser.old.cursor)) }
-    ensures height { IfOk result (λ p. p.height ≡ statement_height (tree_of p.tree)) }
-    ensures room { IfOk result (λ p. depth + p.height ≤ 200) }
-    ensures fewer { IfOk result (λ _. length parser.new.cursor < length parser.old.cursor) }
+    ensures { ReadsStatement depth parser.old.cursor parser.new.cursor result }
 {
     let at = parser.cursor.place();
     parser.cursor.expect(Punct::Semicolon)?;
@@ -134,13 +123,9 @@ fn empty(parser: &mut Parser<'_>, depth: u32) -> Result<Tall<Stmt>, Refusal>
 }
 
 fn broken(parser: &mut Parser<'_>, depth: u32) -> Result<Tall<Stmt>, Refusal>
-    requires low { depth < 200 }
+    requires low { depth < greatest_height }
     requires begun { word_at parser.old.cursor ≡ Some keyword.Break }
-    ensures tree { IfOk result (λ p. Takes (IsStatement (tree_of p.tree) parser.new.cursor) parser.old.cursor parser.new.cursor) }
-    ensures refused { IfErr result (Refuses (NoFront (StatementFront depth) parser.old.cursor)) }
-    ensures height { IfOk result (λ p. p.height ≡ statement_height (tree_of p.tree)) }
-    ensures room { IfOk result (λ p. depth + p.height ≤ 200) }
-    ensures fewer { IfOk result (λ _. length parser.new.cursor < length parser.old.cursor) }
+    ensures { ReadsStatement depth parser.old.cursor parser.new.cursor result }
 {
     let at = parser.cursor.place();
     parser.cursor.expect_keyword(Keyword::Break)?;
@@ -149,13 +134,9 @@ fn broken(parser: &mut Parser<'_>, depth: u32) -> Result<Tall<Stmt>, Refusal>
 }
 
 fn continued(parser: &mut Parser<'_>, depth: u32) -> Result<Tall<Stmt>, Refusal>
-    requires low { depth < 200 }
+    requires low { depth < greatest_height }
     requires begun { word_at parser.old.cursor ≡ Some keyword.Continue }
-    ensures tree { IfOk result (λ p. Takes (IsStatement (tree_of p.tree) parser.new.cursor) parser.old.cursor parser.new.cursor) }
-    ensures refused { IfErr result (Refuses (NoFront (StatementFront depth) parser.old.cursor)) }
-    ensures height { IfOk result (λ p. p.height ≡ statement_height (tree_of p.tree)) }
-    ensures room { IfOk result (λ p. depth + p.height ≤ 200) }
-    ensures fewer { IfOk result (λ _. length parser.new.cursor < length parser.old.cursor) }
+    ensures { ReadsStatement depth parser.old.cursor parser.new.cursor result }
 {
     let at = parser.cursor.place();
     parser.cursor.expect_keyword(Keyword::Continue)?;
@@ -164,89 +145,91 @@ fn continued(parser: &mut Parser<'_>, depth: u32) -> Result<Tall<Stmt>, Refusal>
 }
 
 fn returned(parser: &mut Parser<'_>, depth: u32) -> Result<Tall<Stmt>, Refusal>
-    requires low { depth < 200 }
+    requires low { depth < greatest_height }
     requires begun { word_at parser.old.cursor ≡ Some keyword.Return }
-    ensures tree { IfOk result (λ p. Takes (IsStatement (tree_of p.tree) parser.new.cursor) parser.old.cursor parser.new.cursor) }
-    ensures refused { IfErr result (Refuses (NoFront (StatementFront depth) parser.old.cursor)) }
-    ensures height { IfOk result (λ p. p.height ≡ statement_height (tree_of p.tree)) }
-    ensures room { IfOk result (λ p. depth + p.height ≤ 200) }
-    ensures fewer { IfOk result (λ _. length parser.new.cursor < length parser.old.cursor) }
+    ensures { ReadsStatement depth parser.old.cursor parser.new.cursor result }
 {
     let at = parser.cursor.place();
     parser.cursor.expect_keyword(Keyword::Return)?;
     let value = optional(parser, Punct::Semicolon, depth + 1)?;
-    Ok(over(StmtKind::Return(value.tree), at, value.height))
+    Ok(over(
+        StmtKind::Return(Box::into_inner(value.tree)),
+        at,
+        value.height,
+    ))
 }
 
 fn evaluated(parser: &mut Parser<'_>, depth: u32) -> Result<Tall<Stmt>, Refusal>
-    requires low { depth < 200 }
+    requires low { depth < greatest_height }
     requires no_semicolon { mark_at parser.old.cursor ≢ Some mark.Semicolon }
     requires no_brace { mark_at parser.old.cursor ≢ Some mark.OpenBrace }
     requires no_word { begins_statement (word_at parser.old.cursor) ≡ false }
-    ensures tree { IfOk result (λ p. Takes (IsStatement (tree_of p.tree) parser.new.cursor) parser.old.cursor parser.new.cursor) }
-    ensures refused { IfErr result (Refuses (NoFront (StatementFront depth) parser.old.cursor)) }
-    ensures height { IfOk result (λ p. p.height ≡ statement_height (tree_of p.tree)) }
-    ensures room { IfOk result (λ p. depth + p.height ≤ 200) }
-    ensures fewer { IfOk result (λ _. length parser.new.cursor < length parser.old.cursor) }
+    ensures { ReadsStatement depth parser.old.cursor parser.new.cursor result }
 {
     let at = parser.cursor.place();
     parser.allow(1, depth)?;
     let value = parser.whole_expression(depth + 1)?;
-    parser.cursor.expect(Punct::Semicolon)?;
-    Ok(over(StmtKind::Evaluate(value.tree), at, value.height))
+    let whole = ended(parser, value, Punct::Semicolon)?;
+    Ok(over(StmtKind::Evaluate(whole.tree), at, whole.height))
 }
 
-// An expression before a mark, where there is one, and the mark.
-fn optional(parser: &mut Parser<'_>, end: Punct, depth: u32) -> Result<Tall<Option<Expr>>, Refusal>
-    requires low { depth ≤ 200 }
+// An expression before a mark, where there is one, and the mark. It is kept in its box while the rest is read.
+fn optional(
+    parser: &mut Parser<'_>,
+    end: Punct,
+    depth: u32,
+) -> Result<Tall<Box<Option<Expr>>>, Refusal>
+    requires low { depth ≤ greatest_height }
     requires ends { (end ≡ mark.Semicolon) ⊎ (end ≡ mark.CloseParen) }
-    ensures tree { IfOk result (λ p. Takes (Both (λ a. DerivesOptional ExpressionRow a (optional_of p.tree)) (IsOne (IsMark end))) parser.old.cursor parser.new.cursor) }
+    ensures tree { IfOk result (λ p. Takes (Both (λ a. DerivesOptional ExpressionRow a (optional_of p.tree.value)) (IsOne (IsMark end))) parser.old.cursor parser.new.cursor) }
     ensures refused { IfErr result (Refuses (NoFront (OptionalFront end depth) parser.old.cursor)) }
-    ensures height { IfOk result (λ p. p.height ≡ optional_height (optional_of p.tree)) }
-    ensures room { IfOk result (λ p. depth + p.height ≤ 200) }
+    ensures height { IfOk result (λ p. p.height ≡ optional_height (optional_of p.tree.value)) }
+    ensures room { IfOk result (λ p. depth + p.height ≤ greatest_height) }
     ensures fewer { IfOk result (λ _. length parser.new.cursor < length parser.old.cursor) }
 {
     if parser.cursor.take(end) {
+        let empty = kept(parser.alloc, None)?;
         return Ok(Tall {
-            tree: None,
+            tree: empty,
             height: 0,
         });
     }
     parser.allow(0, depth)?;
     let value = parser.whole_expression(depth)?;
+    let tree = kept(parser.alloc, Some(value.tree))?;
     parser.cursor.expect(end)?;
     Ok(Tall {
-        tree: Some(value.tree),
+        tree,
         height: value.height,
     })
 }
 
-// `(`, an expression and `)`.
-fn tested(parser: &mut Parser<'_>, depth: u32) -> Result<Tall<Expr>, Refusal>
-    requires { depth ≤ 200 }
-    ensures tree { IfOk result (λ p. Takes (λ all. IsTested [] all (expression_of p.tree)) parser.old.cursor parser.new.cursor) }
+// `(`, an expression and `)`. It is kept in its box while the rest of the statement is read.
+fn tested(parser: &mut Parser<'_>, depth: u32) -> Result<Tall<Box<Expr>>, Refusal>
+    requires { depth ≤ greatest_height }
+    ensures tree { IfOk result (λ p. Takes (λ all. IsTested [] all (expression_of p.tree.value)) parser.old.cursor parser.new.cursor) }
     ensures only { IfOk result (λ _. OnlyTo (TestedFront depth) parser.old.cursor parser.new.cursor) }
     ensures refused { IfErr result (Refuses (NoFront (TestedFront depth) parser.old.cursor)) }
-    ensures height { IfOk result (λ p. p.height ≡ expression_height (expression_of p.tree)) }
-    ensures room { IfOk result (λ p. depth + p.height ≤ 200) }
+    ensures height { IfOk result (λ p. p.height ≡ expression_height (expression_of p.tree.value)) }
+    ensures room { IfOk result (λ p. depth + p.height ≤ greatest_height) }
     ensures fewer { IfOk result (λ _. length parser.new.cursor < length parser.old.cursor) }
 {
     parser.cursor.expect(Punct::OpenParen)?;
     parser.allow(0, depth)?;
     let test = parser.whole_expression(depth)?;
+    let tree = kept(parser.alloc, test.tree)?;
     parser.cursor.expect(Punct::CloseParen)?;
-    Ok(test)
+    Ok(Tall {
+        tree,
+        height: test.height,
+    })
 }
 
 #[cycle(statements)]
 fn do_loop(parser: &mut Parser<'_>, depth: u32) -> Result<Tall<Stmt>, Refusal>
-    requires low { depth < 200 }
+    requires low { depth < greatest_height }
     requires begun { word_at parser.old.cursor ≡ Some keyword.Do }
-    ensures tree { IfOk result (λ p. Takes (IsStatement (tree_of p.tree) parser.new.cursor) parser.old.cursor parser.new.cursor) }
-    ensures refused { IfErr result (Refuses (NoFront (StatementFront depth) parser.old.cursor)) }
-    ensures height { IfOk result (λ p. p.height ≡ statement_height (tree_of p.tree)) }
-    ensures room { IfOk result (λ p. depth + p.height ≤ 200) }
-    ensures fewer { IfOk result (λ _. length parser.new.cursor < length parser.old.cursor) }
+    ensures { ReadsStatement depth parser.old.cursor parser.new.cursor result }
 {
     let at = parser.cursor.place();
     parser.allow(1, depth)?;
@@ -257,12 +240,12 @@ fn do_loop(parser: &mut Parser<'_>, depth: u32) -> Result<Tall<Stmt>, Refusal>
 }
 
 // `while`, a test and `;` behind the body of a `do`.
-fn do_test(parser: &mut Parser<'_>, depth: u32) -> Result<Tall<Expr>, Refusal>
-    requires { depth ≤ 200 }
-    ensures tree { IfOk result (λ p. Takes (IsDoEnd (expression_of p.tree)) parser.old.cursor parser.new.cursor) }
+fn do_test(parser: &mut Parser<'_>, depth: u32) -> Result<Tall<Box<Expr>>, Refusal>
+    requires { depth ≤ greatest_height }
+    ensures tree { IfOk result (λ p. Takes (IsDoEnd (expression_of p.tree.value)) parser.old.cursor parser.new.cursor) }
     ensures refused { IfErr result (Refuses (NoFront (DoTestFront depth) parser.old.cursor)) }
-    ensures height { IfOk result (λ p. p.height ≡ expression_height (expression_of p.tree)) }
-    ensures room { IfOk result (λ p. depth + p.height ≤ 200) }
+    ensures height { IfOk result (λ p. p.height ≡ expression_height (expression_of p.tree.value)) }
+    ensures room { IfOk result (λ p. depth + p.height ≤ greatest_height) }
     ensures fewer { IfOk result (λ _. length parser.new.cursor < length parser.old.cursor) }
 {
     parser.cursor.expect_keyword(Keyword::While)?;
@@ -271,15 +254,15 @@ fn do_test(parser: &mut Parser<'_>, depth: u32) -> Result<Tall<Expr>, Refusal>
     Ok(test)
 }
 
-fn do_over(at: u32, body: Tall<Box<Stmt>>, test: Tall<Expr>) -> Tall<Stmt>
-    requires body_low { body.height < 200 }
-    requires test_low { test.height < 200 }
-    ensures tree { tree_of result.tree ≡ DoWhile (tree_of body.tree.value) (expression_of test.tree) at }
+fn do_over(at: u32, body: Tall<Box<Stmt>>, test: Tall<Box<Expr>>) -> Tall<Stmt>
+    requires body_low { body.height < greatest_height }
+    requires test_low { test.height < greatest_height }
+    ensures tree { tree_of result.tree ≡ DoWhile (tree_of body.tree.value) (expression_of test.tree.value) at }
     ensures height { result.height ≡ 1 + max body.height test.height }
 {
     let kind = StmtKind::Do {
         body: body.tree,
-        test: test.tree,
+        test: Box::into_inner(test.tree),
     };
     over(kind, at, body.height.max(test.height))
 }
@@ -287,49 +270,53 @@ fn do_over(at: u32, body: Tall<Box<Stmt>>, test: Tall<Expr>) -> Tall<Stmt>
 // An `if`, and its `else` where one stands behind it.
 #[cycle(statements)]
 fn choice(parser: &mut Parser<'_>, depth: u32) -> Result<Tall<Stmt>, Refusal>
-    requires low { depth < 200 }
+    requires low { depth < greatest_height }
     requires begun { word_at parser.old.cursor ≡ Some keyword.If }
-    ensures tree { IfOk result (λ p. Takes (IsStatement (tree_of p.tree) parser.new.cursor) parser.old.cursor parser.new.cursor) }
-    ensures refused { IfErr result (Refuses (NoFront (StatementFront depth) parser.old.cursor)) }
-    ensures height { IfOk result (λ p. p.height ≡ statement_height (tree_of p.tree)) }
-    ensures room { IfOk result (λ p. depth + p.height ≤ 200) }
-    ensures fewer { IfOk result (λ _. length parser.new.cursor < length parser.old.cursor) }
+    ensures { ReadsStatement depth parser.old.cursor parser.new.cursor result }
 {
     let at = parser.cursor.place();
     parser.allow(1, depth)?;
     parser.cursor.expect_keyword(Keyword::If)?;
     let test = tested(parser, depth + 1)?;
     let yes = inner(parser, depth + 1)?;
-    if !parser.cursor.take_keyword(Keyword::Else) {
+    if !takes_else(parser) {
         return Ok(if_alone(at, test, yes));
     }
     let no = inner(parser, depth + 1)?;
     Ok(if_else(at, test, yes, no))
 }
 
-fn if_alone(at: u32, test: Tall<Expr>, yes: Tall<Box<Stmt>>) -> Tall<Stmt>
-    requires test_low { test.height < 200 }
-    requires yes_low { yes.height < 200 }
-    ensures tree { tree_of result.tree ≡ If (expression_of test.tree) (tree_of yes.tree.value) at }
+// Takes the `else` that stands behind the statement of an `if`, where one does: it goes with the innermost.
+fn takes_else(parser: &mut Parser<'_>) -> bool
+    ensures taken { IsTrue result ↔ (word_at parser.old.cursor ≡ Some keyword.Else) }
+    ensures left { parser.new.cursor ≡ (if result then behind parser.old.cursor else parser.old.cursor) }
+{
+    parser.cursor.take_keyword(Keyword::Else)
+}
+
+fn if_alone(at: u32, test: Tall<Box<Expr>>, yes: Tall<Box<Stmt>>) -> Tall<Stmt>
+    requires test_low { test.height < greatest_height }
+    requires yes_low { yes.height < greatest_height }
+    ensures tree { tree_of result.tree ≡ If (expression_of test.tree.value) (tree_of yes.tree.value) at }
     ensures height { result.height ≡ 1 + max test.height yes.height }
 {
     let kind = StmtKind::If {
-        test: test.tree,
+        test: Box::into_inner(test.tree),
         yes: yes.tree,
     };
     over(kind, at, test.height.max(yes.height))
 }
 
-fn if_else(at: u32, test: Tall<Expr>, yes: Tall<Box<Stmt>>, no: Tall<Box<Stmt>>) -> Tall<Stmt>
-    requires test_low { test.height < 200 }
-    requires yes_low { yes.height < 200 }
-    requires no_low { no.height < 200 }
-    ensures tree { tree_of result.tree ≡ IfElse (expression_of test.tree) (tree_of yes.tree.value) (tree_of no.tree.value) at }
+fn if_else(at: u32, test: Tall<Box<Expr>>, yes: Tall<Box<Stmt>>, no: Tall<Box<Stmt>>) -> Tall<Stmt>
+    requires test_low { test.height < greatest_height }
+    requires yes_low { yes.height < greatest_height }
+    requires no_low { no.height < greatest_height }
+    ensures tree { tree_of result.tree ≡ IfElse (expression_of test.tree.value) (tree_of yes.tree.value) (tree_of no.tree.value) at }
     ensures height { result.height ≡ 1 + max test.height (max yes.height no.height) }
 {
     let parts = test.height.max(yes.height.max(no.height));
     let kind = StmtKind::IfElse {
-        test: test.tree,
+        test: Box::into_inner(test.tree),
         yes: yes.tree,
         no: no.tree,
     };
@@ -338,13 +325,9 @@ fn if_else(at: u32, test: Tall<Expr>, yes: Tall<Box<Stmt>>, no: Tall<Box<Stmt>>)
 
 #[cycle(statements)]
 fn while_loop(parser: &mut Parser<'_>, depth: u32) -> Result<Tall<Stmt>, Refusal>
-    requires low { depth < 200 }
+    requires low { depth < greatest_height }
     requires begun { word_at parser.old.cursor ≡ Some keyword.While }
-    ensures tree { IfOk result (λ p. Takes (IsStatement (tree_of p.tree) parser.new.cursor) parser.old.cursor parser.new.cursor) }
-    ensures refused { IfErr result (Refuses (NoFront (StatementFront depth) parser.old.cursor)) }
-    ensures height { IfOk result (λ p. p.height ≡ statement_height (tree_of p.tree)) }
-    ensures room { IfOk result (λ p. depth + p.height ≤ 200) }
-    ensures fewer { IfOk result (λ _. length parser.new.cursor < length parser.old.cursor) }
+    ensures { ReadsStatement depth parser.old.cursor parser.new.cursor result }
 {
     let at = parser.cursor.place();
     parser.allow(1, depth)?;
@@ -354,14 +337,14 @@ fn while_loop(parser: &mut Parser<'_>, depth: u32) -> Result<Tall<Stmt>, Refusal
     Ok(while_over(at, test, body))
 }
 
-fn while_over(at: u32, test: Tall<Expr>, body: Tall<Box<Stmt>>) -> Tall<Stmt>
-    requires test_low { test.height < 200 }
-    requires body_low { body.height < 200 }
-    ensures tree { tree_of result.tree ≡ While (expression_of test.tree) (tree_of body.tree.value) at }
+fn while_over(at: u32, test: Tall<Box<Expr>>, body: Tall<Box<Stmt>>) -> Tall<Stmt>
+    requires test_low { test.height < greatest_height }
+    requires body_low { body.height < greatest_height }
+    ensures tree { tree_of result.tree ≡ While (expression_of test.tree.value) (tree_of body.tree.value) at }
     ensures height { result.height ≡ 1 + max test.height body.height }
 {
     let kind = StmtKind::While {
-        test: test.tree,
+        test: Box::into_inner(test.tree),
         body: body.tree,
     };
     over(kind, at, test.height.max(body.height))
@@ -369,13 +352,9 @@ fn while_over(at: u32, test: Tall<Expr>, body: Tall<Box<Stmt>>) -> Tall<Stmt>
 
 #[cycle(statements)]
 fn for_loop(parser: &mut Parser<'_>, depth: u32) -> Result<Tall<Stmt>, Refusal>
-    requires low { depth < 200 }
+    requires low { depth < greatest_height }
     requires begun { word_at parser.old.cursor ≡ Some keyword.For }
-    ensures tree { IfOk result (λ p. Takes (IsStatement (tree_of p.tree) parser.new.cursor) parser.old.cursor parser.new.cursor) }
-    ensures refused { IfErr result (Refuses (NoFront (StatementFront depth) parser.old.cursor)) }
-    ensures height { IfOk result (λ p. p.height ≡ statement_height (tree_of p.tree)) }
-    ensures room { IfOk result (λ p. depth + p.height ≤ 200) }
-    ensures fewer { IfOk result (λ _. length parser.new.cursor < length parser.old.cursor) }
+    ensures { ReadsStatement depth parser.old.cursor parser.new.cursor result }
 {
     let at = parser.cursor.place();
     parser.allow(1, depth)?;
@@ -386,11 +365,11 @@ fn for_loop(parser: &mut Parser<'_>, depth: u32) -> Result<Tall<Stmt>, Refusal>
 
 // `for` and what stands between its parentheses.
 fn for_head(parser: &mut Parser<'_>, depth: u32) -> Result<ForHead, Refusal>
-    requires { depth ≤ 200 }
-    ensures tree { IfOk result (λ h. Takes (λ all. IsForHead all (optional_of h.first) (optional_of h.test) (optional_of h.third)) parser.old.cursor parser.new.cursor) }
+    requires { depth ≤ greatest_height }
+    ensures tree { IfOk result (λ h. Takes (λ all. IsForHead all (optional_of h.first.value) (optional_of h.test.value) (optional_of h.third.value)) parser.old.cursor parser.new.cursor) }
     ensures refused { IfErr result (Refuses (NoFront (ForHeadFront depth) parser.old.cursor)) }
-    ensures height { IfOk result (λ h. h.highest ≡ max (optional_height (optional_of h.first)) (max (optional_height (optional_of h.test)) (optional_height (optional_of h.third)))) }
-    ensures room { IfOk result (λ h. depth + h.highest ≤ 200) }
+    ensures height { IfOk result (λ h. h.highest ≡ max (optional_height (optional_of h.first.value)) (max (optional_height (optional_of h.test.value)) (optional_height (optional_of h.third.value)))) }
+    ensures room { IfOk result (λ h. depth + h.highest ≤ greatest_height) }
     ensures fewer { IfOk result (λ _. length parser.new.cursor < length parser.old.cursor) }
 {
     parser.cursor.expect_keyword(Keyword::For)?;
@@ -407,15 +386,15 @@ fn for_head(parser: &mut Parser<'_>, depth: u32) -> Result<ForHead, Refusal>
 }
 
 fn for_over(at: u32, head: ForHead, body: Tall<Box<Stmt>>) -> Tall<Stmt>
-    requires head_low { head.highest < 200 }
-    requires body_low { body.height < 200 }
-    ensures tree { tree_of result.tree ≡ For (optional_of head.first) (optional_of head.test) (optional_of head.third) (tree_of body.tree.value) at }
+    requires head_low { head.highest < greatest_height }
+    requires body_low { body.height < greatest_height }
+    ensures tree { tree_of result.tree ≡ For (optional_of head.first.value) (optional_of head.test.value) (optional_of head.third.value) (tree_of body.tree.value) at }
     ensures height { result.height ≡ 1 + max head.highest body.height }
 {
     let kind = StmtKind::For {
-        first: head.first,
-        test: head.test,
-        third: head.third,
+        first: Box::into_inner(head.first),
+        test: Box::into_inner(head.test),
+        third: Box::into_inner(head.third),
         body: body.tree,
     };
     over(kind, at, head.highest.max(body.height))
@@ -423,13 +402,9 @@ fn for_over(at: u32, head: ForHead, body: Tall<Box<Stmt>>) -> Tall<Stmt>
 
 #[cycle(statements)]
 fn switch(parser: &mut Parser<'_>, depth: u32) -> Result<Tall<Stmt>, Refusal>
-    requires low { depth < 200 }
+    requires low { depth < greatest_height }
     requires begun { word_at parser.old.cursor ≡ Some keyword.Switch }
-    ensures tree { IfOk result (λ p. Takes (IsStatement (tree_of p.tree) parser.new.cursor) parser.old.cursor parser.new.cursor) }
-    ensures refused { IfErr result (Refuses (NoFront (StatementFront depth) parser.old.cursor)) }
-    ensures height { IfOk result (λ p. p.height ≡ statement_height (tree_of p.tree)) }
-    ensures room { IfOk result (λ p. depth + p.height ≤ 200) }
-    ensures fewer { IfOk result (λ _. length parser.new.cursor < length parser.old.cursor) }
+    ensures { ReadsStatement depth parser.old.cursor parser.new.cursor result }
 {
     let at = parser.cursor.place();
     parser.allow(1, depth)?;
@@ -445,11 +420,11 @@ fn switch(parser: &mut Parser<'_>, depth: u32) -> Result<Tall<Stmt>, Refusal>
 // The row `choices` behind its `{`, and `}`.
 #[cycle(statements)]
 fn switch_parts(parser: &mut Parser<'_>, depth: u32) -> Result<Tall<Vec<SwitchPart>>, Refusal>
-    requires { depth < 200 }
+    requires { depth < greatest_height }
     ensures tree { IfOk result (λ p. Takes (Both (λ a. DerivesChoices a (parts_of p.tree.items)) (IsOne (IsMark mark.CloseBrace))) parser.old.cursor parser.new.cursor) }
     ensures refused { IfErr result (Refuses (NoFront (PartsFront depth) parser.old.cursor)) }
     ensures height { IfOk result (λ p. p.height ≡ 1 + choices_height (parts_of p.tree.items)) }
-    ensures room { IfOk result (λ p. depth + p.height ≤ 200) }
+    ensures room { IfOk result (λ p. depth + p.height ≤ greatest_height) }
     ensures fewer { IfOk result (λ _. length parser.new.cursor < length parser.old.cursor) }
 {
     let mut parts = Vec::new(parser.alloc);
@@ -457,7 +432,7 @@ fn switch_parts(parser: &mut Parser<'_>, depth: u32) -> Result<Tall<Vec<SwitchPa
     while !parser.cursor.take(Punct::CloseBrace) {
         let part = switch_part(parser, depth + 1)?;
         highest = highest.max(part.height);
-        parts.push(part.tree)?;
+        add(&mut parts, part.tree)?;
     }
     Ok(Tall {
         tree: parts,
@@ -468,12 +443,12 @@ fn switch_parts(parser: &mut Parser<'_>, depth: u32) -> Result<Tall<Vec<SwitchPa
 // A label or a statement.
 #[cycle(statements)]
 fn switch_part(parser: &mut Parser<'_>, depth: u32) -> Result<Tall<SwitchPart>, Refusal>
-    requires { depth ≤ 200 }
+    requires { depth ≤ greatest_height }
     ensures tree { IfOk result (λ p. Takes (λ a. DerivesChoices a (part_before p.tree no_choice)) parser.old.cursor parser.new.cursor) }
     ensures only { IfOk result (λ _. OnlyTo (PartFront depth) parser.old.cursor parser.new.cursor) }
     ensures refused { IfErr result (Refuses (NoFront (PartFront depth) parser.old.cursor)) }
     ensures height { IfOk result (λ p. p.height ≡ choices_height (part_before p.tree no_choice)) }
-    ensures room { IfOk result (λ p. depth + p.height ≤ 200) }
+    ensures room { IfOk result (λ p. depth + p.height ≤ greatest_height) }
     ensures fewer { IfOk result (λ _. length parser.new.cursor < length parser.old.cursor) }
 {
     if parser.cursor.stands_word(Keyword::Default) {
@@ -487,12 +462,12 @@ fn switch_part(parser: &mut Parser<'_>, depth: u32) -> Result<Tall<SwitchPart>, 
 }
 
 fn default_label(parser: &mut Parser<'_>, depth: u32) -> Result<Tall<SwitchPart>, Refusal>
-    requires { depth ≤ 200 }
+    requires { depth ≤ greatest_height }
     ensures tree { IfOk result (λ p. Takes (λ a. DerivesChoices a (part_before p.tree no_choice)) parser.old.cursor parser.new.cursor) }
     ensures only { IfOk result (λ _. OnlyTo DefaultFront parser.old.cursor parser.new.cursor) }
     ensures refused { IfErr result (Refuses (NoFront DefaultFront parser.old.cursor)) }
     ensures height { IfOk result (λ p. p.height ≡ choices_height (part_before p.tree no_choice)) }
-    ensures room { IfOk result (λ p. depth + p.height ≤ 200) }
+    ensures room { IfOk result (λ p. depth + p.height ≤ greatest_height) }
     ensures fewer { IfOk result (λ _. length parser.new.cursor < length parser.old.cursor) }
 {
     parser.cursor.expect_keyword(Keyword::Default)?;
@@ -504,34 +479,30 @@ fn default_label(parser: &mut Parser<'_>, depth: u32) -> Result<Tall<SwitchPart>
 }
 
 fn case_label(parser: &mut Parser<'_>, depth: u32) -> Result<Tall<SwitchPart>, Refusal>
-    requires { depth ≤ 200 }
+    requires { depth ≤ greatest_height }
     ensures tree { IfOk result (λ p. Takes (λ a. DerivesChoices a (part_before p.tree no_choice)) parser.old.cursor parser.new.cursor) }
     ensures only { IfOk result (λ _. OnlyTo (CaseFront depth) parser.old.cursor parser.new.cursor) }
     ensures refused { IfErr result (Refuses (NoFront (CaseFront depth) parser.old.cursor)) }
     ensures height { IfOk result (λ p. p.height ≡ choices_height (part_before p.tree no_choice)) }
-    ensures room { IfOk result (λ p. depth + p.height ≤ 200) }
+    ensures room { IfOk result (λ p. depth + p.height ≤ greatest_height) }
     ensures fewer { IfOk result (λ _. length parser.new.cursor < length parser.old.cursor) }
 {
     parser.allow(0, depth)?;
     parser.cursor.expect_keyword(Keyword::Case)?;
     let value = parser.whole_conditional(depth)?;
-    parser.cursor.expect(Punct::Colon)?;
+    let whole = ended(parser, value, Punct::Colon)?;
     Ok(Tall {
-        tree: SwitchPart::Case(value.tree),
-        height: value.height,
+        tree: SwitchPart::Case(whole.tree),
+        height: whole.height,
     })
 }
 
 // A block within another statement.
 #[cycle(statements)]
 fn inner_block(parser: &mut Parser<'_>, depth: u32) -> Result<Tall<Stmt>, Refusal>
-    requires low { depth < 200 }
+    requires low { depth < greatest_height }
     requires begun { mark_at parser.old.cursor ≡ Some mark.OpenBrace }
-    ensures tree { IfOk result (λ p. Takes (IsStatement (tree_of p.tree) parser.new.cursor) parser.old.cursor parser.new.cursor) }
-    ensures refused { IfErr result (Refuses (NoFront (StatementFront depth) parser.old.cursor)) }
-    ensures height { IfOk result (λ p. p.height ≡ statement_height (tree_of p.tree)) }
-    ensures room { IfOk result (λ p. depth + p.height ≤ 200) }
-    ensures fewer { IfOk result (λ _. length parser.new.cursor < length parser.old.cursor) }
+    ensures { ReadsStatement depth parser.old.cursor parser.new.cursor result }
 {
     let at = parser.cursor.place();
     parser.cursor.expect(Punct::OpenBrace)?;
@@ -542,11 +513,11 @@ fn inner_block(parser: &mut Parser<'_>, depth: u32) -> Result<Tall<Stmt>, Refusa
 /// What stands behind the `{` of a block under so many nodes, and `}`.
 #[cycle(statements)]
 pub(crate) fn body(parser: &mut Parser<'_>, depth: u32) -> Result<BlockBody, Refusal>
-    requires { depth < 200 }
+    requires { depth < greatest_height }
     ensures tree { IfOk result (λ b. Takes (IsBody (map declaration_of b.declarations.items) (body_of b.statements.items)) parser.old.cursor parser.new.cursor) }
     ensures refused { IfErr result (Refuses (NoFront (BodyFront depth) parser.old.cursor)) }
     ensures height { IfOk result (λ b. b.highest ≡ max (greatest (map declaration_height (map declaration_of b.declarations.items))) (statements_height (body_of b.statements.items))) }
-    ensures room { IfOk result (λ b. depth + 1 + b.highest ≤ 200) }
+    ensures room { IfOk result (λ b. depth + 1 + b.highest ≤ greatest_height) }
     ensures fewer { IfOk result (λ _. length parser.new.cursor < length parser.old.cursor) }
 {
     let declarations = declarations(parser, depth + 1)?;
@@ -555,7 +526,7 @@ pub(crate) fn body(parser: &mut Parser<'_>, depth: u32) -> Result<BlockBody, Ref
     while !parser.cursor.take(Punct::CloseBrace) {
         let next = statement(parser, depth + 1)?;
         highest = highest.max(next.height);
-        statements.push(next.tree)?;
+        add(&mut statements, next.tree)?;
     }
     Ok(BlockBody {
         declarations: declarations.tree,
@@ -566,12 +537,12 @@ pub(crate) fn body(parser: &mut Parser<'_>, depth: u32) -> Result<BlockBody, Ref
 
 // The declarations at the front of a block.
 fn declarations(parser: &mut Parser<'_>, depth: u32) -> Result<Tall<Vec<Decl>>, Refusal>
-    requires { depth ≤ 200 }
+    requires { depth ≤ greatest_height }
     ensures tree { IfOk result (λ p. Takes (λ all. DerivesDeclarations all (map declaration_of p.tree.items)) parser.old.cursor parser.new.cursor) }
     ensures only { IfOk result (λ _. OnlyTo (DeclarationsFront depth) parser.old.cursor parser.new.cursor) }
     ensures refused { IfErr result (Refuses (NoFront (DeclarationsFront depth) parser.old.cursor)) }
     ensures height { IfOk result (λ p. p.height ≡ greatest (map declaration_height (map declaration_of p.tree.items))) }
-    ensures room { IfOk result (λ p. depth + p.height ≤ 200) }
+    ensures room { IfOk result (λ p. depth + p.height ≤ greatest_height) }
     ensures no_more { IfOk result (λ _. length parser.new.cursor ≤ length parser.old.cursor) }
 {
     let mut declarations = Vec::new(parser.alloc);
@@ -590,17 +561,17 @@ fn declarations(parser: &mut Parser<'_>, depth: u32) -> Result<Tall<Vec<Decl>>, 
 
 fn switch_over(
     at: u32,
-    value: Expr,
+    value: Box<Expr>,
     parts: Vec<SwitchPart>,
     parts_at: u32,
     highest: u32,
 ) -> Tall<Stmt>
-    requires { highest < 200 }
-    ensures tree { tree_of result.tree ≡ Switch (expression_of value) (parts_of parts.items) parts_at at }
+    requires { highest < greatest_height }
+    ensures tree { tree_of result.tree ≡ Switch (expression_of value.value) (parts_of parts.items) parts_at at }
     ensures height { result.height ≡ 1 + highest }
 {
     let kind = StmtKind::Switch {
-        value,
+        value: Box::into_inner(value),
         parts,
         parts_at,
     };
@@ -618,7 +589,7 @@ fn part_over(statement: Tall<Stmt>) -> Tall<SwitchPart>
 }
 
 fn block_over(at: u32, body: BlockBody) -> Tall<Stmt>
-    requires { body.highest < 200 }
+    requires { body.highest < greatest_height }
     ensures tree { tree_of result.tree ≡ Block (map declaration_of body.declarations.items) (body_of body.statements.items) at }
     ensures height { result.height ≡ 1 + body.highest }
 {

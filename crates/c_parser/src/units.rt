@@ -3,7 +3,7 @@ ghost use Rattle.std.specs.Prelude.{◌≡◌, ◌+◌, ◌<◌, ◌≤◌, leng
 ghost use Rattle.c_syntax.specs.Lexes.{most_tokens};
 ghost use Rattle.c_syntax.specs.Grammar.{place_of};
 ghost use Rattle.c_syntax.specs.Derives.{DerivesSpecs, DerivesExternal};
-ghost use Rattle.c_syntax.specs.Measures.{parameters_height, item_form_height, external_height};
+ghost use Rattle.c_syntax.specs.Measures.{parameters_height, item_form_height, external_height, greatest_height};
 ghost use Rattle.c_syntax.specs.SyntaxView.{specs_of, parameters_of, item_form_of, external_of, unit_of};
 ghost use Rattle.c_syntax.specs.declared.decl.ItemKind.TheVariants as functions;
 ghost use Rattle.c_syntax.specs.Source.{IsSource, NoSource, IsPlace, end_of};
@@ -16,6 +16,7 @@ ghost use Rattle.c_parser.specs.UnitFronts.{ExternalFront, IsListed, ListedFront
 
 use crate::declarations::{declaration_from, item_from, item_kind, name, params};
 use crate::fault::ParseFault;
+use crate::parts::add;
 use crate::statements::body;
 use c_expressions::{Parser, Refusal, Tall};
 use c_syntax::{External, FunctionDef, ItemKind, Params, Punct, Specs, Token, Unit};
@@ -29,7 +30,7 @@ const OVER_EXTERNAL: u32 = 1;
 fn external(parser: &mut Parser<'_>) -> Result<Tall<External>, Refusal>
     ensures tree { IfOk result (λ p. Takes (λ all. DerivesExternal all (external_of p.tree)) parser.old.cursor parser.new.cursor) }
     ensures height { IfOk result (λ p. p.height ≡ external_height (external_of p.tree)) }
-    ensures room { IfOk result (λ p. 1 + p.height ≤ 200) }
+    ensures room { IfOk result (λ p. 1 + p.height ≤ greatest_height) }
     ensures fewer { IfOk result (λ _. length parser.new.cursor < length parser.old.cursor) }
     ensures refused { IfErr result (Refuses (NoFront ExternalFront parser.old.cursor)) }
 {
@@ -51,10 +52,10 @@ fn external(parser: &mut Parser<'_>) -> Result<Tall<External>, Refusal>
 
 // Parameters in their parentheses.
 fn listed(parser: &mut Parser<'_>, depth: u32) -> Result<Tall<Params>, Refusal>
-    requires { depth ≤ 200 }
+    requires { depth ≤ greatest_height }
     ensures tree { IfOk result (λ p. Takes (λ all. IsListed all (parameters_of p.tree)) parser.old.cursor parser.new.cursor) }
     ensures height { IfOk result (λ p. p.height ≡ parameters_height (parameters_of p.tree)) }
-    ensures room { IfOk result (λ p. depth + p.height ≤ 200) }
+    ensures room { IfOk result (λ p. depth + p.height ≤ greatest_height) }
     ensures fewer { IfOk result (λ _. length parser.new.cursor < length parser.old.cursor) }
     ensures refused { IfErr result (Refuses (NoFront (ListedFront depth) parser.old.cursor)) }
 {
@@ -74,10 +75,10 @@ fn declared(
     kind: Tall<ItemKind>,
 ) -> Result<Tall<External>, Refusal>
     requires kind_height { kind.height ≡ item_form_height (item_form_of kind.tree) }
-    requires kind_room { 3 + kind.height ≤ 200 }
+    requires kind_room { 3 + kind.height ≤ greatest_height }
     ensures tree { IfOk result (λ p. Takes (Behind (Both (λ a. DerivesSpecs a (specs_of specs)) (IsItemFront stars name (item_form_of kind.tree) item_at)) (λ all. DerivesExternal all (external_of p.tree))) parser.old.cursor parser.new.cursor) }
     ensures height { IfOk result (λ p. p.height ≡ external_height (external_of p.tree)) }
-    ensures room { IfOk result (λ p. 1 + p.height ≤ 200) }
+    ensures room { IfOk result (λ p. 1 + p.height ≤ greatest_height) }
     ensures fewer { IfOk result (λ _. length parser.new.cursor < length parser.old.cursor) }
     ensures refused { IfErr result (Refuses (NoFront DeclarationEnd parser.old.cursor)) }
 {
@@ -98,10 +99,10 @@ fn function(
     params: Tall<Params>,
 ) -> Result<Tall<External>, Refusal>
     requires params_height { params.height ≡ parameters_height (parameters_of params.tree) }
-    requires params_room { 2 + params.height ≤ 200 }
+    requires params_room { 2 + params.height ≤ greatest_height }
     ensures tree { IfOk result (λ p. Takes (Behind (IsFunctionHead (specs_of specs) stars name (parameters_of params.tree)) (λ all. DerivesExternal all (external_of p.tree))) parser.old.cursor parser.new.cursor) }
     ensures height { IfOk result (λ p. p.height ≡ external_height (external_of p.tree)) }
-    ensures room { IfOk result (λ p. 1 + p.height ≤ 200) }
+    ensures room { IfOk result (λ p. 1 + p.height ≤ greatest_height) }
     ensures fewer { IfOk result (λ _. length parser.new.cursor < length parser.old.cursor) }
     ensures refused { IfErr result (Refuses (NoFront FunctionEnd parser.old.cursor)) }
 {
@@ -144,11 +145,11 @@ fn unit(alloc: Global, tokens: &[Token]) -> Result<Unit, Refusal>
     let first = external(&mut parser)?;
     let mut highest = first.height;
     let mut externals = Vec::new(alloc);
-    externals.push(first.tree)?;
+    add(&mut externals, first.tree)?;
     while !parser.cursor.is_at_end() {
         let next = external(&mut parser)?;
         highest = highest.max(next.height);
-        externals.push(next.tree)?;
+        add(&mut externals, next.tree)?;
     }
     Ok(Unit::new(externals))
 }

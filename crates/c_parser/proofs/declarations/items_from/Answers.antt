@@ -15,9 +15,9 @@ use Rattle.c_parser.proofs.declarations.items_from.Goals as goal
 
 pub loop-parser-init : goal.loop-parser-init
 loop-parser-init c = record {
-  tree = begun item_of (λ all xs. Behind (λ a. DerivesItem a (item_of c.args.first.tree)) (λ v. DerivesItems v xs) all) c.new-items.ensures.items c.in_ok-push.ensures.items
+  tree = begun item_of (λ all xs. Behind (λ a. DerivesItem a (item_of c.args.first.tree)) (λ v. DerivesItems v xs) all) c.new-items.ensures.items c.in_ok-add.ensures.items
       (nothing _ _ (λ front f. subst (λ v. DerivesItems v (item_of c.args.first.tree ∷ [])) (sym (append-nil front)) (LastItem f)));
-  height = height_begun item_of item_height c.new-items.ensures.items c.in_ok-push.ensures.items c.requires.first_height;
+  height = height_begun item_of item_height c.new-items.ensures.items c.in_ok-add.ensures.items c.requires.first_height;
   high = omega (arith, c.requires.first_height);
   room = c.requires.first_room;
   no_more = omega arith;
@@ -26,9 +26,9 @@ loop-parser-init c = record {
 
 pub loop-parser-preserved : goal.loop-parser-preserved
 loop-parser-preserved c = let comma = c.take.ensures.taken.0 c.loop-parser-test.true in record {
-  tree = grown item_of (λ all xs. Behind (λ a. DerivesItem a (item_of c.args.first.tree)) (λ v. DerivesItems v xs) all) _ _ c.in_ok-push-2.ensures.items
+  tree = grown item_of (λ all xs. Behind (λ a. DerivesItem a (item_of c.args.first.tree)) (λ v. DerivesItems v xs) all) _ _ c.in_ok-add-2.ensures.items
       (with_comma (behind_comma (λ a. DerivesItem a (item_of c.args.first.tree)) _ _ (λ v. DerivesItems v (map item_of c.loop-parser.items.items ++ item_of c.in_ok-next.next.tree ∷ [])) (λ a b t p m r. items_more a b t _ _ p m r)) c.loop-parser.invariant.tree (took c.take.ensures.taken c.take.ensures.left c.loop-parser-test.true) c.in_ok-next.ensures.tree);
-  height = height_grown item_of item_height _ _ c.in_ok-push-2.ensures.items c.loop-parser.invariant.height c.in_ok-next.ensures.height c.max-highest.ensures;
+  height = height_grown item_of item_height _ _ c.in_ok-add-2.ensures.items c.loop-parser.invariant.height c.in_ok-next.ensures.height c.max-highest.ensures;
   high = omega (arith, c.max-highest.ensures, c.loop-parser.invariant.high);
   room = omega (arith, c.loop-parser.invariant.room, c.in_ok-next.ensures.room, c.max-highest.ensures);
   no_more = omega (arith, c.loop-parser.invariant.no_more, one_fewer (took c.take.ensures.taken c.take.ensures.left c.loop-parser-test.true), c.in_ok-next.ensures.fewer);

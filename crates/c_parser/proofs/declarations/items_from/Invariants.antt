@@ -1,6 +1,6 @@
 use Rattle.std.proofs.Common.{◌≡◌, ◌+◌, ◌≤◌, length, map}
 use Rattle.c_syntax.specs.Derives.{DerivesItem, DerivesItems}
-use Rattle.c_syntax.specs.Measures.{greatest, item_height}
+use Rattle.c_syntax.specs.Measures.{greatest, item_height, greatest_height}
 use Rattle.c_syntax.specs.SyntaxView.{item_of}
 use Rattle.c_expressions.specs.Takes.{Takes, Behind}
 use Rattle.c_parser.specs.DeclarationFronts.{MoreItems}
@@ -12,7 +12,7 @@ invariant-loop-parser l = record {
   tree : Takes (Behind (λ a. DerivesItem a (item_of l.fn.first.tree)) (λ all. DerivesItems all (map item_of l.items.items))) l.fn.parser.cursor l.parser.cursor;
   height : l.highest ≡ greatest (map item_height (map item_of l.items.items));
   high : 1 ≤ l.highest;
-  room : l.depth + l.highest ≤ 200;
+  room : l.depth + l.highest ≤ greatest_height;
   no_more : length l.parser.cursor ≤ length l.fn.parser.cursor;
   leads : LeadsOn (MoreItems l.depth) (MoreItems l.depth) l.fn.parser.cursor l.parser.cursor;
 }

@@ -12,12 +12,12 @@ pub returns-clause-tree : goal.returns-clause-tree
 returns-clause-tree c =
     let x : ParameterTree = record { specs = specs_of c.in_ok-specs.specs; stars = c.whole_stars-stars.result; name = c.in_ok-name.name; array = array_of c.in_ok-array.array.tree; at = c.place-at.result } in
     let r = joined c.in_ok-specs.ensures.tree (joined c.whole_stars-stars.ensures.tree (joined c.in_ok-name.ensures.tree c.in_ok-array.ensures.tree)) in
-    record {
+    rw c.in_ok-last.ensures.part (record {
       taken = r.taken;
       cut = r.cut;
-      is = is_parameter x (sym c.if-is_void_word.ensures) (sym c.if-not-separates.ensures) (c.place-at.ensures (omega (arith, c.in_ok-specs.ensures.fewer)))
+      is = is_parameter x (sym c.if-is_void_word.ensures) c.in_ok-last.ensures.there (c.place-at.ensures (omega (arith, c.in_ok-specs.ensures.fewer)))
           (omega (arith, c.in_ok-specs.ensures.fewer, c.whole_stars-stars.ensures.no_more, c.in_ok-name.ensures.no_more, c.in_ok-array.ensures.no_more)) r;
-    }
+    })
 
 pub returns-then-is_void_word-clause-refused : goal.returns-then-is_void_word-clause-refused
 returns-then-is_void_word-clause-refused c = refuses_all c.refused_behind.result (void_no_parameter (sym c.if-is_void_word.ensures))
@@ -42,10 +42,10 @@ returns-in_err-array-clause-refused c =
     passed_on _ c.from_residual-in_err-array.result c.from_residual-in_err-array.ensures.1 c.in_err-array.ensures.refused
     (λ n. fails_as (parameter_ways c.args.depth _) (second_fails c.in_ok-specs.ensures.only (second_fails c.whole_stars-stars.ensures.only (second_fails c.in_ok-name.ensures.only (first_fails n)))))
 
-pub returns-then-not-separates-clause-refused : goal.returns-then-not-separates-clause-refused
-returns-then-not-separates-clause-refused c =
-    refuses_all c.refused.result
-    (fails_as (parameter_ways c.args.depth _) (second_fails c.in_ok-specs.ensures.only (second_fails c.whole_stars-stars.ensures.only (second_fails c.in_ok-name.ensures.only (second_fails c.in_ok-array.ensures.only (not_separated (sym c.if-not-separates.ensures)))))))
+pub returns-in_err-last-clause-refused : goal.returns-in_err-last-clause-refused
+returns-in_err-last-clause-refused c =
+    known_to c.from_residual-in_err-last.result
+    (fails_as (parameter_ways c.args.depth _) (second_fails c.in_ok-specs.ensures.only (second_fails c.whole_stars-stars.ensures.only (second_fails c.in_ok-name.ensures.only (second_fails c.in_ok-array.ensures.only (not_separated c.in_err-last.ensures.refused))))))
 
 pub returns-clause-only : goal.returns-clause-only
 returns-clause-only c =

@@ -13,8 +13,8 @@ use Rattle.c_parser.proofs.declarations.param_list.Goals as goal
 
 pub loop-parser-init : goal.loop-parser-init
 loop-parser-init c = record {
-  tree = begun parameter_of DerivesParameterList c.new-list.ensures.items c.in_ok-push.ensures.items (mapped (λ a r. LastParameter r) c.in_ok-first.ensures.tree);
-  height = height_begun parameter_of parameter_height c.new-list.ensures.items c.in_ok-push.ensures.items c.in_ok-first.ensures.height;
+  tree = begun parameter_of DerivesParameterList c.new-list.ensures.items c.in_ok-add.ensures.items (mapped (λ a r. LastParameter r) c.in_ok-first.ensures.tree);
+  height = height_begun parameter_of parameter_height c.new-list.ensures.items c.in_ok-add.ensures.items c.in_ok-first.ensures.height;
   room = c.in_ok-first.ensures.room;
   fewer = c.in_ok-first.ensures.fewer;
   leads = leads_from (parameter_list_ways c.args.depth _) c.in_ok-first.ensures.only;
@@ -22,9 +22,9 @@ loop-parser-init c = record {
 
 pub loop-parser-preserved : goal.loop-parser-preserved
 loop-parser-preserved c = let comma = c.take.ensures.taken.0 c.loop-parser-test.true in record {
-  tree = grown parameter_of DerivesParameterList _ _ c.in_ok-push-2.ensures.items
+  tree = grown parameter_of DerivesParameterList _ _ c.in_ok-add-2.ensures.items
       (with_comma (λ a b t p m r. parameters_more a b t _ _ p m r) c.loop-parser.invariant.tree (took c.take.ensures.taken c.take.ensures.left c.loop-parser-test.true) c.in_ok-next.ensures.tree);
-  height = height_grown parameter_of parameter_height _ _ c.in_ok-push-2.ensures.items c.loop-parser.invariant.height c.in_ok-next.ensures.height c.max-highest.ensures;
+  height = height_grown parameter_of parameter_height _ _ c.in_ok-add-2.ensures.items c.loop-parser.invariant.height c.in_ok-next.ensures.height c.max-highest.ensures;
   room = omega (arith, c.loop-parser.invariant.room, c.in_ok-next.ensures.room, c.max-highest.ensures);
   fewer = omega (arith, c.loop-parser.invariant.fewer, one_fewer (took c.take.ensures.taken c.take.ensures.left c.loop-parser-test.true), c.in_ok-next.ensures.fewer);
   leads = next_leads c.loop-parser.invariant.leads comma (no_end mark.CloseParen (λ k. cc) comma) (gone c.loop-parser.parser.cursor c.take.ensures.left c.loop-parser-test.true) (parameter_list_ways c.args.depth _) c.in_ok-next.ensures.only;

@@ -1,6 +1,6 @@
 use Rattle.std.proofs.Common.{◌≡◌, ◌+◌, ◌<◌, ◌≤◌, length, map}
 use Rattle.c_syntax.specs.Derives.{DerivesParameterList}
-use Rattle.c_syntax.specs.Measures.{greatest, parameter_height}
+use Rattle.c_syntax.specs.Measures.{greatest, parameter_height, greatest_height}
 use Rattle.c_syntax.specs.SyntaxView.{parameter_of}
 use Rattle.c_expressions.specs.Takes.{Takes}
 use Rattle.c_parser.specs.DeclarationFronts.{ParameterListFront, MoreParameters}
@@ -11,7 +11,7 @@ abbrev pub invariant-loop-parser : goal.invariant-loop-parser
 invariant-loop-parser l = record {
   tree : Takes (λ all. DerivesParameterList all (map parameter_of l.list.items)) l.fn.parser.cursor l.parser.cursor;
   height : l.highest ≡ greatest (map parameter_height (map parameter_of l.list.items));
-  room : l.depth + l.highest ≤ 200;
+  room : l.depth + l.highest ≤ greatest_height;
   fewer : length l.parser.cursor < length l.fn.parser.cursor;
   leads : LeadsOn (ParameterListFront l.depth) (MoreParameters l.depth) l.fn.parser.cursor l.parser.cursor;
 }

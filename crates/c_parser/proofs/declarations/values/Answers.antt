@@ -12,8 +12,8 @@ use Rattle.c_parser.proofs.declarations.values.Goals as goal
 
 pub loop-parser-init : goal.loop-parser-init
 loop-parser-init c = record {
-  tree = begun expression_of DerivesList c.new-values.ensures.items c.in_ok-push.ensures.items (mapped (λ a r. LastOfList r) c.in_ok-first.ensures.tree);
-  height = height_begun expression_of expression_height c.new-values.ensures.items c.in_ok-push.ensures.items c.in_ok-first.ensures.height;
+  tree = begun expression_of DerivesList c.new-values.ensures.items c.in_ok-add.ensures.items (mapped (λ a r. LastOfList r) c.in_ok-first.ensures.tree);
+  height = height_begun expression_of expression_height c.new-values.ensures.items c.in_ok-add.ensures.items c.in_ok-first.ensures.height;
   room = c.in_ok-first.ensures.room;
   fewer = c.in_ok-first.ensures.fewer;
   leads = leads_from (values_ways c.args.depth _) c.in_ok-first.ensures.only;
@@ -21,8 +21,8 @@ loop-parser-init c = record {
 
 pub loop-parser-preserved : goal.loop-parser-preserved
 loop-parser-preserved c = let more = c.list_goes_on.ensures.more c.loop-parser-test.true in record {
-  tree = grown expression_of DerivesList _ _ c.in_ok-push-2.ensures.items (with_comma (λ a b t p m r. list_more a b t _ _ p m r) c.loop-parser.invariant.tree c.loop-parser-test.ensures.tree c.in_ok-next.ensures.tree);
-  height = height_grown expression_of expression_height _ _ c.in_ok-push-2.ensures.items c.loop-parser.invariant.height c.in_ok-next.ensures.height c.max-highest.ensures;
+  tree = grown expression_of DerivesList _ _ c.in_ok-add-2.ensures.items (with_comma (λ a b t p m r. list_more a b t _ _ p m r) c.loop-parser.invariant.tree c.loop-parser-test.ensures.tree c.in_ok-next.ensures.tree);
+  height = height_grown expression_of expression_height _ _ c.in_ok-add-2.ensures.items c.loop-parser.invariant.height c.in_ok-next.ensures.height c.max-highest.ensures;
   room = omega (arith, c.loop-parser.invariant.room, c.in_ok-next.ensures.room, c.max-highest.ensures);
   fewer = omega (arith, c.loop-parser.invariant.fewer, c.list_goes_on.ensures.no_more, c.in_ok-next.ensures.fewer);
   leads = next_leads c.loop-parser.invariant.leads more.0 (values_go more.0 more.1 more.2) more.1 (values_ways c.args.depth _) c.in_ok-next.ensures.only;

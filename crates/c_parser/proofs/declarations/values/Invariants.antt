@@ -1,6 +1,6 @@
 use Rattle.std.proofs.Common.{◌≡◌, ◌+◌, ◌<◌, ◌≤◌, length, map}
 use Rattle.c_syntax.specs.Derives.{DerivesList}
-use Rattle.c_syntax.specs.Measures.{greatest, expression_height}
+use Rattle.c_syntax.specs.Measures.{greatest, expression_height, greatest_height}
 use Rattle.c_syntax.specs.SyntaxView.{expression_of}
 use Rattle.c_expressions.specs.Takes.{Takes}
 use Rattle.c_parser.specs.DeclarationFronts.{ValuesFront, MoreValues}
@@ -11,7 +11,7 @@ abbrev pub invariant-loop-parser : goal.invariant-loop-parser
 invariant-loop-parser l = record {
   tree : Takes (λ all. DerivesList all (map expression_of l.values.items)) l.fn.parser.cursor l.parser.cursor;
   height : l.highest ≡ greatest (map expression_height (map expression_of l.values.items));
-  room : l.depth + l.highest ≤ 200;
+  room : l.depth + l.highest ≤ greatest_height;
   fewer : length l.parser.cursor < length l.fn.parser.cursor;
   leads : LeadsOn (ValuesFront l.depth) (MoreValues l.depth) l.fn.parser.cursor l.parser.cursor;
 }

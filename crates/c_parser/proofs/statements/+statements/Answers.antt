@@ -1,49 +1,92 @@
-use Rattle.std.proofs.Common.{◌≡◌, ◌+◌, refl, arith}
+use Rattle.std.proofs.Common.{◌≡◌, ◌+◌, refl, rules, arith}
 use Rattle.c_syntax.specs.declared.token.Keyword.TheVariants as keyword
 use Rattle.c_syntax.specs.declared.token.Punct.TheVariants as mark
 use Rattle.c_syntax.specs.Derives.{NoChoice}
 use Rattle.c_expressions.proofs.TakesLemmas.{nothing, joined, mark_taken, word_taken, took, took_word, not_there, kept, length_kept, ok_mapped}
 use Rattle.c_parser.proofs.StatementTaken.{same_taken, if_taken, if_else_taken, while_taken, for_taken, do_taken, switch_taken, block_taken, body_begun, body_ended, body_grown, body_height, parts_grown, parts_height, chosen_taken}
 use Rattle.c_parser.proofs.FrontLemmas.{first_fails, second_fails, second_never, fails_as, leads_as, one_leads, mark_fails, fails_kept, only_kept, leads_on, leads_from, leads_further, fails_on}
-use Rattle.c_expressions.proofs.Refusals.{passed_on, known_to, goes_out}
+use Rattle.c_expressions.proofs.Parts.{part_refused, part_unread}
+use Rattle.c_expressions.proofs.Refusals.{passed_on, goes_out}
 use Rattle.c_parser.proofs.StatementWays.{while_ways, if_ways, else_fails, do_ways, for_ways, switch_ways, block_ways, tested_too_high, statement_too_high}
 use Rattle.c_parser.proofs.StatementLists.{body_ways, statements_ways, parts_ways, case_ways, default_ways, chosen_ways}
 use Rattle.c_parser.proofs.StatementOnly.{statement_only, for_head_only}
 use Rattle.c_parser.proofs.statements.+statements.Goals as goal
 
-pub choice-returns-then-not-take_keyword-clause-tree : goal.choice-returns-then-not-take_keyword-clause-tree
-choice-returns-then-not-take_keyword-clause-tree t c =
-    if_taken c.if_alone.ensures.tree c.place-at.ensures (word_taken keyword.If c.args.parser.now.cursor _ c.in_ok-expect_keyword.ensures.taken c.in_ok-expect_keyword.ensures.left) c.in_ok-test.ensures.tree c.in_ok-yes.ensures.tree
-    c.in_ok-test.ensures.fewer c.in_ok-yes.ensures.fewer (kept c.take_keyword.ensures.left c.if-not-take_keyword.true) (not_there c.take_keyword.ensures.taken c.if-not-take_keyword.true)
+pub choice-returns-then-not-takes_else : goal.choice-returns-then-not-takes_else
+choice-returns-then-not-takes_else t c =
+    record {
+      tree = if_taken c.if_alone.ensures.tree c.place-at.ensures (word_taken keyword.If c.args.parser.now.cursor _ c.in_ok-expect_keyword.ensures.taken c.in_ok-expect_keyword.ensures.left) c.in_ok-test.ensures.tree c.in_ok-yes.ensures.tree
+          c.in_ok-test.ensures.fewer c.in_ok-yes.ensures.fewer (kept c.takes_else.ensures.left c.if-not-takes_else.true) (not_there c.takes_else.ensures.taken c.if-not-takes_else.true);
+      refused = tt {0};
+      height = search rules;
+      room = search rules;
+      fewer = search rules;
+    }
 
-pub choice-returns-clause-tree : goal.choice-returns-clause-tree
-choice-returns-clause-tree t c =
-    if_else_taken c.if_else.ensures.tree c.place-at.ensures (word_taken keyword.If c.args.parser.now.cursor _ c.in_ok-expect_keyword.ensures.taken c.in_ok-expect_keyword.ensures.left) c.in_ok-test.ensures.tree c.in_ok-yes.ensures.tree
-    (c.take_keyword.ensures.taken.0 c.if-not-take_keyword.false) (took_word c.take_keyword.ensures.taken c.take_keyword.ensures.left c.if-not-take_keyword.false) c.in_ok-no.ensures.tree
-    c.in_ok-test.ensures.fewer c.in_ok-yes.ensures.fewer c.in_ok-no.ensures.fewer
+pub choice-returns : goal.choice-returns
+choice-returns t c =
+    record {
+      tree = if_else_taken c.if_else.ensures.tree c.place-at.ensures (word_taken keyword.If c.args.parser.now.cursor _ c.in_ok-expect_keyword.ensures.taken c.in_ok-expect_keyword.ensures.left) c.in_ok-test.ensures.tree c.in_ok-yes.ensures.tree
+          (c.takes_else.ensures.taken.0 c.if-not-takes_else.false) (took_word c.takes_else.ensures.taken c.takes_else.ensures.left c.if-not-takes_else.false) c.in_ok-no.ensures.tree
+          c.in_ok-test.ensures.fewer c.in_ok-yes.ensures.fewer c.in_ok-no.ensures.fewer;
+      refused = tt {0};
+      height = search rules;
+      room = search rules;
+      fewer = search rules;
+    }
 
-pub do_loop-returns-clause-tree : goal.do_loop-returns-clause-tree
-do_loop-returns-clause-tree t c =
-    do_taken c.do_over.ensures.tree c.place-at.ensures (word_taken keyword.Do c.args.parser.now.cursor _ c.in_ok-expect_keyword.ensures.taken c.in_ok-expect_keyword.ensures.left) c.in_ok-body.ensures.tree c.in_ok-test.ensures.tree
-    c.in_ok-body.ensures.fewer c.in_ok-test.ensures.fewer
+pub do_loop-returns : goal.do_loop-returns
+do_loop-returns t c =
+    record {
+      tree = do_taken c.do_over.ensures.tree c.place-at.ensures (word_taken keyword.Do c.args.parser.now.cursor _ c.in_ok-expect_keyword.ensures.taken c.in_ok-expect_keyword.ensures.left) c.in_ok-body.ensures.tree c.in_ok-test.ensures.tree
+          c.in_ok-body.ensures.fewer c.in_ok-test.ensures.fewer;
+      refused = tt {0};
+      height = search rules;
+      room = search rules;
+      fewer = search rules;
+    }
 
-pub while_loop-returns-clause-tree : goal.while_loop-returns-clause-tree
-while_loop-returns-clause-tree t c =
-    while_taken c.while_over.ensures.tree c.place-at.ensures (word_taken keyword.While c.args.parser.now.cursor _ c.in_ok-expect_keyword.ensures.taken c.in_ok-expect_keyword.ensures.left) c.in_ok-test.ensures.tree c.in_ok-body.ensures.tree
-    c.in_ok-test.ensures.fewer c.in_ok-body.ensures.fewer
+pub while_loop-returns : goal.while_loop-returns
+while_loop-returns t c =
+    record {
+      tree = while_taken c.while_over.ensures.tree c.place-at.ensures (word_taken keyword.While c.args.parser.now.cursor _ c.in_ok-expect_keyword.ensures.taken c.in_ok-expect_keyword.ensures.left) c.in_ok-test.ensures.tree c.in_ok-body.ensures.tree
+          c.in_ok-test.ensures.fewer c.in_ok-body.ensures.fewer;
+      refused = tt {0};
+      height = search rules;
+      room = search rules;
+      fewer = search rules;
+    }
 
-pub for_loop-returns-clause-tree : goal.for_loop-returns-clause-tree
-for_loop-returns-clause-tree t c =
-    for_taken c.for_over.ensures.tree c.place-at.ensures c.in_ok-head.ensures.tree c.in_ok-body.ensures.tree c.in_ok-head.ensures.fewer c.in_ok-body.ensures.fewer
+pub for_loop-returns : goal.for_loop-returns
+for_loop-returns t c =
+    record {
+      tree = for_taken c.for_over.ensures.tree c.place-at.ensures c.in_ok-head.ensures.tree c.in_ok-body.ensures.tree c.in_ok-head.ensures.fewer c.in_ok-body.ensures.fewer;
+      refused = tt {0};
+      height = search rules;
+      room = search rules;
+      fewer = search rules;
+    }
 
-pub switch-returns-clause-tree : goal.switch-returns-clause-tree
-switch-returns-clause-tree t c =
-    switch_taken c.switch_over.ensures.tree c.place-at.ensures c.place-parts_at.ensures (word_taken keyword.Switch c.args.parser.now.cursor _ c.in_ok-expect_keyword.ensures.taken c.in_ok-expect_keyword.ensures.left) c.in_ok-value.ensures.tree
-    (mark_taken mark.OpenBrace c.tested.new.parser.cursor _ c.in_ok-expect.ensures.taken c.in_ok-expect.ensures.left) c.in_ok-parts.ensures.tree c.in_ok-value.ensures.fewer c.in_ok-parts.ensures.fewer
+pub switch-returns : goal.switch-returns
+switch-returns t c =
+    record {
+      tree = switch_taken c.switch_over.ensures.tree c.place-at.ensures c.place-parts_at.ensures (word_taken keyword.Switch c.args.parser.now.cursor _ c.in_ok-expect_keyword.ensures.taken c.in_ok-expect_keyword.ensures.left) c.in_ok-value.ensures.tree
+          (mark_taken mark.OpenBrace c.tested.new.parser.cursor _ c.in_ok-expect.ensures.taken c.in_ok-expect.ensures.left) c.in_ok-parts.ensures.tree c.in_ok-value.ensures.fewer c.in_ok-parts.ensures.fewer;
+      refused = tt {0};
+      height = search rules;
+      room = search rules;
+      fewer = search rules;
+    }
 
-pub inner_block-returns-clause-tree : goal.inner_block-returns-clause-tree
-inner_block-returns-clause-tree t c =
-    block_taken c.block_over.ensures.tree c.place-at.ensures (mark_taken mark.OpenBrace c.args.parser.now.cursor _ c.in_ok-expect.ensures.taken c.in_ok-expect.ensures.left) c.in_ok-body.ensures.tree c.in_ok-body.ensures.fewer
+pub inner_block-returns : goal.inner_block-returns
+inner_block-returns t c =
+    record {
+      tree = block_taken c.block_over.ensures.tree c.place-at.ensures (mark_taken mark.OpenBrace c.args.parser.now.cursor _ c.in_ok-expect.ensures.taken c.in_ok-expect.ensures.left) c.in_ok-body.ensures.tree c.in_ok-body.ensures.fewer;
+      refused = tt {0};
+      height = search rules;
+      room = search rules;
+      fewer = search rules;
+    }
 
 pub body-loop-parser-init : goal.body-loop-parser-init
 body-loop-parser-init t c = record {
@@ -58,8 +101,8 @@ pub body-loop-parser-preserved : goal.body-loop-parser-preserved
 body-loop-parser-preserved t c =
     let k : c.take.new.self ≡ c.loop-parser.parser.cursor = kept c.take.ensures.left c.loop-parser-test.true in
     record {
-      tree = body_grown _ _ c.in_ok-push.ensures.items (kept c.take.ensures.left c.loop-parser-test.true) c.loop-parser.invariant.tree c.in_ok-next.ensures.tree;
-      height = body_height _ _ _ c.in_ok-push.ensures.items c.loop-parser.invariant.height c.in_ok-next.ensures.height c.max-highest.ensures;
+      tree = body_grown _ _ c.in_ok-add.ensures.items (kept c.take.ensures.left c.loop-parser-test.true) c.loop-parser.invariant.tree c.in_ok-next.ensures.tree;
+      height = body_height _ _ _ c.in_ok-add.ensures.items c.loop-parser.invariant.height c.in_ok-next.ensures.height c.max-highest.ensures;
       room = omega (arith, c.loop-parser.invariant.room, c.in_ok-next.ensures.room, c.max-highest.ensures);
       no_more = omega (arith, c.loop-parser.invariant.no_more, length_kept k, c.in_ok-next.ensures.fewer);
       leads = leads_further c.loop-parser.invariant.leads (statements_ways (c.args.depth + 1) _ (not_there c.take.ensures.taken c.loop-parser-test.true)) (only_kept k (statement_only c.in_ok-next.ensures.tree));
@@ -81,8 +124,8 @@ pub switch_parts-loop-parser-preserved : goal.switch_parts-loop-parser-preserved
 switch_parts-loop-parser-preserved t c =
     let k : c.take.new.self ≡ c.loop-parser.parser.cursor = kept c.take.ensures.left c.loop-parser-test.true in
     record {
-      tree = parts_grown _ _ c.in_ok-push.ensures.items (kept c.take.ensures.left c.loop-parser-test.true) c.loop-parser.invariant.tree c.in_ok-part.ensures.tree;
-      height = parts_height _ _ c.in_ok-push.ensures.items c.loop-parser.invariant.height c.in_ok-part.ensures.height c.max-highest.ensures;
+      tree = parts_grown _ _ c.in_ok-add.ensures.items (kept c.take.ensures.left c.loop-parser-test.true) c.loop-parser.invariant.tree c.in_ok-part.ensures.tree;
+      height = parts_height _ _ c.in_ok-add.ensures.items c.loop-parser.invariant.height c.in_ok-part.ensures.height c.max-highest.ensures;
       room = omega (arith, c.loop-parser.invariant.room, c.in_ok-part.ensures.room, c.max-highest.ensures);
       no_more = omega (arith, c.loop-parser.invariant.no_more, length_kept k, c.in_ok-part.ensures.fewer);
       leads = leads_further c.loop-parser.invariant.leads (parts_ways c.args.depth _ (not_there c.take.ensures.taken c.loop-parser-test.true)) (only_kept k c.in_ok-part.ensures.only);
@@ -97,84 +140,84 @@ inner-returns-clause-tree t c = ok_mapped c.boxed.result (λ p e. same_taken e c
 pub switch_part-returns-clause-tree : goal.switch_part-returns-clause-tree
 switch_part-returns-clause-tree t c = chosen_taken c.part_over.ensures.tree c.in_ok-statement.ensures.tree
 
-pub choice-returns-in_err-allow-clause-refused : goal.choice-returns-in_err-allow-clause-refused
-choice-returns-in_err-allow-clause-refused t c = known_to c.from_residual.result (fails_as (if_ways c.args.depth _ c.requires.begun) (second_never (λ m. first_fails (tested_too_high (omega (arith, c.in_err-allow.ensures.refused))))))
+pub choice-returns-in_err-allow : goal.choice-returns-in_err-allow
+choice-returns-in_err-allow t c = part_unread _ c.from_residual.result c.from_residual.ensures.1 (fails_as (if_ways c.args.depth _ c.requires.begun) (second_never (λ m. first_fails (tested_too_high (omega (arith, c.in_err-allow.ensures.refused))))))
 
-pub choice-returns-in_err-test-clause-refused : goal.choice-returns-in_err-test-clause-refused
-choice-returns-in_err-test-clause-refused t c =
-    passed_on _ c.from_residual-in_err-test.result c.from_residual-in_err-test.ensures.1 c.in_err-test.ensures.refused
+pub choice-returns-in_err-test : goal.choice-returns-in_err-test
+choice-returns-in_err-test t c =
+    part_refused _ c.from_residual-in_err-test.result c.from_residual-in_err-test.ensures.1 c.in_err-test.ensures.refused
     (λ n. fails_as (if_ways c.args.depth _ c.requires.begun) (second_fails (one_leads c.in_ok-expect_keyword.ensures.left) (first_fails n)))
 
-pub choice-returns-in_err-yes-clause-refused : goal.choice-returns-in_err-yes-clause-refused
-choice-returns-in_err-yes-clause-refused t c =
-    passed_on _ c.from_residual-in_err-yes.result c.from_residual-in_err-yes.ensures.1 c.in_err-yes.ensures.refused
+pub choice-returns-in_err-yes : goal.choice-returns-in_err-yes
+choice-returns-in_err-yes t c =
+    part_refused _ c.from_residual-in_err-yes.result c.from_residual-in_err-yes.ensures.1 c.in_err-yes.ensures.refused
     (λ n. fails_as (if_ways c.args.depth _ c.requires.begun) (second_fails (one_leads c.in_ok-expect_keyword.ensures.left) (second_fails c.in_ok-test.ensures.only (first_fails n))))
 
-pub choice-returns-in_err-no-clause-refused : goal.choice-returns-in_err-no-clause-refused
-choice-returns-in_err-no-clause-refused t c =
-    passed_on _ c.from_residual-in_err-no.result c.from_residual-in_err-no.ensures.1 c.in_err-no.ensures.refused
+pub choice-returns-in_err-no : goal.choice-returns-in_err-no
+choice-returns-in_err-no t c =
+    part_refused _ c.from_residual-in_err-no.result c.from_residual-in_err-no.ensures.1 c.in_err-no.ensures.refused
     (λ n. fails_as (if_ways c.args.depth _ c.requires.begun) (second_fails (one_leads c.in_ok-expect_keyword.ensures.left) (second_fails c.in_ok-test.ensures.only (second_fails (statement_only c.in_ok-yes.ensures.tree)
-    (else_fails c.take_keyword.ensures.taken c.take_keyword.ensures.left c.if-not-take_keyword.false n)))))
+    (else_fails c.takes_else.ensures.taken c.takes_else.ensures.left c.if-not-takes_else.false n)))))
 
-pub do_loop-returns-in_err-allow-clause-refused : goal.do_loop-returns-in_err-allow-clause-refused
-do_loop-returns-in_err-allow-clause-refused t c = known_to c.from_residual.result (fails_as (do_ways c.args.depth _ c.requires.begun) (second_never (λ m. first_fails (statement_too_high (omega (arith, c.in_err-allow.ensures.refused))))))
+pub do_loop-returns-in_err-allow : goal.do_loop-returns-in_err-allow
+do_loop-returns-in_err-allow t c = part_unread _ c.from_residual.result c.from_residual.ensures.1 (fails_as (do_ways c.args.depth _ c.requires.begun) (second_never (λ m. first_fails (statement_too_high (omega (arith, c.in_err-allow.ensures.refused))))))
 
-pub do_loop-returns-in_err-body-clause-refused : goal.do_loop-returns-in_err-body-clause-refused
-do_loop-returns-in_err-body-clause-refused t c =
-    passed_on _ c.from_residual-in_err-body.result c.from_residual-in_err-body.ensures.1 c.in_err-body.ensures.refused
+pub do_loop-returns-in_err-body : goal.do_loop-returns-in_err-body
+do_loop-returns-in_err-body t c =
+    part_refused _ c.from_residual-in_err-body.result c.from_residual-in_err-body.ensures.1 c.in_err-body.ensures.refused
     (λ n. fails_as (do_ways c.args.depth _ c.requires.begun) (second_fails (one_leads c.in_ok-expect_keyword.ensures.left) (first_fails n)))
 
-pub do_loop-returns-in_err-test-clause-refused : goal.do_loop-returns-in_err-test-clause-refused
-do_loop-returns-in_err-test-clause-refused t c =
-    passed_on _ c.from_residual-in_err-test.result c.from_residual-in_err-test.ensures.1 c.in_err-test.ensures.refused
+pub do_loop-returns-in_err-test : goal.do_loop-returns-in_err-test
+do_loop-returns-in_err-test t c =
+    part_refused _ c.from_residual-in_err-test.result c.from_residual-in_err-test.ensures.1 c.in_err-test.ensures.refused
     (λ n. fails_as (do_ways c.args.depth _ c.requires.begun) (second_fails (one_leads c.in_ok-expect_keyword.ensures.left) (second_fails (statement_only c.in_ok-body.ensures.tree) n)))
 
-pub while_loop-returns-in_err-allow-clause-refused : goal.while_loop-returns-in_err-allow-clause-refused
-while_loop-returns-in_err-allow-clause-refused t c = known_to c.from_residual.result (fails_as (while_ways c.args.depth _ c.requires.begun) (second_never (λ m. first_fails (tested_too_high (omega (arith, c.in_err-allow.ensures.refused))))))
+pub while_loop-returns-in_err-allow : goal.while_loop-returns-in_err-allow
+while_loop-returns-in_err-allow t c = part_unread _ c.from_residual.result c.from_residual.ensures.1 (fails_as (while_ways c.args.depth _ c.requires.begun) (second_never (λ m. first_fails (tested_too_high (omega (arith, c.in_err-allow.ensures.refused))))))
 
-pub while_loop-returns-in_err-test-clause-refused : goal.while_loop-returns-in_err-test-clause-refused
-while_loop-returns-in_err-test-clause-refused t c =
-    passed_on _ c.from_residual-in_err-test.result c.from_residual-in_err-test.ensures.1 c.in_err-test.ensures.refused
+pub while_loop-returns-in_err-test : goal.while_loop-returns-in_err-test
+while_loop-returns-in_err-test t c =
+    part_refused _ c.from_residual-in_err-test.result c.from_residual-in_err-test.ensures.1 c.in_err-test.ensures.refused
     (λ n. fails_as (while_ways c.args.depth _ c.requires.begun) (second_fails (one_leads c.in_ok-expect_keyword.ensures.left) (first_fails n)))
 
-pub while_loop-returns-in_err-body-clause-refused : goal.while_loop-returns-in_err-body-clause-refused
-while_loop-returns-in_err-body-clause-refused t c =
-    passed_on _ c.from_residual-in_err-body.result c.from_residual-in_err-body.ensures.1 c.in_err-body.ensures.refused
+pub while_loop-returns-in_err-body : goal.while_loop-returns-in_err-body
+while_loop-returns-in_err-body t c =
+    part_refused _ c.from_residual-in_err-body.result c.from_residual-in_err-body.ensures.1 c.in_err-body.ensures.refused
     (λ n. fails_as (while_ways c.args.depth _ c.requires.begun) (second_fails (one_leads c.in_ok-expect_keyword.ensures.left) (second_fails c.in_ok-test.ensures.only n)))
 
-pub for_loop-returns-in_err-allow-clause-refused : goal.for_loop-returns-in_err-allow-clause-refused
-for_loop-returns-in_err-allow-clause-refused t c = known_to c.from_residual.result (fails_as (for_ways c.args.depth _ c.requires.begun) (second_never (λ m. statement_too_high (omega (arith, c.in_err-allow.ensures.refused)))))
+pub for_loop-returns-in_err-allow : goal.for_loop-returns-in_err-allow
+for_loop-returns-in_err-allow t c = part_unread _ c.from_residual.result c.from_residual.ensures.1 (fails_as (for_ways c.args.depth _ c.requires.begun) (second_never (λ m. statement_too_high (omega (arith, c.in_err-allow.ensures.refused)))))
 
-pub for_loop-returns-in_err-head-clause-refused : goal.for_loop-returns-in_err-head-clause-refused
-for_loop-returns-in_err-head-clause-refused t c =
-    passed_on _ c.from_residual-in_err-head.result c.from_residual-in_err-head.ensures.1 c.in_err-head.ensures.refused
+pub for_loop-returns-in_err-head : goal.for_loop-returns-in_err-head
+for_loop-returns-in_err-head t c =
+    part_refused _ c.from_residual-in_err-head.result c.from_residual-in_err-head.ensures.1 c.in_err-head.ensures.refused
     (λ n. fails_as (for_ways c.args.depth _ c.requires.begun) (first_fails n))
 
-pub for_loop-returns-in_err-body-clause-refused : goal.for_loop-returns-in_err-body-clause-refused
-for_loop-returns-in_err-body-clause-refused t c =
-    passed_on _ c.from_residual-in_err-body.result c.from_residual-in_err-body.ensures.1 c.in_err-body.ensures.refused
+pub for_loop-returns-in_err-body : goal.for_loop-returns-in_err-body
+for_loop-returns-in_err-body t c =
+    part_refused _ c.from_residual-in_err-body.result c.from_residual-in_err-body.ensures.1 c.in_err-body.ensures.refused
     (λ n. fails_as (for_ways c.args.depth _ c.requires.begun) (second_fails (for_head_only _ _ _ c.in_ok-head.ensures.tree) n))
 
-pub switch-returns-in_err-allow-clause-refused : goal.switch-returns-in_err-allow-clause-refused
-switch-returns-in_err-allow-clause-refused t c = known_to c.from_residual.result (fails_as (switch_ways c.args.depth _ c.requires.begun) (second_never (λ m. first_fails (tested_too_high (omega (arith, c.in_err-allow.ensures.refused))))))
+pub switch-returns-in_err-allow : goal.switch-returns-in_err-allow
+switch-returns-in_err-allow t c = part_unread _ c.from_residual.result c.from_residual.ensures.1 (fails_as (switch_ways c.args.depth _ c.requires.begun) (second_never (λ m. first_fails (tested_too_high (omega (arith, c.in_err-allow.ensures.refused))))))
 
-pub switch-returns-in_err-value-clause-refused : goal.switch-returns-in_err-value-clause-refused
-switch-returns-in_err-value-clause-refused t c =
-    passed_on _ c.from_residual-in_err-value.result c.from_residual-in_err-value.ensures.1 c.in_err-value.ensures.refused
+pub switch-returns-in_err-value : goal.switch-returns-in_err-value
+switch-returns-in_err-value t c =
+    part_refused _ c.from_residual-in_err-value.result c.from_residual-in_err-value.ensures.1 c.in_err-value.ensures.refused
     (λ n. fails_as (switch_ways c.args.depth _ c.requires.begun) (second_fails (one_leads c.in_ok-expect_keyword.ensures.left) (first_fails n)))
 
-pub switch-returns-in_err-expect-clause-refused : goal.switch-returns-in_err-expect-clause-refused
-switch-returns-in_err-expect-clause-refused t c = known_to c.from_residual-in_err-expect.result (
+pub switch-returns-in_err-expect : goal.switch-returns-in_err-expect
+switch-returns-in_err-expect t c = part_unread _ c.from_residual-in_err-expect.result c.from_residual-in_err-expect.ensures.1 (
     fails_as (switch_ways c.args.depth _ c.requires.begun) (second_fails (one_leads c.in_ok-expect_keyword.ensures.left) (second_fails c.in_ok-value.ensures.only (first_fails (mark_fails c.in_err-expect.ensures.refused)))))
 
-pub switch-returns-in_err-parts-clause-refused : goal.switch-returns-in_err-parts-clause-refused
-switch-returns-in_err-parts-clause-refused t c =
-    passed_on _ c.from_residual-in_err-parts.result c.from_residual-in_err-parts.ensures.1 c.in_err-parts.ensures.refused
+pub switch-returns-in_err-parts : goal.switch-returns-in_err-parts
+switch-returns-in_err-parts t c =
+    part_refused _ c.from_residual-in_err-parts.result c.from_residual-in_err-parts.ensures.1 c.in_err-parts.ensures.refused
     (λ n. fails_as (switch_ways c.args.depth _ c.requires.begun) (second_fails (one_leads c.in_ok-expect_keyword.ensures.left) (second_fails c.in_ok-value.ensures.only (second_fails (one_leads c.in_ok-expect.ensures.left) n))))
 
-pub inner_block-returns-in_err-body-clause-refused : goal.inner_block-returns-in_err-body-clause-refused
-inner_block-returns-in_err-body-clause-refused t c =
-    passed_on _ c.from_residual-in_err-body.result c.from_residual-in_err-body.ensures.1 c.in_err-body.ensures.refused
+pub inner_block-returns-in_err-body : goal.inner_block-returns-in_err-body
+inner_block-returns-in_err-body t c =
+    part_refused _ c.from_residual-in_err-body.result c.from_residual-in_err-body.ensures.1 c.in_err-body.ensures.refused
     (λ n. fails_as (block_ways c.args.depth _ c.requires.begun) (second_fails (one_leads c.in_ok-expect.ensures.left) n))
 
 pub body-returns-in_err-declarations-clause-refused : goal.body-returns-in_err-declarations-clause-refused

@@ -1,6 +1,6 @@
 use Rattle.std.proofs.Common.{◌≡◌, ◌+◌, ◌*◌, ◌≤◌, max, length, map}
 use Rattle.c_syntax.specs.Derives.{DerivesDeclarations, DerivesStatements, DerivesChoices}
-use Rattle.c_syntax.specs.Measures.{greatest, declaration_height, statements_height, choices_height}
+use Rattle.c_syntax.specs.Measures.{greatest, declaration_height, statements_height, choices_height, greatest_height}
 use Rattle.c_syntax.specs.SyntaxView.{declaration_of, body_of}
 use Rattle.c_expressions.specs.Takes.{Takes, Both}
 use Rattle.c_parser.specs.StatementRows.{parts_of}
@@ -45,7 +45,7 @@ abbrev pub invariant-body-loop-parser : goal.invariant-body-loop-parser
 invariant-body-loop-parser l = record {
   tree : Takes (Both (λ a. DerivesDeclarations a (map declaration_of l.declarations.tree.items)) (λ a. DerivesStatements a (body_of l.statements.items))) l.fn.parser.cursor l.parser.cursor;
   height : l.highest ≡ max (greatest (map declaration_height (map declaration_of l.declarations.tree.items))) (statements_height (body_of l.statements.items));
-  room : l.depth + 1 + l.highest ≤ 200;
+  room : l.depth + 1 + l.highest ≤ greatest_height;
   no_more : length l.parser.cursor ≤ length l.fn.parser.cursor;
   leads : LeadsOn (BodyFront l.depth) (StatementsFront (l.depth + 1)) l.fn.parser.cursor l.parser.cursor;
 }
@@ -57,7 +57,7 @@ abbrev pub invariant-switch_parts-loop-parser : goal.invariant-switch_parts-loop
 invariant-switch_parts-loop-parser l = record {
   tree : Takes (λ a. DerivesChoices a (parts_of l.parts.items)) l.fn.parser.cursor l.parser.cursor;
   height : l.highest ≡ choices_height (parts_of l.parts.items);
-  room : l.depth + 1 + l.highest ≤ 200;
+  room : l.depth + 1 + l.highest ≤ greatest_height;
   no_more : length l.parser.cursor ≤ length l.fn.parser.cursor;
   leads : LeadsOn (PartsFront l.depth) (PartsFront l.depth) l.fn.parser.cursor l.parser.cursor;
 }

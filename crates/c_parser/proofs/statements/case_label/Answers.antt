@@ -11,11 +11,17 @@ use Rattle.c_parser.proofs.statements.case_label.Goals as goal
 
 pub returns-clause-tree : goal.returns-clause-tree
 returns-clause-tree c =
-    mapped (case_row (expression_of c.in_ok-value.value.tree)) (joined (word_taken keyword.Case _ _ c.in_ok-expect_keyword.ensures.taken c.in_ok-expect_keyword.ensures.left)
-    (joined c.in_ok-value.ensures.tree (mark_taken mark.Colon _ _ c.in_ok-expect.ensures.taken c.in_ok-expect.ensures.left)))
+    rw c.in_ok-whole.ensures.part (mapped (case_row (expression_of c.in_ok-value.value.tree)) (joined (word_taken keyword.Case _ _ c.in_ok-expect_keyword.ensures.taken c.in_ok-expect_keyword.ensures.left)
+    (joined c.in_ok-value.ensures.tree (mark_taken mark.Colon _ _ c.in_ok-whole.ensures.taken c.in_ok-whole.ensures.left))))
+
+pub returns-clause-height : goal.returns-clause-height
+returns-clause-height c = rw c.in_ok-whole.ensures.part (omega (arith, c.in_ok-value.ensures.height))
+
+pub returns-clause-room : goal.returns-clause-room
+returns-clause-room c = rw c.in_ok-whole.ensures.part c.in_ok-value.ensures.room
 
 pub returns-clause-only : goal.returns-clause-only
-returns-clause-only c = both_lead (one_leads c.in_ok-expect_keyword.ensures.left) (both_lead c.in_ok-value.ensures.only (one_leads c.in_ok-expect.ensures.left))
+returns-clause-only c = both_lead (one_leads c.in_ok-expect_keyword.ensures.left) (both_lead c.in_ok-value.ensures.only (one_leads c.in_ok-whole.ensures.left))
 
 pub returns-in_err-allow-clause-refused : goal.returns-in_err-allow-clause-refused
 returns-in_err-allow-clause-refused c = known_to c.from_residual.result (second_never (λ m. first_fails (expression_too_high (omega (arith, c.in_err-allow.ensures.refused)))))
@@ -28,6 +34,6 @@ returns-in_err-value-clause-refused c =
     passed_on _ c.from_residual-in_err-value.result c.from_residual-in_err-value.ensures.1 c.in_err-value.ensures.refused
     (λ n. second_fails (one_leads c.in_ok-expect_keyword.ensures.left) (first_fails n))
 
-pub returns-in_err-expect-clause-refused : goal.returns-in_err-expect-clause-refused
-returns-in_err-expect-clause-refused c =
-    known_to c.from_residual-in_err-expect.result (second_fails (one_leads c.in_ok-expect_keyword.ensures.left) (second_fails c.in_ok-value.ensures.only (mark_fails c.in_err-expect.ensures.refused)))
+pub returns-in_err-whole-clause-refused : goal.returns-in_err-whole-clause-refused
+returns-in_err-whole-clause-refused c =
+    known_to c.from_residual-in_err-whole.result (second_fails (one_leads c.in_ok-expect_keyword.ensures.left) (second_fails c.in_ok-value.ensures.only (mark_fails c.in_err-whole.ensures.refused)))

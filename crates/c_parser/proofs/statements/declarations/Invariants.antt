@@ -1,6 +1,6 @@
 use Rattle.std.proofs.Common.{◌≡◌, ◌+◌, ◌≤◌, length, map}
 use Rattle.c_syntax.specs.Derives.{DerivesDeclarations}
-use Rattle.c_syntax.specs.Measures.{greatest, declaration_height}
+use Rattle.c_syntax.specs.Measures.{greatest, declaration_height, greatest_height}
 use Rattle.c_syntax.specs.SyntaxView.{declaration_of}
 use Rattle.c_expressions.specs.Takes.{Takes}
 use Rattle.c_parser.specs.StatementFronts.{DeclarationsFront}
@@ -11,7 +11,7 @@ abbrev pub invariant-loop-parser : goal.invariant-loop-parser
 invariant-loop-parser l = record {
   tree : Takes (λ all. DerivesDeclarations all (map declaration_of l.declarations.items)) l.fn.parser.cursor l.parser.cursor;
   height : l.highest ≡ greatest (map declaration_height (map declaration_of l.declarations.items));
-  room : l.depth + l.highest ≤ 200;
+  room : l.depth + l.highest ≤ greatest_height;
   no_more : length l.parser.cursor ≤ length l.fn.parser.cursor;
   leads : LeadsOn (DeclarationsFront l.depth) (DeclarationsFront l.depth) l.fn.parser.cursor l.parser.cursor;
 }

@@ -12,7 +12,7 @@ use Rattle.c_parser.proofs.statements.for_head.Goals as goal
 
 pub returns-clause-tree : goal.returns-clause-tree
 returns-clause-tree c =
-    mapped (for_head_row (optional_of c.in_ok-first.first.tree) (optional_of c.in_ok-test.test.tree) (optional_of c.in_ok-third.third.tree))
+    mapped (for_head_row (optional_of c.in_ok-first.first.tree.value) (optional_of c.in_ok-test.test.tree.value) (optional_of c.in_ok-third.third.tree.value))
     (joined (word_taken keyword.For _ _ c.in_ok-expect_keyword.ensures.taken c.in_ok-expect_keyword.ensures.left)
     (joined (mark_taken mark.OpenParen _ _ c.in_ok-expect.ensures.taken c.in_ok-expect.ensures.left)
     (joined c.in_ok-first.ensures.tree (joined c.in_ok-test.ensures.tree c.in_ok-third.ensures.tree))))
@@ -34,11 +34,11 @@ pub returns-in_err-test-clause-refused : goal.returns-in_err-test-clause-refused
 returns-in_err-test-clause-refused c =
     passed_on _ c.from_residual-in_err-test.result c.from_residual-in_err-test.ensures.1 c.in_err-test.ensures.refused
     (λ n. fails_as (for_head_ways c.args.depth _) (second_fails (one_leads c.in_ok-expect_keyword.ensures.left) (second_fails (one_leads c.in_ok-expect.ensures.left)
-    (second_fails (optional_only (optional_of c.in_ok-first.first.tree) (inl refl) c.in_ok-first.ensures.tree) (first_fails n)))))
+    (second_fails (optional_only (optional_of c.in_ok-first.first.tree.value) (inl refl) c.in_ok-first.ensures.tree) (first_fails n)))))
 
 pub returns-in_err-third-clause-refused : goal.returns-in_err-third-clause-refused
 returns-in_err-third-clause-refused c =
     passed_on _ c.from_residual-in_err-third.result c.from_residual-in_err-third.ensures.1 c.in_err-third.ensures.refused
     (λ n. fails_as (for_head_ways c.args.depth _) (second_fails (one_leads c.in_ok-expect_keyword.ensures.left) (second_fails (one_leads c.in_ok-expect.ensures.left)
-    (second_fails (optional_only (optional_of c.in_ok-first.first.tree) (inl refl) c.in_ok-first.ensures.tree)
-    (second_fails (optional_only (optional_of c.in_ok-test.test.tree) (inl refl) c.in_ok-test.ensures.tree) n)))))
+    (second_fails (optional_only (optional_of c.in_ok-first.first.tree.value) (inl refl) c.in_ok-first.ensures.tree)
+    (second_fails (optional_only (optional_of c.in_ok-test.test.tree.value) (inl refl) c.in_ok-test.ensures.tree) n)))))

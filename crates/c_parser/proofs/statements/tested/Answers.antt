@@ -11,8 +11,11 @@ use Rattle.c_parser.proofs.statements.tested.Goals as goal
 
 pub returns-clause-tree : goal.returns-clause-tree
 returns-clause-tree c =
-    mapped (tested_row (expression_of c.in_ok-test.test.tree)) (joined (mark_taken mark.OpenParen _ _ c.in_ok-expect.ensures.taken c.in_ok-expect.ensures.left)
-    (joined c.in_ok-test.ensures.tree (mark_taken mark.CloseParen _ _ c.in_ok-expect-2.ensures.taken c.in_ok-expect-2.ensures.left)))
+    rw c.in_ok-tree.ensures.part (mapped (tested_row (expression_of c.in_ok-test.test.tree)) (joined (mark_taken mark.OpenParen _ _ c.in_ok-expect.ensures.taken c.in_ok-expect.ensures.left)
+    (joined c.in_ok-test.ensures.tree (mark_taken mark.CloseParen _ _ c.in_ok-expect-2.ensures.taken c.in_ok-expect-2.ensures.left))))
+
+pub returns-clause-height : goal.returns-clause-height
+returns-clause-height c = rw c.in_ok-tree.ensures.part c.in_ok-test.ensures.height
 
 pub returns-in_err-expect-clause-refused : goal.returns-in_err-expect-clause-refused
 returns-in_err-expect-clause-refused c = known_to c.from_residual.result (fails_as (tested_ways c.args.depth _) (first_fails (mark_fails c.in_err-expect.ensures.refused)))

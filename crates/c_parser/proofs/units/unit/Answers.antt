@@ -16,8 +16,8 @@ returns-in_err-first-clause-refused c =
 
 pub loop-parser-init : goal.loop-parser-init
 loop-parser-init c = record {
-  tree = begun external_of DerivesUnit c.new-externals.ensures.items c.in_ok-push.ensures.items (mapped (λ a r. LastExternal r) (rw c.new-parser.ensures at c.in_ok-first.ensures.tree));
-  height = height_begun external_of external_height c.new-externals.ensures.items c.in_ok-push.ensures.items c.in_ok-first.ensures.height;
+  tree = begun external_of DerivesUnit c.new-externals.ensures.items c.in_ok-add.ensures.items (mapped (λ a r. LastExternal r) (rw c.new-parser.ensures at c.in_ok-first.ensures.tree));
+  height = height_begun external_of external_height c.new-externals.ensures.items c.in_ok-add.ensures.items c.in_ok-first.ensures.height;
   room = c.in_ok-first.ensures.room;
   leads = leads_from (unit_ways _) (external_only (external_of c.in_ok-first.first.tree) (rw c.new-parser.ensures at c.in_ok-first.ensures.tree));
 }
@@ -35,8 +35,8 @@ pub loop-parser-preserved : goal.loop-parser-preserved
 loop-parser-preserved c =
     let some : length c.loop-parser.parser.cursor ≡ 0 → ⊥ = search rules in
     record {
-      tree = grown external_of DerivesUnit _ _ c.in_ok-push-2.ensures.items (with_next (λ a b p r. externals_more a b _ _ p r) c.loop-parser.invariant.tree c.in_ok-next.ensures.tree);
-      height = height_grown external_of external_height _ _ c.in_ok-push-2.ensures.items c.loop-parser.invariant.height c.in_ok-next.ensures.height c.max-highest.ensures;
+      tree = grown external_of DerivesUnit _ _ c.in_ok-add-2.ensures.items (with_next (λ a b p r. externals_more a b _ _ p r) c.loop-parser.invariant.tree c.in_ok-next.ensures.tree);
+      height = height_grown external_of external_height _ _ c.in_ok-add-2.ensures.items c.loop-parser.invariant.height c.in_ok-next.ensures.height c.max-highest.ensures;
       room = omega (arith, c.loop-parser.invariant.room, c.in_ok-next.ensures.room, c.max-highest.ensures);
       leads = leads_further c.loop-parser.invariant.leads (λ after m. unit_ways _ after (more_units _ some after m)) (external_only (external_of c.in_ok-next.next.tree) c.in_ok-next.ensures.tree);
     }

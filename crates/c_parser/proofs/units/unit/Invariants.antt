@@ -1,6 +1,6 @@
 use Rattle.std.proofs.Common.{◌≡◌, ◌+◌, ◌≤◌, length, map}
 use Rattle.c_syntax.specs.Derives.{DerivesUnit}
-use Rattle.c_syntax.specs.Measures.{greatest, external_height}
+use Rattle.c_syntax.specs.Measures.{greatest, external_height, greatest_height}
 use Rattle.c_syntax.specs.SyntaxView.{external_of}
 use Rattle.c_expressions.specs.Takes.{Takes}
 use Rattle.c_parser.specs.UnitFronts.{UnitFront, MoreUnits}
@@ -11,7 +11,7 @@ abbrev pub invariant-loop-parser : goal.invariant-loop-parser
 invariant-loop-parser l = record {
   tree : Takes (λ all. DerivesUnit all (map external_of l.externals.items)) l.tokens l.parser.cursor;
   height : l.highest ≡ greatest (map external_height (map external_of l.externals.items));
-  room : 1 + l.highest ≤ 200;
+  room : 1 + l.highest ≤ greatest_height;
   leads : LeadsOn UnitFront MoreUnits l.tokens l.parser.cursor;
 }
 

@@ -388,19 +388,19 @@ parenthesised-expression-requires-then-not-is_empty t c =
     let f = parens_fewer c.args.self.now.cursor c.args.depth c.loop-at.places.items c.loop-at.inner c.loop-at.self.cursor c.loop-at.invariant some in
     let m = parens_measured c.args.self.now.cursor c.args.depth c.loop-at.places.items c.loop-at.inner c.loop-at.self.cursor c.loop-at.invariant in
     let le = behind_shorter c.loop-at.self.cursor in
-    (omega (arith, f, le, ap length c.in_ok-expect.ensures.left, c.decreases), (c.requires.room, record { height = m.height; fits = m.fits }))
+    (omega (arith, f, le, ap length c.in_ok-expect.ensures.left, c.decreases), (c.requires.room, rw c.enclose.ensures (record { height = m.height; fits = m.fits })))
 
 pub parenthesised-loop-at-preserved-then-not-is_empty : goal.parenthesised-loop-at-preserved-then-not-is_empty
 parenthesised-loop-at-preserved-then-not-is_empty t c =
     let some : 0 < length c.pop.new.self.items = search rules in
-    let q = rw c.in_ok-expect.ensures.left at c.in_ok-inner-2.ensures.parsed in
+    let q = rw (c.in_ok-expect.ensures.left, c.enclose.ensures) at c.in_ok-inner-2.ensures.parsed in
     parens_more c.args.self.now.cursor c.args.depth c.loop-at.places.items c.pop.new.self.items c.in-Some.at c.loop-at.inner c.loop-at.self.cursor c.in_ok-inner-2.inner c.expression-then-not-is_empty.new.self.cursor
     c.loop-at.invariant c.in-Some.ensures.items c.in_ok-expect.ensures.taken some q
 
 pub parenthesised-loop-at-preserved : goal.parenthesised-loop-at-preserved
 parenthesised-loop-at-preserved t c =
     let none : length c.pop.new.self.items ≡ 0 = search rules in
-    rw c.in_ok-expect.ensures.left (parens_close c.args.self.now.cursor c.args.depth c.loop-at.places.items c.pop.new.self.items c.in-Some.at c.loop-at.inner c.loop-at.self.cursor c.loop-at.invariant c.in-Some.ensures.items c.in_ok-expect.ensures.taken none)
+    rw (c.in_ok-expect.ensures.left, c.enclose.ensures) (parens_close c.args.self.now.cursor c.args.depth c.loop-at.places.items c.pop.new.self.items c.in-Some.at c.loop-at.inner c.loop-at.self.cursor c.loop-at.invariant c.in-Some.ensures.items c.in_ok-expect.ensures.taken none)
 
 pub parenthesised-returns-in_err-places-clause-refused : goal.parenthesised-returns-in_err-places-clause-refused
 parenthesised-returns-in_err-places-clause-refused t c =
@@ -419,7 +419,7 @@ parenthesised-returns-in_err-expect-clause-refused t c =
 pub parenthesised-returns-in_err-inner-2-clause-refused : goal.parenthesised-returns-in_err-inner-2-clause-refused
 parenthesised-returns-in_err-inner-2-clause-refused t c =
     let some : 0 < length c.pop.new.self.items = search rules in
-    let q = rw c.in_ok-expect.ensures.left at c.in_err-inner-2.ensures.refused in
+    let q = rw (c.in_ok-expect.ensures.left, c.enclose.ensures) at c.in_err-inner-2.ensures.refused in
     passed_on _ c.from_residual-in_err-inner-2.result c.from_residual-in_err-inner-2.ensures.1 q
     (parens_behind_refused c.args.depth c.args.self.now.cursor c.loop-at.places.items c.pop.new.self.items c.in-Some.at c.loop-at.inner c.loop-at.self.cursor c.loop-at.invariant c.in-Some.ensures.items some)
 
