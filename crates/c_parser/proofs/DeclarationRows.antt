@@ -112,14 +112,10 @@ item_row x front taken f i = record {
   place = f.place ∙ ap place_of f.cut ∙ sym (front_place f.a f.t f.b taken) ∙ sym (ap (λ l. place_of (l ++ taken)) f.cut);
 }
 
-<<<<<<< HEAD
-pub item_front : (stars : ℕ) (name : List ℕ) (form : ItemForm) (at : ℕ) {k l m n : List Token} → Takes (λ a. AreStars a stars) k l → Takes (IsOne (IsNameToken name)) l m → Takes (λ a. DerivesForm a form) m n
-=======
 pub item_behind : (x : ItemTree) {k l : List Token} → Takes (λ taken. DerivesInitialiser taken x.initial) k l → Takes (Behind (IsItemFront x.stars x.name x.form x.at) (λ all. DerivesItem all x)) k l
 item_behind x r = mapped (λ taken i front f. item_row x front taken f i) r
 
-pub item_front : (stars : ℕ) (name : List ℕ) (form : ItemForm) (at : ℕ) {k l m n : List Token} → Takes (λ a. AreStars a stars) k l → Takes (IsOne (IsName name)) l m → Takes (λ a. DerivesForm a form) m n
->>>>>>> 30fd9479f029787ec0c7e19d35ee20a1f2ea458e
+pub item_front : (stars : ℕ) (name : List ℕ) (form : ItemForm) (at : ℕ) {k l m n : List Token} → Takes (λ a. AreStars a stars) k l → Takes (IsOne (IsNameToken name)) l m → Takes (λ a. DerivesForm a form) m n
     → length n < length k → at ≡ place_of k → Takes (IsItemFront stars name form at) k n
 item_front stars name form at p q r h e = let all = joined p (joined q r) in record {
   taken = all.taken;

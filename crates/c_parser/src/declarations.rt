@@ -4,13 +4,8 @@ ghost use Rattle.c_expressions.specs.Front.{behind, mark_at};
 ghost use Rattle.c_syntax.specs.declared.token.Punct.TheVariants as mark;
 ghost use Rattle.c_syntax.specs.SyntaxTree.{Braced};
 ghost use Rattle.c_syntax.specs.Grammar.{ConditionalRow, IsMark, place_of};
-<<<<<<< HEAD
-ghost use Rattle.c_syntax.specs.Derives.{IsNameToken, DerivesSpecs, DerivesOptional, DerivesList, DerivesInitial, DerivesArray, DerivesArrayMark, DerivesName, DerivesParameter, DerivesParameterList, DerivesParameters, DerivesForm, DerivesInitialiser, DerivesItem, DerivesItems, DerivesDeclaration, IsLastComma};
-ghost use Rattle.c_syntax.specs.Measures.{greatest, expression_height, optional_height, array_height, parameter_height, parameters_height, item_form_height, initial_height, item_height, declaration_height};
-=======
 ghost use Rattle.c_syntax.specs.Derives.{IsNameToken, DerivesSpecs, DerivesOptional, DerivesList, DerivesInitial, DerivesArray, DerivesArrayMark, DerivesName, DerivesParameter, DerivesParameterList, DerivesParameters, DerivesForm, DerivesInitialiser, DerivesItem, DerivesItems, DerivesDeclaration, IsLastComma};
 ghost use Rattle.c_syntax.specs.Measures.{greatest, expression_height, optional_height, array_height, parameter_height, parameters_height, item_form_height, initial_height, item_height, declaration_height, greatest_height};
->>>>>>> 30fd9479f029787ec0c7e19d35ee20a1f2ea458e
 ghost use Rattle.c_syntax.specs.SyntaxView.{specs_of, expression_of, brackets_of, array_of, parameter_of, parameters_of, item_form_of, initial_of, item_of, declaration_of};
 ghost use Rattle.c_expressions.specs.Fronts.{NoFront, OnlyTo, Then, One};
 ghost use Rattle.c_parser.specs.DeclarationFronts.{DeclarationFront, ItemFront, FormFront, ArrayFront, LengthFront, InitialiserFront, BracedFront, ValuesFront, ParametersFront, ParameterListFront, ParameterFront, NameFront, ArrayMarkFront, IsAnyName, MoreItems};
