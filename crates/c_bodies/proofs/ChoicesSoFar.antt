@@ -5,7 +5,6 @@ use Rattle.std.proofs.lemmas.List.{drop_more}
 use Rattle.c_syntax.specs.declared.stmt.SwitchPart.{SwitchPart}
 use Rattle.c_tree.specs.declared.typed_statement.Choice.{Choice}
 use Rattle.c_syntax.specs.SyntaxTree as tree
-use Rattle.c_syntax.specs.SyntaxTree.{Statement}
 use Rattle.c_syntax.specs.SyntaxView.{part_before}
 use Rattle.c_tree.specs.TypedTree.{Choices, no_more}
 use Rattle.c_tree.specs.View.{choice_before, choice_list}

@@ -4,7 +4,7 @@ ghost use Rattle.std.specs.Prelude.{◌≡◌, Some, IfOk, IfErr};
 ghost use Rattle.c_tree.specs.Eval.{kind_of};
 ghost use Rattle.c_tree.specs.View.{expr_of};
 ghost use Rattle.c_rules.specs.declared.fault.Refusal.TheVariants as refusals;
-ghost use Rattle.c_tree.specs.TypedTree.{Node, Const, Unary, Binary, And, Or, Not, Pick, Comma};
+ghost use Rattle.c_tree.specs.TypedTree.{Node, Unary, Binary, And, Or, Not, Pick, Comma};
 ghost use Rattle.c_rules.specs.declared.fault.Rule.TheVariants as rule;
 ghost use Rattle.c_rules.specs.Kinds.{class_of};
 ghost use Rattle.c_rules.specs.Operands as rules;

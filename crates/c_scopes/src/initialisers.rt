@@ -1,6 +1,6 @@
 //! Initialisers: ISO 9899:1990 6.5.7, and the addresses that are known before the program runs: 6.4.
 ghost use Rattle.c_rules.specs.Answers.{Follows};
-ghost use Rattle.std.specs.Prelude.{◌≡◌, OnOk, Some, None, map};
+ghost use Rattle.std.specs.Prelude.{◌≡◌, Some, None, map};
 ghost use Rattle.c_syntax.specs.SyntaxView.{expression_of, item_form_of, initial_of};
 ghost use Rattle.c_tree.specs.View.{expr_of};
 ghost use Rattle.c_rules.specs.Declarations as rules;
