@@ -1,13 +1,13 @@
 -- What stands between the braces of a switch, one behind another.
-use Rattle.std.proofs.Common.{◌≡◌, ℕ, ◌+◌, ◌<◌, ◌≤◌, ◌||◌, Bool, true, false, List, [], ◌∷◌, ◌++◌, drop, get_or, length, refl, ap, sym, ◌∙◌}
+use Rattle.std.proofs.Common.{◌≡◌, ℕ, ◌+◌, ◌<◌, ◌≤◌, ◌||◌, Bool, true, false, List, [], ◌∷◌, ◌++◌, drop, get_or, length, refl, ap, ◌∙◌}
 use Rattle.std.proofs.Math.ListN.{drop_of_length-le}
-use Rattle.std.proofs.lemmas.List.{drop_more}
 use Rattle.c_syntax.specs.declared.stmt.SwitchPart.{SwitchPart}
 use Rattle.c_tree.specs.declared.typed_statement.Choice.{Choice}
 use Rattle.c_syntax.specs.SyntaxTree as tree
 use Rattle.c_syntax.specs.SyntaxView.{part_before}
 use Rattle.c_tree.specs.TypedTree.{Choices, no_more}
 use Rattle.c_tree.specs.View.{choice_before, choice_list}
+use Rattle.c_rules.proofs.Turns.{first_left}
 use Rattle.c_bodies.specs.declared.blocks.Body.{Body}
 use Rattle.c_tree.specs.declared.enclosing.Enclosing.{Enclosing}
 use Rattle.c_bodies.specs.Bodies.{behind_choices, choices_in, joined, parts_of}
@@ -49,9 +49,6 @@ one_more : (there : List Choice) (p : Bool) (x : Choice) (q : Bool) (o : Outcome
 one_more there p x q (Is r) = λ i. just (record { choices = joined_more there x r.tree.choices i; pointer = either_more p q r.tree.pointer i }) r.locals
 one_more there p x q (Broken rule at) = refl
 
-pub from_here : (list : List SwitchPart) (i : ℕ) (s : SwitchPart) → s ≡ get_or list i s → i < length list → drop i list ≡ s ∷ drop (i + 1) list
-from_here list i s is within = drop_more list i s within ∙ ap (λ x. x ∷ drop (i + 1) list) (sym is)
-
 module _ (b n : Body) (tables : tables_of n.scopes ≡ tables_of b.scopes) (bodies : (scope_of n.scopes).bodies ≡ (scope_of b.scopes).bodies) (returned : n.result ≡ b.result) where
   pub choices_kept : (c : Enclosing) (ls : List LocalTree) (cs : tree.Choices) → typed_choices n.result (scope_of n.scopes) c ls cs ≡ typed_choices b.result (scope_of b.scopes) c ls cs
   choices_kept c ls cs = λ i. typed_choices (returned i) (scope_kept n.scopes b.scopes tables bodies i) c ls cs
@@ -61,7 +58,7 @@ pub turn : (b n : Body) (c : Enclosing) (list : List SwitchPart) (i : ℕ) (s : 
     → ((rest : tree.Choices) → choices_in b c (part_before s rest) ≡ behind_choices (x ∷ []) q (choices_in n c rest))
     → behind_choices there p (choices_in b c (parts_of (drop i list))) ≡ behind_choices (there ++ x ∷ []) (p || q) (choices_in n c (parts_of (drop (i + 1) list)))
 turn b n c list i s there p x q is within h =
-    ap (λ l. behind_choices there p (choices_in b c (parts_of l))) (from_here list i s is within)
+    ap (λ l. behind_choices there p (choices_in b c (parts_of l))) (first_left list i s is within)
     ∙ ap (behind_choices there p) (h (parts_of (drop (i + 1) list)))
     ∙ one_more there p x q (choices_in n c (parts_of (drop (i + 1) list)))
 

@@ -2,7 +2,6 @@
 use Rattle.std.proofs.Common.{◌≡◌, ℕ, ◌+◌, ◌<◌, ◌≤◌, List, [], ◌∷◌, ◌++◌, map, drop, get_or, length, refl, ap, sym, ◌∙◌, Vec, Global, subst}
 use Rattle.std.specs.Prelude.{Result, Option}
 use Rattle.std.proofs.Math.ListN.{drop_of_length-le}
-use Rattle.std.proofs.lemmas.List.{drop_more}
 use Rattle.c_syntax.specs.declared.decl.Decl.{Decl}
 use Rattle.c_syntax.specs.declared.stmt.Stmt.{Stmt}
 use Rattle.c_syntax.specs.declared.stmt.StmtKind as kind
@@ -17,6 +16,7 @@ use Rattle.c_tree.specs.TypedTree.{Expr, Stmts, Block, Do_while, For, If, While,
 use Rattle.c_tree.specs.declared.program.VarRef.{VarRef}
 use Rattle.c_tree.specs.View.{option_expr_of, stmt_of, statement_list}
 use Rattle.c_tree.proofs.Views.{block_of_list}
+use Rattle.c_rules.proofs.Turns.{first_left}
 use Rattle.c_bodies.specs.declared.blocks.Body.{Body}
 use Rattle.c_bodies.specs.declared.blocks.Opening.{Opening}
 use Rattle.c_rules.specs.declared.fault.Refusal.{Refusal}
@@ -59,10 +59,6 @@ one_more there t (Broken rule at) = refl
 unbroken : (there : List TypedStmt) (o : Outcome (Typed Stmts)) (rule : Rule) (at : ℕ) → behind there o ≡ Broken rule at → o ≡ Broken rule at
 unbroken there (Is r) rule at h = cc
 unbroken there (Broken other place) rule at h = h
-
--- a list from an element on
-from_here : (list : List Stmt) (i : ℕ) (s : Stmt) → s ≡ get_or list i s → i < length list → drop i list ≡ s ∷ drop (i + 1) list
-from_here list i s is within = drop_more list i s within ∙ ap (λ x. x ∷ drop (i + 1) list) (sym is)
 
 -- an if, a while and a for behind their parts
 pub if_rest : (b n : Body) (c : Enclosing) (e : Expression) (s : Statement) (at : ℕ) (x : Expr) (p : typed.Stmt) → typing (scope_of b.scopes) e ≡ Is x → statement_in b c s ≡ just p (locals_of n)
@@ -122,7 +118,7 @@ module _ (b n : Body) (tables : tables_of n.scopes ≡ tables_of b.scopes) (bodi
         → statement_in b c (statement_of s.kind s.at) ≡ just (stmt_of t) (locals_of n)
         → behind there (statements_in b c (body_of (drop i list))) ≡ behind (there ++ t ∷ []) (statements_in n c (body_of (drop (i + 1) list)))
     turn c list i s there t is within h =
-        ap (λ l. behind there (statements_in b c (body_of l))) (from_here list i s is within)
+        ap (λ l. behind there (statements_in b c (body_of l))) (first_left list i s is within)
         ∙ ap (λ o. behind there (o >>= λ p. typed_statements b.result (scope_of b.scopes) c p.locals (body_of (drop (i + 1) list)) >>= λ r. just (both p.tree r.tree) r.locals)) h
         ∙ one_more there t (typed_statements b.result (scope_of b.scopes) c (locals_of n) (body_of (drop (i + 1) list)))
         ∙ ap (behind (there ++ t ∷ [])) (sym (statements_kept c (locals_of n) (body_of (drop (i + 1) list))))
@@ -140,7 +136,7 @@ pub refused_here : (o : Outcome (Typed Stmts)) (n : Body) (c : Enclosing) (list 
 refused_here o n c list i s there so_far refusals.NoMemory is within before h = tt {0}
 refused_here o n c list i s there so_far (refusals.Broken rule at) is within before h = unbroken there o rule at
     (before
-    ∙ ap (λ l. behind so_far (statements_in n c (body_of l))) (from_here list i s is within)
+    ∙ ap (λ l. behind so_far (statements_in n c (body_of l))) (first_left list i s is within)
     ∙ ap (λ o. behind so_far (o >>= λ p. typed_statements n.result (scope_of n.scopes) c p.locals (body_of (drop (i + 1) list)) >>= λ r. just (both p.tree r.tree) r.locals)) h)
 
 -- statements that are put into a block

@@ -30,7 +30,8 @@ use Rattle.c_rules.specs.Statements.{LocalTree, Labelled, Typed, just, behind_ca
 use Rattle.c_scopes.specs.Tables.{scope_of, tables_of}
 use Rattle.c_rules.specs.Typing.{typing, constant_typing, word_at}
 use Rattle.c_bodies.specs.BodyView.{locals_of, typed_in}
-use Rattle.c_bodies.proofs.ChoicesSoFar.{choices_kept, from_here}
+use Rattle.c_bodies.proofs.ChoicesSoFar.{choices_kept}
+use Rattle.c_rules.proofs.Turns.{first_left}
 use Rattle.c_bodies.proofs.SyntaxRows.{switch_of}
 
 -- what is known of a switch of a list is known of the statement
@@ -50,7 +51,7 @@ pub refused_here : (o : Outcome (Typed Labelled)) (n : Body) (c : Enclosing) (li
 refused_here o n c list i s there p refusals.NoMemory is within before h = tt {0}
 refused_here o n c list i s there p (refusals.Broken rule at) is within before h =
     before
-    ∙ ap (λ l. behind_choices there p (choices_in n c (parts_of l))) (from_here list i s is within)
+    ∙ ap (λ l. behind_choices there p (choices_in n c (parts_of l))) (first_left list i s is within)
     ∙ ap (behind_choices there p) (h (parts_of (drop (i + 1) list)))
 
 -- a statement among the choices

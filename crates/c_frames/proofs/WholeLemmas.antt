@@ -3,7 +3,7 @@ use Rattle.std.proofs.Common.{◌≡◌, ◌<◌, ◌⊎◌, inl, inr, ◌++◌,
 use Rattle.std.specs.Prelude.{Vec, Result, Ok, Err, IfErr}
 use Rattle.std.specs.Result.{IsErrAnd}
 use Rattle.std.specs.Global.{Global}
-use Rattle.std.proofs.lemmas.List.{drop_more, length-map, map-append, map_more}
+use Rattle.std.proofs.lemmas.List.{length-map, map-append, map_more}
 use Rattle.c_tree.specs.declared.program.VarRef.{VarRef}
 use Rattle.c_tree.specs.View.{stmt_of}
 use Rattle.c_rules.specs.declared.fault.LimitName.{LimitName}
@@ -20,11 +20,8 @@ use Rattle.c_tree.specs.Uses.{statement_uses}
 use Rattle.c_frames.specs.FunctionView.{frame_lists, typed_function_of}
 use Rattle.c_rules.specs.Whole.{uses_of, earlier, first_among, missing_body, case_counts, all_cases, first_above, passed, IsOver}
 use Rattle.c_rules.specs.Chains.{IsRecursion}
+use Rattle.c_rules.proofs.Turns.{first_left}
 use Rattle.c_tree.specs.declared.limits.TheConstants.{MOST_CASES}
-
--- the element of a turn is the first of what is left
-first_left : {A : Type 0} (list : List A) (i : ℕ) (x : A) → x ≡ get_or list i x → i < length list → drop i list ≡ x ∷ drop (i + 1) list
-first_left list i x is below = drop_more list i x below ∙ ap (λ e. e ∷ drop (i + 1) list) (sym is)
 
 -- the uses of each function, by its place
 pub uses_at : (fs : List memory.TypedFunction) (lists : List (Vec Use Global)) (n : ℕ) (f : memory.TypedFunction) (us : Vec Use Global)

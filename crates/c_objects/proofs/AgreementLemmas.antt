@@ -1,9 +1,9 @@
 -- Turns of the loop over two lists of types.
-use Rattle.std.proofs.Common.{◌≡◌, ◌≢◌, ℕ, suc, ◌+◌, ◌<◌, ◌&&◌, Bool, true, false, List, [], ◌∷◌, drop, get_or, length, refl, ap, sym, ◌∙◌}
-use Rattle.std.proofs.lemmas.List.{drop_more}
+use Rattle.std.proofs.Common.{◌≡◌, ◌≢◌, ℕ, suc, ◌+◌, ◌<◌, ◌&&◌, Bool, true, false, List, [], ◌∷◌, drop, get_or, length, refl, ap, ◌∙◌}
 use Rattle.c_tree.specs.declared.program.ScalarType.{ScalarType}
 use Rattle.c_rules.specs.Kinds.{same_type}
 use Rattle.c_rules.specs.Units.{same_types}
+use Rattle.c_rules.proofs.Turns.{first_left}
 
 pub same_false : (b : Bool) → (b && false) ≡ false
 same_false true = refl
@@ -16,10 +16,6 @@ unlike_lengths [] (y ∷ ys) unlike = refl
 unlike_lengths (x ∷ xs) [] unlike = refl
 unlike_lengths (x ∷ xs) (y ∷ ys) unlike = ap (λ r. same_type x y && r) (unlike_lengths xs ys (λ e. unlike (ap suc e))) ∙ same_false (same_type x y)
 
--- the element of a turn is the first of what is left
-pub first_of : {A : Type 0} (list : List A) (i : ℕ) (x : A) → x ≡ get_or list i x → i < length list → drop i list ≡ x ∷ drop (i + 1) list
-first_of list i x is below = drop_more list i x below ∙ ap (λ e. e ∷ drop (i + 1) list) (sym is)
-
 pub same_turn : (a b : List ScalarType) (i : ℕ) (x y : ScalarType) → x ≡ get_or a i x → i < length a → y ≡ get_or b i y → i < length b → same_types (drop i a) (drop i b) ≡ (same_type x y && same_types (drop (i + 1) a) (drop (i + 1) b))
 same_turn a b i x y x_is x_below y_is y_below =
-    ap (λ l. same_types l (drop i b)) (first_of a i x x_is x_below) ∙ ap (same_types (x ∷ drop (i + 1) a)) (first_of b i y y_is y_below)
+    ap (λ l. same_types l (drop i b)) (first_left a i x x_is x_below) ∙ ap (same_types (x ∷ drop (i + 1) a)) (first_left b i y y_is y_below)

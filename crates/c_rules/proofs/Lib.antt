@@ -1,3 +1,4 @@
+pub mod Turns
 pub mod FrameNumbers
 pub mod OrderLemmas
 pub mod PlaceLemmas

@@ -1,5 +1,5 @@
 -- Turns of the loop over parameters.
-use Rattle.c_objects.proofs.AgreementLemmas.{first_of}
+use Rattle.c_rules.proofs.Turns.{first_left}
 use Rattle.std.proofs.Common.{◌≡◌, ℕ, ◌+◌, ◌<◌, ◌≤◌, List, [], ◌∷◌, map, drop, get_or, length, refl, ap, ◌∙◌, arith}
 use Rattle.std.proofs.Math.ListN.{drop_of_length-le}
 use Rattle.c_tree.specs.declared.program.ScalarType.{ScalarType}
@@ -14,8 +14,8 @@ use Rattle.c_rules.specs.Units.{with_parameters}
 -- parameters: one of a turn, and those behind the end of the shorter list
 pub parameter_declared : (s : Scope) (n : ℕ) (list : List Param) (kinds : List ScalarType) (i : ℕ) (p : Param) (kind : ScalarType) → p ≡ get_or list i p → i < length list → kind ≡ get_or kinds i kind → i < length kinds → with_parameters s n (map parameter_of (drop i list)) (drop i kinds) ≡ with_parameters (with_single s p.name (refs.Local n) kind) (n + 1) (map parameter_of (drop (i + 1) list)) (drop (i + 1) kinds)
 parameter_declared s n list kinds i p kind p_is p_below kind_is kind_below =
-    ap (λ l. with_parameters s n (map parameter_of l) (drop i kinds)) (first_of list i p p_is p_below)
-    ∙ ap (λ l. with_parameters s n (map parameter_of (p ∷ drop (i + 1) list)) l) (first_of kinds i kind kind_is kind_below)
+    ap (λ l. with_parameters s n (map parameter_of l) (drop i kinds)) (first_left list i p p_is p_below)
+    ∙ ap (λ l. with_parameters s n (map parameter_of (p ∷ drop (i + 1) list)) l) (first_left kinds i kind kind_is kind_below)
     ∙ ap (λ m. with_parameters (with_single s p.name (refs.Local n) kind) m (map parameter_of (drop (i + 1) list)) (drop (i + 1) kinds)) (omega arith)
 
 -- where no type is left, no parameter is declared

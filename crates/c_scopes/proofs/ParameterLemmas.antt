@@ -1,6 +1,5 @@
 -- A turn of the loop over parameters.
-use Rattle.std.proofs.Common.{◌≡◌, ℕ, ◌+◌, ◌<◌, List, [], ◌∷◌, ◌++◌, map, drop, get_or, length, refl, ap, sym, ◌∙◌, append_assoc}
-use Rattle.std.proofs.lemmas.List.{drop_more}
+use Rattle.std.proofs.Common.{◌≡◌, ℕ, ◌+◌, List, [], ◌∷◌, ◌++◌, map, refl, ap, sym, append_assoc}
 use Rattle.c_syntax.specs.declared.decl.Param.{Param}
 use Rattle.c_tree.specs.declared.program.ScalarType.{ScalarType}
 use Rattle.c_tree.specs.declared.program.VarRef.TheVariants as refs
@@ -17,10 +16,6 @@ use Rattle.c_rules.specs.Declarations.{parameter, parameters, with_single}
 one_more : (kinds : List ScalarType) (kind : ScalarType) (o : Outcome (List ScalarType)) → ((o >>= λ ks. Is (kind ∷ ks)) >>= λ ks. Is (kinds ++ ks)) ≡ (o >>= λ ks. Is ((kinds ++ kind ∷ []) ++ ks))
 one_more kinds kind (Is ks) = ap Is (sym (append_assoc kinds (kind ∷ []) ks))
 one_more kinds kind (Broken rule at) = refl
-
--- the element of a turn is the first of what is left
-pub first_left : (list : List Param) (i : ℕ) (p : Param) → p ≡ get_or list i p → i < length list → drop i list ≡ p ∷ drop (i + 1) list
-first_left list i p is below = drop_more list i p below ∙ ap (λ x. x ∷ drop (i + 1) list) (sym is)
 
 module _ (o : Outcome (List ScalarType)) (t : Scope) (naming : Naming) (p : Param) (ps rest : List Param) (kinds : List ScalarType) (so_far : o ≡ (parameters t naming (map parameter_of ps) >>= λ ks. Is (kinds ++ ks))) (split : ps ≡ p ∷ rest) where
   pub parameter_typed : (kind : ScalarType) (u : Scope) (more : List ScalarType) → parameter t naming (parameter_of p) ≡ Is kind → u ≡ with_single t p.name (refs.Local 0) kind → more ≡ kinds ++ kind ∷ [] → o ≡ (parameters u naming (map parameter_of rest) >>= λ ks. Is (more ++ ks))

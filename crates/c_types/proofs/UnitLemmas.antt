@@ -41,7 +41,8 @@ use Rattle.c_scopes.specs.Tables.{key_names}
 use Rattle.c_types.specs.View.{static_tree_of}
 use Rattle.c_frames.specs.FunctionView.{typed_function_of}
 use Rattle.c_rules.specs.Units.{File, StaticTree, Starts, starts, agrees, may_declare, with_declared, static_number, is_initialised, is_twice, untyped_rule, item_as, declared_as, with_parameters, with_list, with_static, set_list, file_item, file_items, external, externals, is_name_among, bodies_behind, with_function, with_body, parameter_locals}
-use Rattle.c_objects.proofs.AgreementLemmas.{same_false, first_of}
+use Rattle.c_objects.proofs.AgreementLemmas.{same_false}
+use Rattle.c_rules.proofs.Turns.{first_left}
 
 -- the names of a set with one more name
 module _ (name : Bor (List ℕ)) where
@@ -73,21 +74,21 @@ locals_ended {made = made} list kinds i past so_far =
 -- items of a declaration
 pub item_typed : (f g : File) (b : Base) (whole : Outcome File) (list : List Item) (i : ℕ) (item : Item) → item ≡ get_or list i item → i < length list → whole ≡ file_items f b (map item_of (drop i list)) → file_item f b (item_of item) ≡ Is g → whole ≡ file_items g b (map item_of (drop (i + 1) list))
 item_typed f g b whole list i item is below so_far h =
-    so_far ∙ ap (λ l. file_items f b (map item_of l)) (first_of list i item is below) ∙ ap (λ x. x >>= λ q. file_items q b (map item_of (drop (i + 1) list))) h
+    so_far ∙ ap (λ l. file_items f b (map item_of l)) (first_left list i item is below) ∙ ap (λ x. x >>= λ q. file_items q b (map item_of (drop (i + 1) list))) h
 
 pub item_refused : (f : File) (b : Base) (whole : Outcome File) (list : List Item) (i : ℕ) (item : Item) (refusal : Refusal) → item ≡ get_or list i item → i < length list → whole ≡ file_items f b (map item_of (drop i list)) → Refuses (file_item f b (item_of item)) refusal → Refuses whole refusal
 item_refused f b whole list i item (refusals.Broken rule at) is below so_far h =
-    so_far ∙ ap (λ l. file_items f b (map item_of l)) (first_of list i item is below) ∙ ap (λ x. x >>= λ q. file_items q b (map item_of (drop (i + 1) list))) h
+    so_far ∙ ap (λ l. file_items f b (map item_of l)) (first_left list i item is below) ∙ ap (λ x. x >>= λ q. file_items q b (map item_of (drop (i + 1) list))) h
 item_refused f b whole list i item refusals.NoMemory is below so_far h = tt {0}
 
 -- externals
 pub external_typed : (f g : File) (whole : Outcome File) (list : List External) (i : ℕ) (x : External) → x ≡ get_or list i x → i < length list → whole ≡ externals f (unit_of (drop i list)) → external f (external_of x) ≡ Is g → whole ≡ externals g (unit_of (drop (i + 1) list))
 external_typed f g whole list i x is below so_far h =
-    so_far ∙ ap (λ l. externals f (unit_of l)) (first_of list i x is below) ∙ ap (λ o. o >>= λ q. externals q (unit_of (drop (i + 1) list))) h
+    so_far ∙ ap (λ l. externals f (unit_of l)) (first_left list i x is below) ∙ ap (λ o. o >>= λ q. externals q (unit_of (drop (i + 1) list))) h
 
 pub external_refused : (f : File) (whole : Outcome File) (list : List External) (i : ℕ) (x : External) (refusal : Refusal) → x ≡ get_or list i x → i < length list → whole ≡ externals f (unit_of (drop i list)) → Refuses (external f (external_of x)) refusal → Refuses whole refusal
 external_refused f whole list i x (refusals.Broken rule at) is below so_far h =
-    so_far ∙ ap (λ l. externals f (unit_of l)) (first_of list i x is below) ∙ ap (λ o. o >>= λ q. externals q (unit_of (drop (i + 1) list))) h
+    so_far ∙ ap (λ l. externals f (unit_of l)) (first_left list i x is below) ∙ ap (λ o. o >>= λ q. externals q (unit_of (drop (i + 1) list))) h
 external_refused f whole list i x refusals.NoMemory is below so_far h = tt {0}
 
 abbrev broken : Rule → ℕ → Outcome File
@@ -217,7 +218,7 @@ module _ (file : File) (f : FunctionSyntax) (result : Kind) (kinds : List Scalar
 -- an external among those that may be functions with bodies
 module _ (list : List External) (i : ℕ) (x : External) (is : x ≡ get_or list i x) (below : i < length list) where
   bodies_from : (names : List (List ℕ)) → bodies_behind names (unit_of (drop i list)) ≡ bodies_behind names (external_of x ∷ unit_of (drop (i + 1) list))
-  bodies_from names = ap (λ l. bodies_behind names (unit_of l)) (first_of list i x is below)
+  bodies_from names = ap (λ l. bodies_behind names (unit_of l)) (first_left list i x is below)
 
   pub declaration_passed : (d : Decl) (names : List (List ℕ)) → x ≡ externals_of.Declaration d → bodies_behind names (unit_of (drop i list)) ≡ bodies_behind names (unit_of (drop (i + 1) list))
   declaration_passed d names declared = bodies_from names ∙ ap (λ y. bodies_behind names (external_of y ∷ unit_of (drop (i + 1) list))) declared
