@@ -8,7 +8,7 @@ ghost use Rattle.c_rules.specs.Outcome.{Is};
 ghost use Rattle.c_rules.specs.Statements.{with_object};
 ghost use Rattle.c_scopes.specs.Tables.{scope_of, tables_of, around_of};
 
-use crate::call_arguments::word_at;
+use crate::call_arguments::word_of;
 use crate::expressions::constant_tree;
 use crate::scopes::Scopes;
 use c_objects::{
@@ -26,7 +26,7 @@ pub(crate) fn length(scopes: &Scopes<'_>, e: &Expr) -> Result<Option<u16>, Refus
     ensures refused { IfErr result (Refuses (rules.typed_length (scope_of scopes.now) (expression_of e.now))) }
 {
     let value = constant_tree(scopes, e)?;
-    let word = word_at(e, &value)?;
+    let word = word_of(e, value)?;
     Ok(length_within(word))
 }
 
