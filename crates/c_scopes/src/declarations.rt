@@ -7,7 +7,7 @@ ghost use Rattle.c_rules.specs.Declarations as rules;
 ghost use Rattle.c_rules.specs.Statements.{with_named_object};
 ghost use Rattle.c_scopes.specs.Tables.{scope_of, tables_of, around_of};
 
-use crate::call_arguments::word_at;
+use crate::call_arguments::word_of;
 use crate::expressions::constant_tree;
 use crate::scopes::Scopes;
 use c_objects::{
@@ -24,7 +24,7 @@ pub(crate) fn length(scopes: &Scopes<'_>, e: &Expr) -> Result<Option<u16>, Refus
     ensures { Follows (λ n. n) (rules.typed_length (scope_of scopes.now) (expression_of e.now)) result }
 {
     let value = constant_tree(scopes, e)?;
-    let word = word_at(e, &value)?;
+    let word = word_of(e, value)?;
     Ok(length_within(word))
 }
 

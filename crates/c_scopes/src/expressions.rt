@@ -13,7 +13,7 @@ ghost use Rattle.c_scopes.specs.ArgumentView.{arguments_of};
 ghost use Rattle.c_scopes.specs.Tables.{scope_of};
 ghost use Rattle.c_rules.specs.Typing as rules;
 
-use crate::call_arguments::{Arguments, call_of, constant_call_of, word_at};
+use crate::call_arguments::{Arguments, call_of, constant_call_of, word_of};
 use crate::names::named;
 use crate::scopes::{Scopes, is_in, is_out};
 use c_objects::{is_null, type_named};
@@ -70,6 +70,16 @@ pub fn operand(scopes: &Scopes<'_>, e: &Expr) -> Result<Operand, Refusal>
     Ok(Operand { value, null })
 }
 
+// The typed tree of an expression, in a box: while another is typed, it stays closed.
+#[cycle(expressions)]
+fn boxed(scopes: &Scopes<'_>, e: &Expr) -> Result<Box<TypedExpr>, Refusal>
+    ensures typed { IfOk result (λ x. rules.typing (scope_of scopes.now) (expression_of e.now) ≡ Is (expr_of x.value)) }
+    ensures refused { IfErr result (Refuses (rules.typing (scope_of scopes.now) (expression_of e.now))) }
+{
+    let typed = expression(scopes, e)?;
+    Ok(Box::new(scopes.alloc, typed)?)
+}
+
 #[cycle(expressions)]
 fn subscript(
     scopes: &Scopes<'_>,
@@ -79,9 +89,9 @@ fn subscript(
 ) -> Result<TypedExpr, Refusal>
     ensures { Follows expr_of (rules.typing_form (scope_of scopes.now) (tree.Index (expression_of operand.now) (expression_of index.now)) at) result }
 {
-    let left = expression(scopes, operand)?;
+    let left = boxed(scopes, operand)?;
     let right = expression(scopes, index)?;
-    indexed(scopes.alloc, at, left, right)
+    indexed(scopes.alloc, at, Box::into_inner(left), right)
 }
 
 #[cycle(expressions)]
@@ -115,7 +125,9 @@ fn size(scopes: &Scopes<'_>, at: u32, operand: &Expr) -> Result<TypedExpr, Refus
     ensures { Follows expr_of (rules.typing_form (scope_of scopes.now) (tree.SizeofValue (expression_of operand.now)) at) result }
 {
     let value = expression(scopes, operand)?;
-    sized(scopes.array_length(operand), at, &value)
+    let typed = sized(scopes.array_length(operand), at, &value);
+    drop(value);
+    typed
 }
 
 #[cycle(expressions)]
@@ -137,27 +149,27 @@ fn binary(
 ) -> Result<TypedExpr, Refusal>
     ensures { Follows expr_of (rules.typing_form (scope_of scopes.now) (tree.Binary op (expression_of left.now) (expression_of right.now)) at) result }
 {
-    let left = operand(scopes, left)?;
+    let value = boxed(scopes, left)?;
     let right = operand(scopes, right)?;
-    c_operands::binary(scopes.alloc, op, at, left, right)
+    c_operands::binary(scopes.alloc, op, at, unboxed(left, value), right)
 }
 
 #[cycle(expressions)]
 fn both(scopes: &Scopes<'_>, at: u32, left: &Expr, right: &Expr) -> Result<TypedExpr, Refusal>
     ensures { Follows expr_of (rules.typing_form (scope_of scopes.now) (tree.And (expression_of left.now) (expression_of right.now)) at) result }
 {
-    let left = expression(scopes, left)?;
+    let left = boxed(scopes, left)?;
     let right = expression(scopes, right)?;
-    both_true(scopes.alloc, at, left, right)
+    both_true(scopes.alloc, at, Box::into_inner(left), right)
 }
 
 #[cycle(expressions)]
 fn either(scopes: &Scopes<'_>, at: u32, left: &Expr, right: &Expr) -> Result<TypedExpr, Refusal>
     ensures { Follows expr_of (rules.typing_form (scope_of scopes.now) (tree.Or (expression_of left.now) (expression_of right.now)) at) result }
 {
-    let left = expression(scopes, left)?;
+    let left = boxed(scopes, left)?;
     let right = expression(scopes, right)?;
-    either_true(scopes.alloc, at, left, right)
+    either_true(scopes.alloc, at, Box::into_inner(left), right)
 }
 
 #[cycle(expressions)]
@@ -170,19 +182,25 @@ fn conditional(
 ) -> Result<TypedExpr, Refusal>
     ensures { Follows expr_of (rules.typing_form (scope_of scopes.now) (tree.Conditional (expression_of test.now) (expression_of yes.now) (expression_of no.now)) at) result }
 {
-    let test = expression(scopes, test)?;
-    let yes = operand(scopes, yes)?;
+    let test = boxed(scopes, test)?;
+    let value = boxed(scopes, yes)?;
     let no = operand(scopes, no)?;
-    picked(scopes.alloc, at, test, yes, no)
+    picked(
+        scopes.alloc,
+        at,
+        Box::into_inner(test),
+        unboxed(yes, value),
+        no,
+    )
 }
 
 #[cycle(expressions)]
 fn assignment(scopes: &Scopes<'_>, at: u32, left: &Expr, right: &Expr) -> Result<TypedExpr, Refusal>
     ensures { Follows expr_of (rules.typing_form (scope_of scopes.now) (tree.Assign (expression_of left.now) (expression_of right.now)) at) result }
 {
-    let to = expression(scopes, left)?;
+    let to = boxed(scopes, left)?;
     let value = operand(scopes, right)?;
-    let written = assigned(scopes.alloc, at, to, value)?;
+    let written = assigned(scopes.alloc, at, Box::into_inner(to), value)?;
     of_object(is_address(left), at, written)
 }
 
@@ -196,9 +214,9 @@ fn assignment_by(
 ) -> Result<TypedExpr, Refusal>
     ensures { Follows expr_of (rules.typing_form (scope_of scopes.now) (tree.AssignOp op (expression_of left.now) (expression_of right.now)) at) result }
 {
-    let to = expression(scopes, left)?;
+    let to = boxed(scopes, left)?;
     let value = expression(scopes, right)?;
-    let written = assigned_by(scopes.alloc, op, at, to, value)?;
+    let written = assigned_by(scopes.alloc, op, at, Box::into_inner(to), value)?;
     of_object(is_address(left), at, written)
 }
 
@@ -206,9 +224,9 @@ fn assignment_by(
 fn comma(scopes: &Scopes<'_>, at: u32, left: &Expr, right: &Expr) -> Result<TypedExpr, Refusal>
     ensures { Follows expr_of (rules.typing_form (scope_of scopes.now) (tree.Comma (expression_of left.now) (expression_of right.now)) at) result }
 {
-    let left = expression(scopes, left)?;
+    let left = boxed(scopes, left)?;
     let right = expression(scopes, right)?;
-    behind(scopes.alloc, at, left, right)
+    behind(scopes.alloc, at, Box::into_inner(left), right)
 }
 
 // The typed tree of a call.
@@ -240,9 +258,10 @@ fn port_arguments(scopes: &Scopes<'_>, list: &[Expr]) -> Result<Arguments, Refus
         return Ok(Arguments::NoPort);
     };
     let value = constant_tree(scopes, first)?;
-    let port = word_at(first, &value)?;
+    let class = class_of(value.kind);
+    let port = word_of(first, value)?;
     Ok(Arguments::Port {
-        class: class_of(value.kind),
+        class,
         port,
         behind: operands(scopes, rest)?,
     })
@@ -295,6 +314,17 @@ fn character(value: u16, at: u32) -> TypedExpr
         form: ExprForm::Const(value),
         kind: Some(INT),
         at,
+    }
+}
+
+// The operand of a value that was put in a box.
+fn unboxed(e: &Expr, value: Box<TypedExpr>) -> Operand
+    ensures value { result.value ≡ value.value }
+    ensures null { result.null ≡ rules.is_null (expression_of e.now) }
+{
+    Operand {
+        value: Box::into_inner(value),
+        null: is_null(e),
     }
 }
 
@@ -363,6 +393,7 @@ fn of_object(no_object: bool, at: u32, typed: TypedExpr) -> Result<TypedExpr, Re
     ensures { Follows expr_of (rules.of_object no_object at (expr_of typed)) result }
 {
     if no_object {
+        drop(typed);
         return Err(not_lvalue(at));
     }
     Ok(typed)

@@ -118,10 +118,13 @@ pub(crate) fn entry(scopes: &Scopes<'_>, e: &Expr) -> Result<Entry, Refusal>
     ensures { Follows entry_of (rules.entry (scope_of scopes.now) (expression_of e.now)) result }
 {
     let value = constant_tree(scopes, e)?;
-    let initial = static_value(scopes, e, &value).ok_or(Refusal::Broken {
-        rule: Rule::NotConstant,
-        at: e.at,
-    })?;
+    let Some(initial) = static_value(scopes, e, &value) else {
+        drop(value);
+        return Err(Refusal::Broken {
+            rule: Rule::NotConstant,
+            at: e.at,
+        });
+    };
     let null = is_null(e);
     Ok(Entry {
         operand: Operand { value, null },
@@ -145,7 +148,7 @@ fn all_typed(scopes: &Scopes<'_>, list: &[Expr]) -> Result<(), Refusal>
     ensures { Follows (λ _. blocks.Misbraced) (blocks.all_typed (scope_of scopes.now) (map expression_of list.now)) result }
 {
     for e in list {
-        expression(scopes, e)?;
+        drop(expression(scopes, e)?);
     }
     Ok(())
 }

@@ -12,6 +12,9 @@ decreases-expression l = 8 * size-ExprKind l.e.now.kind
 abbrev pub decreases-operand : goal.decreases-operand
 decreases-operand l = 8 * size-ExprKind l.e.now.kind + 1
 
+abbrev pub decreases-boxed : goal.decreases-boxed
+decreases-boxed l = 8 * size-ExprKind l.e.now.kind + 1
+
 abbrev pub decreases-subscript : goal.decreases-subscript
 decreases-subscript l = 8 * max (size-ExprKind l.operand.now.kind) (size-ExprKind l.index.now.kind) + 2
 
