@@ -17,7 +17,7 @@ ghost use Rattle.c_expressions.specs.Refusals.{Refuses};
 
 use crate::fault::Refusal;
 use crate::operators::{Assignment, Infix, Level, assignment_of, infix_of};
-use crate::parser::{Parsed, Parser};
+use crate::parser::{Parsed, Parser, boxed};
 use c_syntax::{ExprKind, Punct, TypeName};
 
 impl<'a> Parser<'a> {
@@ -64,11 +64,8 @@ impl<'a> Parser<'a> {
     {
         let parts = left.height.max(right.height);
         let at = left.at;
-        let kind = ExprKind::Comma {
-            left: Box::new(self.alloc, left.tree)?,
-            right: Box::new(self.alloc, right.tree)?,
-        };
-        Ok(Parsed::node(kind, parts, at, false))
+        let (left, right) = boxed(self.alloc, left.tree, right.tree)?;
+        Ok(Parsed::node(ExprKind::Comma { left, right }, parts, at, false))
     }
 
     /// The row `assignment`.
@@ -134,8 +131,7 @@ impl<'a> Parser<'a> {
     {
         let parts = left.height.max(right.height);
         let at = left.at;
-        let left = Box::new(self.alloc, left.tree)?;
-        let right = Box::new(self.alloc, right.tree)?;
+        let (left, right) = boxed(self.alloc, left.tree, right.tree)?;
         match assignment {
             Assignment::Plain => Ok(Parsed::node(
                 ExprKind::Assign { left, right },
@@ -197,10 +193,11 @@ impl<'a> Parser<'a> {
     {
         let parts = test.height.max(yes.height.max(no.height));
         let at = test.at;
+        let (yes, no) = boxed(self.alloc, yes.tree, no.tree)?;
         let kind = ExprKind::Conditional {
             test: Box::new(self.alloc, test.tree)?,
-            yes: Box::new(self.alloc, yes.tree)?,
-            no: Box::new(self.alloc, no.tree)?,
+            yes,
+            no,
         };
         Ok(Parsed::node(kind, parts, at, false))
     }
@@ -264,8 +261,7 @@ impl<'a> Parser<'a> {
     {
         let parts = left.height.max(right.height);
         let at = left.at;
-        let left = Box::new(self.alloc, left.tree)?;
-        let right = Box::new(self.alloc, right.tree)?;
+        let (left, right) = boxed(self.alloc, left.tree, right.tree)?;
         match operator {
             Infix::Or => Ok(Parsed::node(ExprKind::Or { left, right }, parts, at, false)),
             Infix::And => Ok(Parsed::node(ExprKind::And { left, right }, parts, at, false)),

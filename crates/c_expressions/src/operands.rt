@@ -15,7 +15,7 @@ ghost use Rattle.c_expressions.specs.Refusals.{Refuses};
 
 use crate::fault::Refusal;
 use crate::operators::{prefix_of, step_of};
-use crate::parser::{Arguments, Parsed, Parser};
+use crate::parser::{Arguments, Parsed, Parser, boxed};
 use c_syntax::{Expr, ExprKind, Keyword, PrefixOp, Punct, TokenKind, TypeName};
 use word_base::Text;
 
@@ -209,11 +209,8 @@ impl<'a> Parser<'a> {
     {
         let parts = left.height.max(index.height);
         let at = left.at;
-        let kind = ExprKind::Index {
-            operand: Box::new(self.alloc, left.tree)?,
-            index: Box::new(self.alloc, index.tree)?,
-        };
-        Ok(Parsed::node(kind, parts, at, true))
+        let (operand, index) = boxed(self.alloc, left.tree, index.tree)?;
+        Ok(Parsed::node(ExprKind::Index { operand, index }, parts, at, true))
     }
 
     // A step behind its operand.

@@ -2,6 +2,7 @@
 ghost use Rattle.std.specs.Prelude.{◌≡◌, ◌↔◌, ◌+◌, ◌<◌, ◌≤◌, ◌^◌, true, length, IfOk, IfErr, None};
 ghost use Rattle.c_syntax.specs.Measures.{greatest_height};
 ghost use Rattle.c_syntax.specs.SyntaxView.{specs_of, type_of};
+ghost use Rattle.c_expressions.specs.declared.fault.Refusal.TheVariants as refusals;
 ghost use Rattle.c_expressions.specs.Parses.{ReadsSpecs, ReadsStars, ReadsType};
 ghost use Rattle.c_expressions.specs.Refusals.{Refuses};
 ghost use Rattle.c_syntax.specs.Lookahead.{spec_of};
@@ -45,6 +46,19 @@ pub(crate) struct Arguments {
     pub(crate) list: Vec<Expr>,
     /// The height of the highest, or 0 where there is none.
     pub(crate) height: u32,
+}
+
+/// Two trees in boxes. Their types are parameters, so a proof needn't open the tree that is dropped where memory is wanting.
+pub(crate) fn boxed<T: Drop, U: Drop>(
+    alloc: Global,
+    first: T,
+    second: U,
+) -> Result<(Box<T>, Box<U>), Refusal>
+    ensures first { IfOk result (λ boxes. boxes.0.value ≡ first) }
+    ensures second { IfOk result (λ boxes. boxes.1.value ≡ second) }
+    ensures memory { IfErr result (λ f. f ≡ refusals.NoMemory) }
+{
+    Ok((Box::new(alloc, first)?, Box::new(alloc, second)?))
 }
 
 impl Parsed {
