@@ -252,6 +252,7 @@ pub fn picked(
     ensures typed { IfOk result (λ e. rules.picked at (expr_of test) (operand_of yes) (operand_of no) ≡ Is (expr_of e)) }
     ensures refused { IfErr result (Refuses (rules.picked at (expr_of test) (operand_of yes) (operand_of no))) }
 {
+    // All three are boxed before it is looked whether there was memory.
     let test = in_box(alloc, test);
     let pair = boxed(alloc, yes.value, no.value)?;
     let test = test?;
