@@ -30,8 +30,8 @@ pub(crate) fn in_box(alloc: Global, e: TypedExpr) -> Result<Box<TypedExpr>, Refu
     Ok(Box::new(alloc, e)?)
 }
 
-/// A value as one of this type: a conversion stands where the types differ.
-pub(crate) fn converted(alloc: Global, kind: ScalarType, e: TypedExpr) -> Result<TypedExpr, Refusal>
+// A value as one of this type: a conversion stands where the types differ.
+fn converted(alloc: Global, kind: ScalarType, e: TypedExpr) -> Result<TypedExpr, Refusal>
     ensures typed { IfOk result (λ x. expr_of x ≡ rules.converted kind (expr_of e)) }
     ensures memory { IfErr result (λ f. f ≡ refusals.NoMemory) }
 {

@@ -238,6 +238,7 @@ pub fn picked(
 ) -> Result<TypedExpr, Refusal>
     ensures { Follows expr_of (rules.picked at (expr_of test) (operand_of yes) (operand_of no)) result }
 {
+    // All three are boxed before it is looked whether there was memory.
     let test = in_box(alloc, test);
     let pair = boxed(alloc, yes.value, no.value)?;
     let test = test?;

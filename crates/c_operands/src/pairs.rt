@@ -35,7 +35,7 @@ pub(crate) fn boxed(alloc: Global, left: TypedExpr, right: TypedExpr) -> Result<
 }
 
 // A value as one of this type: a conversion stands where the types differ.
-fn converted(alloc: Global, kind: ScalarType, e: Box<TypedExpr>) -> Result<Box<TypedExpr>, Refusal>
+fn as_kind(alloc: Global, kind: ScalarType, e: Box<TypedExpr>) -> Result<Box<TypedExpr>, Refusal>
     ensures typed { IfOk result (λ x. expr_of x.value ≡ rules.converted kind (expr_of e.value)) }
     ensures memory { IfErr result (λ f. f ≡ refusals.NoMemory) }
 {
@@ -52,8 +52,8 @@ pub(crate) fn balanced(alloc: Global, pair: Pair) -> Result<Pair, Refusal>
     ensures memory { IfErr result (λ f. f ≡ refusals.NoMemory) }
 {
     let kind = common_of(pair.left.kind, pair.right.kind);
-    let left = converted(alloc, kind, pair.left)?;
-    let right = converted(alloc, kind, pair.right)?;
+    let left = as_kind(alloc, kind, pair.left)?;
+    let right = as_kind(alloc, kind, pair.right)?;
     Ok(Pair { left, right })
 }
 
@@ -87,7 +87,7 @@ fn converted_like(
     ensures memory { IfErr result (λ f. f ≡ refusals.NoMemory) }
 {
     match x.kind {
-        Some(kind) => converted(alloc, kind, y),
+        Some(kind) => as_kind(alloc, kind, y),
         None => Ok(y),
     }
 }

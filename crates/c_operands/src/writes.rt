@@ -30,6 +30,7 @@ pub fn not_lvalue(at: u32) -> Refusal
 }
 
 // What may be written: the object of a name, or what a pointer points to. `at` is the place of the node that writes.
+// Callers ask for it first and look at the answer last, so that no tree by value is left where another rule is broken.
 fn target_of(at: u32, e: TypedExpr) -> Result<Target, Refusal>
     ensures target { IfOk result (λ t. rules.lvalue_of (expr_of e) ≡ Some (lvalue_of t.form t.at)) }
     ensures none { IfErr result (λ _. rules.lvalue_of (expr_of e) ≡ None) }
