@@ -105,8 +105,7 @@ fn is_of_calls(rule: Rule) -> bool
 
 /// The word of an expression that has to be constant, whose tree isn't wanted further.
 pub(crate) fn word_of(e: &Expr, value: TypedExpr) -> Result<u16, Refusal>
-    ensures word { IfOk result (λ w. rules.word_at (expression_of e.now) (expr_of value) ≡ Is w) }
-    ensures refused { IfErr result (Refuses (rules.word_at (expression_of e.now) (expr_of value))) }
+    ensures { Follows (λ w. w) (rules.word_at (expression_of e.now) (expr_of value)) result }
 {
     let word = word_at(e, &value);
     drop(value);

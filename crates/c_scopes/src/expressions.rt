@@ -73,8 +73,7 @@ pub fn operand(scopes: &Scopes<'_>, e: &Expr) -> Result<Operand, Refusal>
 // The typed tree of an expression, in a box: while another is typed, it stays closed.
 #[cycle(expressions)]
 fn boxed(scopes: &Scopes<'_>, e: &Expr) -> Result<Box<TypedExpr>, Refusal>
-    ensures typed { IfOk result (λ x. rules.typing (scope_of scopes.now) (expression_of e.now) ≡ Is (expr_of x.value)) }
-    ensures refused { IfErr result (Refuses (rules.typing (scope_of scopes.now) (expression_of e.now))) }
+    ensures { Follows (λ x. expr_of x.value) (rules.typing (scope_of scopes.now) (expression_of e.now)) result }
 {
     let typed = expression(scopes, e)?;
     Ok(Box::new(scopes.alloc, typed)?)
