@@ -12,16 +12,16 @@ use Rattle.cc_text.specs.SourceFaults.{source_line}
 use Rattle.cc_text.specs.declared.fault.MeansFault.{MeansFault}
 use Rattle.cc_text.specs.declared.fault.MeansFault.TheVariants as means
 
-abbrev pub kind_name : UndefinedKind → List ℕ
-kind_name kinds.Overflow = codes "overflow"
-kind_name kinds.DivideByZero = codes "divide by zero"
-kind_name kinds.ShiftCount = codes "shift count"
-kind_name kinds.Indeterminate = codes "indeterminate"
-kind_name kinds.BadPointer = codes "bad pointer"
-kind_name kinds.NoValue = codes "no value"
+abbrev pub undefined_kind_name : UndefinedKind → List ℕ
+undefined_kind_name kinds.Overflow = codes "overflow"
+undefined_kind_name kinds.DivideByZero = codes "divide by zero"
+undefined_kind_name kinds.ShiftCount = codes "shift count"
+undefined_kind_name kinds.Indeterminate = codes "indeterminate"
+undefined_kind_name kinds.BadPointer = codes "bad pointer"
+undefined_kind_name kinds.NoValue = codes "no value"
 
 abbrev pub undefined_line : UndefinedKind → ℕ → List ℕ
-undefined_line kind at = codes "undefined " ++ (kind_name kind ++ (codes " at byte " ++ decimal at))
+undefined_line kind at = codes "undefined " ++ (undefined_kind_name kind ++ (codes " at byte " ++ decimal at))
 
 -- the line behind the outputs, where loops had so many turns
 abbrev pub outcome_line : ℕ → Outcome → List ℕ

@@ -1,6 +1,6 @@
 //! The text of what a source means.
 ghost use Rattle.std.specs.Prelude.{◌≡◌, ◌++◌, IfOk, OnOk};
-ghost use Rattle.cc_text.specs.MeansText.{kind_name, undefined_line, outcome_line, outcome_text};
+ghost use Rattle.cc_text.specs.MeansText.{undefined_kind_name, undefined_line, outcome_line, outcome_text};
 ghost use Rattle.word_base.specs.Outcome.{outputs_of};
 
 use crate::run_text::{push_ending, push_running};
@@ -8,8 +8,8 @@ use c25_image::{push_decimal, write_outs};
 use std::alloc::Global;
 use word_base::{NoMemory, Outcome, PortWord, UndefinedKind};
 
-fn kind_name(kind: UndefinedKind) -> &'static str
-    ensures { result.now ≡ kind_name kind }
+fn undefined_kind_name(kind: UndefinedKind) -> &'static str
+    ensures { result.now ≡ undefined_kind_name kind }
 {
     match kind {
         UndefinedKind::Overflow => "overflow",
@@ -26,7 +26,7 @@ fn push_undefined(text: &mut Vec<u8>, kind: UndefinedKind, at: u32) -> Result<()
     ensures { OnOk result (text.new.items ≡ text.old.items ++ undefined_line kind at) }
 {
     text.extend_from_slice(b"undefined ")?;
-    text.extend_from_slice(kind_name(kind).as_bytes())?;
+    text.extend_from_slice(undefined_kind_name(kind).as_bytes())?;
     text.extend_from_slice(b" at byte ")?;
     push_decimal(text, u64::from(at))?;
     Ok(())
