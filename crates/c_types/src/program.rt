@@ -49,12 +49,12 @@ fn objects(alloc: Global, statics: Vec<Static>) -> Result<Vec<Object>, NoMemory>
 {
     let mut objects = Vec::new(alloc);
     for object in statics {
-        objects.push(object_tree(alloc, object))?;
+        objects.push(static_object(alloc, object))?;
     }
     Ok(objects)
 }
 
-fn object_tree(alloc: Global, object: Static) -> Object
+fn static_object(alloc: Global, object: Static) -> Object
     ensures { object_of result ≡ object_tree (static_tree_of object) }
 {
     let (kind, length) = match object.object_type {

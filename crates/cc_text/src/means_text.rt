@@ -8,7 +8,7 @@ use c25_image::{push_decimal, write_outs};
 use std::alloc::Global;
 use word_base::{NoMemory, Outcome, PortWord, UndefinedKind};
 
-fn undefined_kind_name(kind: UndefinedKind) -> &'static str
+fn kind_name(kind: UndefinedKind) -> &'static str
     ensures { result.now ≡ undefined_kind_name kind }
 {
     match kind {
@@ -26,7 +26,7 @@ fn push_undefined(text: &mut Vec<u8>, kind: UndefinedKind, at: u32) -> Result<()
     ensures { OnOk result (text.new.items ≡ text.old.items ++ undefined_line kind at) }
 {
     text.extend_from_slice(b"undefined ")?;
-    text.extend_from_slice(undefined_kind_name(kind).as_bytes())?;
+    text.extend_from_slice(kind_name(kind).as_bytes())?;
     text.extend_from_slice(b" at byte ")?;
     push_decimal(text, u64::from(at))?;
     Ok(())

@@ -59,7 +59,7 @@ impl Thin {
 }
 
 // The word of a constant of a type of integers.
-fn thin_constant(e: &TypedExpr) -> Option<u16>
+fn constant(e: &TypedExpr) -> Option<u16>
     ensures { MatchOption result
         ((word at : ℕ) (base : Base) → expr_of e.now ≢ thin_constant word base at)
         (λ word. (word < 65536) × ((base : Base) × (expr_of e.now ≡ thin_constant word base e.now.at))) }
@@ -93,7 +93,7 @@ fn output(stmt: &TypedStmt) -> Option<(u8, u16)>
         × (stmt_of stmt.now ≡ Do_expr (Node (Out put.0 (thin_constant put.1 base word_at)) kind at)))) }
 {
     let (port, value) = put_by(stmt)?;
-    let word = thin_constant(value)?;
+    let word = constant(value)?;
     if port < 16 { Some((port, word)) } else { None }
 }
 
@@ -107,7 +107,7 @@ fn answer(stmt: &TypedStmt) -> Option<u16>
         return None;
     };
     match value {
-        Some(value) => thin_constant(value),
+        Some(value) => constant(value),
         None => None,
     }
 }

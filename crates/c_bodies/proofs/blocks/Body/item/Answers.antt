@@ -17,8 +17,8 @@ returns-in-Function-clause-follows c =
     c.in_ok-initialiser.ensures c.as_str-name.ensures (sym c.is_taken-is_taken.ensures ∙ c.if-is_taken.false)
     c.function_in_block.ensures
 
-pub returns-in-Object-clause-follows : goal.returns-in-Object-clause-follows
-returns-in-Object-clause-follows c =
+pub returns-clause-follows : goal.returns-clause-follows
+returns-clause-follows c =
     let o = opened_of c.args.self.now c.args.opening.now in
     let len_is : vec_len c.args.self.now.locals ≡ length c.args.self.now.locals.items = search (rules, c.args.self.now.locals.ok) in
     let count : c.in-Ok.number ≡ length o.locals = c.in-Ok.ensures.1 ∙ c.len.ensures ∙ len_is ∙ sym (length-map c.args.self.now.locals.items local_tree_of) in
