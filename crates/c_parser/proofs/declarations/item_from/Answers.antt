@@ -1,4 +1,4 @@
-use Rattle.std.proofs.Common.{◌≤◌, ap, length, arith}
+use Rattle.std.proofs.Common.{ap, arith}
 use Rattle.c_syntax.specs.declared.decl.ItemKind.{ItemKind}
 use Rattle.c_syntax.specs.SyntaxTree.{ItemTree}
 use Rattle.c_syntax.specs.Measures.{item_form_height}
