@@ -2,7 +2,7 @@
 use Rattle.std.proofs.Common.{◌≡◌, ◌≢◌, ℕ, ◌+◌, ◌<◌, ◌≤◌, ◌&&◌, ◌||◌, Bool, true, false, if◌then◌else◌, List, [], ◌∷◌, ◌++◌, map, set, drop, get_or, length, Option, Some, None, is_some, is_none, option_map, true≢false, not, Bor, subst, refl, ap, sym, ◌∙◌, append-nil}
 use Rattle.std.specs.Str.{bytes_eq}
 use Rattle.std.specs.List.{list_any}
-use Rattle.std.specs.Prelude.{slice_get, slice_set}
+use Rattle.std.specs.Prelude.{Result, slice_get, slice_set}
 use Rattle.std.proofs.Math.ListN.{drop_of_length-le}
 use Rattle.std.proofs.lemmas.Cmp.{nat_list_eq_equiv}
 use Rattle.std.proofs.lemmas.List.{map-append, map-set}
@@ -33,7 +33,8 @@ use Rattle.c_rules.specs.declared.meaning.Meaning.TheVariants as meanings
 use Rattle.c_rules.specs.declared.meaning.ObjectType.{ObjectType}
 use Rattle.c_types.specs.declared.units.Static as memory
 use Rattle.c_frames.specs.declared.functions.TypedFunction as functions
-use Rattle.c_rules.specs.Answers.{Refuses}
+use Rattle.c_rules.specs.Answers.{Follows, Refuses}
+use Rattle.c_rules.specs.Declarations.{declarator}
 use Rattle.c_rules.specs.Outcome.{Outcome, Is, Broken, ◌>>=◌, breaks}
 use Rattle.c_rules.specs.Scopes.{Scope, open_scope, is_in, is_out}
 use Rattle.c_rules.specs.Statements.{LocalTree, Typed, typed_body}
@@ -119,6 +120,12 @@ module _ (f : File) (item : ItemTree) where
   pub untyped_refuses : (i : Starts) (refusal : Refusal) → starts f.scope item.initial ≡ Is i → refusal ≡ refusals.Broken (untyped_rule f.scope item.name) item.at → Refuses (item_as f declares.Untyped item) refusal
   untyped_refuses i refusal h is =
       subst (Refuses (item_as f declares.Untyped item)) (sym is) (untyped_item ∙ ap (λ o. o >>= λ j. broken (untyped_rule f.scope item.name) item.at) h)
+
+-- an item by what its declarator gives, which leaves the scope as it was
+pub item_follows : {T : Type 0} (f g h : File) (b : Base) (item : ItemTree) (d : Declared) (r : Result T Refusal) → declarator f.scope b item.form item.stars item.initial ≡ Is d → g ≡ f
+    → Follows (λ _. h) (item_as g d item) r → Follows (λ _. h) (file_item f b item) r
+item_follows f g h b item d r typed same known =
+    subst (λ o. Follows (λ _. h) o r) (ap (λ k. item_as k d item) same ∙ sym (ap (λ o. o >>= λ e. item_as f e item) typed)) known
 
 -- an item of this type, in the scope behind its declarator
 module _ (f : File) (item : ItemTree) (d : Declared) (s : Scope) (name : List ℕ) (n : ℕ) (allowed twice : Bool) (named : name ≡ item.name) (numbered : n ≡ length f.statics) (is : s ≡ with_declared f.scope name n d) (may : allowed ≡ may_declare f.scope name d) (again : twice ≡ is_twice f item) where
