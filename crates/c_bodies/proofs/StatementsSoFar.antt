@@ -74,16 +74,16 @@ while_rest b n c e s at x p test h = sym
     ∙ ap (λ o. o >>= λ p. breaks (is_void (kind_of x)) Mismatch at (just (While x p.tree) p.locals)) h)
 
 pub for_rest : (b n : Body) (c : Enclosing) (first test third : Option Expression) (s : Statement) (at : ℕ) (head : ForHead) (p : typed.Stmt)
-    → optional (scope_of b.scopes) first ≡ Is (option_expr_of head.first) → optional (scope_of b.scopes) test ≡ Is (option_expr_of head.test)
-    → optional (scope_of b.scopes) third ≡ Is (option_expr_of head.third) → statement_in b around.Loop s ≡ just p (locals_of n)
+    → optional (scope_of b.scopes) first ≡ Is (option_expr_of head.first.value) → optional (scope_of b.scopes) test ≡ Is (option_expr_of head.test.value)
+    → optional (scope_of b.scopes) third ≡ Is (option_expr_of head.third.value) → statement_in b around.Loop s ≡ just p (locals_of n)
     → for_in n at head p ≡ statement_in b c (tree.For first test third s at)
 for_rest b n c first test third s at head p begins tests steps h =
     let over = λ (x y z : Option Expr). statement_in b around.Loop s >>= λ p. breaks (is_void_test y) Mismatch at (just (For x y z p.tree) p.locals)
     in sym
     (ap (λ o. o >>= λ x. optional (scope_of b.scopes) test >>= λ y. optional (scope_of b.scopes) third >>= λ z. over x y z) begins
-    ∙ ap (λ o. o >>= λ y. optional (scope_of b.scopes) third >>= λ z. over (option_expr_of head.first) y z) tests
-    ∙ ap (λ o. o >>= λ z. over (option_expr_of head.first) (option_expr_of head.test) z) steps
-    ∙ ap (λ o. o >>= λ p. breaks (is_void_test (option_expr_of head.test)) Mismatch at (just (For (option_expr_of head.first) (option_expr_of head.test) (option_expr_of head.third) p.tree) p.locals)) h)
+    ∙ ap (λ o. o >>= λ y. optional (scope_of b.scopes) third >>= λ z. over (option_expr_of head.first.value) y z) tests
+    ∙ ap (λ o. o >>= λ z. over (option_expr_of head.first.value) (option_expr_of head.test.value) z) steps
+    ∙ ap (λ o. o >>= λ p. breaks (is_void_test (option_expr_of head.test.value)) Mismatch at (just (For (option_expr_of head.first.value) (option_expr_of head.test.value) (option_expr_of head.third.value) p.tree) p.locals)) h)
 
 -- the second arm of an if
 pub arms_rest : (n m : Body) (c : Enclosing) (s : Statement) (at : ℕ) (x : Expr) (p q : typed.Stmt) → statement_in n c s ≡ just q (locals_of m)

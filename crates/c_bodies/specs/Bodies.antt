@@ -73,8 +73,8 @@ tested_in b at x s = breaks (is_void (kind_of x)) Mismatch at (just s (locals_of
 
 -- a for over what is typed of it
 abbrev pub for_in : Body → ℕ → ForHead → Stmt → Outcome (Typed Stmt)
-for_in b at head s = breaks (is_void_test (option_expr_of head.test)) Mismatch at
-    (just (For (option_expr_of head.first) (option_expr_of head.test) (option_expr_of head.third) s) (locals_of b))
+for_in b at head s = breaks (is_void_test (option_expr_of head.test.value)) Mismatch at
+    (just (For (option_expr_of head.first.value) (option_expr_of head.test.value) (option_expr_of head.third.value) s) (locals_of b))
 
 -- choices behind those that are there, of which a label may be a pointer
 abbrev pub behind_choices : List Choice → Bool → Outcome (Typed Labelled) → Outcome (Typed Labelled)

@@ -1,6 +1,6 @@
 //! The declarations of blocks: ISO 9899:1990 6.5.4 and 6.6.2. The objects of a function are numbered in order of declaration.
 ghost use Rattle.std.specs.Prelude.{◌≡◌, OnOk, map, is_some};
-ghost use Rattle.c_syntax.specs.SyntaxView.{item_of, declaration_of};
+ghost use Rattle.c_syntax.specs.SyntaxView.{declaration_of, initial_of, item_form_of, item_of};
 ghost use Rattle.c_rules.specs.declared.fault.Rule.TheVariants as rule;
 ghost use Rattle.c_rules.specs.Answers.{Follows, Refuses};
 ghost use Rattle.c_rules.specs.Outcome.{Broken, breaks};
@@ -9,7 +9,8 @@ ghost use Rattle.c_scopes.specs.Tables.{scope_of, around_of};
 ghost use Rattle.c_objects.specs.InitialiserView.{initialiser_of};
 ghost use Rattle.c_bodies.specs.BodyView.{opened_of};
 
-use c_objects::{Initialiser, plain, redeclared, started};
+use crate::boxes::{add, boxed};
+use c_objects::{Initialiser, Start, plain, redeclared, started};
 use c_rules::{Declared, Local, ObjectType, Refusal, Rule, mismatch};
 use c_scopes::{Scopes, declarator, declare_object, initialiser};
 use c_syntax::{Decl, Item};
@@ -67,7 +68,7 @@ impl<'a> Body<'a> {
         let declared = declarator(&mut self.scopes, base, item)?;
         let is_taken = self.scopes.is_taken(name);
         declare_object(&mut self.scopes, name, reference, &declared)?;
-        let initialiser = initialiser(&self.scopes, &item.kind, &item.init)?;
+        let initialiser = self.first_value(item)?;
         if is_taken {
             return Err(redeclared(item.at));
         }
@@ -80,6 +81,14 @@ impl<'a> Body<'a> {
         }
     }
 
+    // What gives an item its first value, in a box while the rest is looked at.
+    fn first_value(&self, item: &Item) -> Result<Box<Initialiser>, Refusal>
+        ensures { Follows (λ i. initialiser_of i.value) (rules.initialiser (scope_of self.now.scopes) (rules.is_array (item_form_of item.now.kind)) (initial_of item.now.init)) result }
+    {
+        let value = initialiser(&self.scopes, &item.kind, &item.init)?;
+        boxed(self.scopes.alloc, value)
+    }
+
     // An object that is declared, with its start.
     fn object(
         &mut self,
@@ -87,23 +96,26 @@ impl<'a> Body<'a> {
         item: &Item,
         reference: VarRef,
         object_type: ObjectType,
-        initialiser: Initialiser,
+        initialiser: Box<Initialiser>,
     ) -> Result<(), Refusal>
-        ensures follows { Follows (λ _. opened_of self.new opening.new) (rules.declared_as (opened_of self.old opening.old) (scope_of self.old.scopes) reference (Declared.Object object_type) (item_of item.now) (initialiser_of initialiser)) result }
+        ensures follows { Follows (λ _. opened_of self.new opening.new) (rules.declared_as (opened_of self.old opening.old) (scope_of self.old.scopes) reference (Declared.Object object_type) (item_of item.now) (initialiser_of initialiser.value)) result }
         ensures scopes { self.new.scopes ≡ self.old.scopes }
         ensures returned { self.new.result ≡ self.old.result }
     {
         let alloc = self.scopes.alloc;
+        let name = Text::copy_of(alloc, item.name.as_str())?;
+        let initialiser = Box::into_inner(initialiser);
         let start = started(alloc, reference, object_type, item.at, initialiser)?;
-        self.locals.push(Local {
-            name: Text::copy_of(alloc, item.name.as_str())?,
-            object_type,
-            values: start.values,
-        })?;
-        opening.declared.push(reference)?;
-        if let Some(statement) = start.statement {
-            opening.statements.push(statement)?;
+        let Start { values, statement } = start;
+        if let Some(statement) = statement {
+            add(&mut opening.statements, statement)?;
         }
+        opening.declared.push(reference)?;
+        self.locals.push(Local {
+            name,
+            object_type,
+            values,
+        })?;
         Ok(())
     }
 

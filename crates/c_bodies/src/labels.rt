@@ -25,10 +25,10 @@ pub(crate) fn switched(
     alloc: Global,
     place: u32,
     at: u32,
-    value: TypedExpr,
+    value: Box<TypedExpr>,
     labelled: Labelled,
 ) -> Result<TypedStmt, Refusal>
-    ensures { Follows stmt_of (switched place at (expr_of value) (labelled_of labelled)) result }
+    ensures { Follows stmt_of (switched place at (expr_of value.value) (labelled_of labelled)) result }
 {
     if repeats_label(alloc, &labelled.choices)? {
         return Err(Refusal::Broken {
@@ -41,7 +41,7 @@ pub(crate) fn switched(
     }
     match class_of(value.kind) {
         Class::Integer => Ok(TypedStmt::Switch {
-            value,
+            value: Box::into_inner(value),
             choices: labelled.choices,
         }),
         Class::Nothing | Class::Pointer => Err(mismatch(at)),

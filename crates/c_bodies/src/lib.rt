@@ -4,6 +4,7 @@
 #![tactic(auto)]
 
 mod blocks;
+mod boxes;
 mod labels;
 mod statements;
 

@@ -12,6 +12,7 @@ ghost use Rattle.c_tree.specs.declared.enclosing.Enclosing.TheVariants as enclos
 ghost use Rattle.c_rules.specs.Answers.{Follows, Refuses};
 ghost use Rattle.c_bodies.specs.Bodies.{behind, behind_choices, block_in, choices_in, else_in, for_in, labelled_of, parts_of, statement_in, statements_in, test_in, tested_in};
 ghost use Rattle.c_rules.specs.Kinds.{is_void};
+ghost use Rattle.c_rules.specs.Typing.{constant_typing, typing};
 ghost use Rattle.c_rules.specs.Statements as rules;
 ghost use Rattle.c_rules.specs.Statements.{just};
 ghost use Rattle.c_scopes.specs.Tables.{around_of, scope_of, tables_of};
@@ -19,6 +20,7 @@ ghost use Rattle.c_operands.specs.OperandView.{operand_of};
 ghost use Rattle.c_bodies.specs.BodyView.{locals_of, typed_in};
 
 use crate::blocks::{Body, Opening};
+use crate::boxes::boxed;
 use crate::labels::{Labelled, switched};
 use c_operands::{Operand, given};
 use c_rules::{Refusal, Rule, mismatch};
@@ -38,9 +40,9 @@ struct LabelOrBody {
 /// What stands between the parentheses of a `for`.
 #[derive(Drop)]
 struct ForHead {
-    first: Option<TypedExpr>,
-    test: Option<TypedExpr>,
-    third: Option<TypedExpr>,
+    first: Box<Option<TypedExpr>>,
+    test: Box<Option<TypedExpr>>,
+    third: Box<Option<TypedExpr>>,
 }
 
 impl<'a> Body<'a> {
@@ -210,18 +212,23 @@ impl<'a> Body<'a> {
         ensures bodies { (scope_of self.new.scopes).bodies ≡ (scope_of self.old.scopes).bodies }
         ensures returned { self.new.result ≡ self.old.result }
     {
-        let test = expression(&self.scopes, test)?;
+        let test = self.tested(test)?;
         let yes = self.inner(yes, enclosing)?;
         self.one_armed(test, yes, at)
     }
 
     // An if over its test and its only arm.
-    fn one_armed(&self, test: TypedExpr, yes: Box<TypedStmt>, at: u32) -> Result<TypedStmt, Refusal>
-        ensures { Follows (λ t. typed_in self.now (stmt_of t)) (tested_in self.now at (expr_of test) (If (expr_of test) (stmt_of yes.value) (Block [] done))) result }
+    fn one_armed(
+        &self,
+        test: Box<TypedExpr>,
+        yes: Box<TypedStmt>,
+        at: u32,
+    ) -> Result<TypedStmt, Refusal>
+        ensures { Follows (λ t. typed_in self.now (stmt_of t)) (tested_in self.now at (expr_of test.value) (If (expr_of test.value) (stmt_of yes.value) (Block [] done))) result }
     {
         not_void(&test, at)?;
         Ok(TypedStmt::If {
-            test,
+            test: Box::into_inner(test),
             yes,
             no: None,
         })
@@ -242,7 +249,7 @@ impl<'a> Body<'a> {
         ensures bodies { (scope_of self.new.scopes).bodies ≡ (scope_of self.old.scopes).bodies }
         ensures returned { self.new.result ≡ self.old.result }
     {
-        let test = expression(&self.scopes, test)?;
+        let test = self.tested(test)?;
         let yes = self.inner(yes, enclosing)?;
         self.otherwise(test, yes, no, enclosing, at)
     }
@@ -251,13 +258,13 @@ impl<'a> Body<'a> {
     #[cycle(statements)]
     fn otherwise(
         &mut self,
-        test: TypedExpr,
+        test: Box<TypedExpr>,
         yes: Box<TypedStmt>,
         no: &'a Stmt,
         enclosing: Enclosing,
         at: u32,
     ) -> Result<TypedStmt, Refusal>
-        ensures follows { Follows (λ t. typed_in self.new (stmt_of t)) (else_in self.old enclosing at (expr_of test) (stmt_of yes.value) (statement_of no.now.kind no.now.at)) result }
+        ensures follows { Follows (λ t. typed_in self.new (stmt_of t)) (else_in self.old enclosing at (expr_of test.value) (stmt_of yes.value) (statement_of no.now.kind no.now.at)) result }
         ensures tables { OnOk result (tables_of self.new.scopes ≡ tables_of self.old.scopes) }
         ensures bodies { (scope_of self.new.scopes).bodies ≡ (scope_of self.old.scopes).bodies }
         ensures returned { self.new.result ≡ self.old.result }
@@ -269,16 +276,16 @@ impl<'a> Body<'a> {
     // An if over its test and both arms.
     fn two_armed(
         &self,
-        test: TypedExpr,
+        test: Box<TypedExpr>,
         yes: Box<TypedStmt>,
         no: Box<TypedStmt>,
         at: u32,
     ) -> Result<TypedStmt, Refusal>
-        ensures { Follows (λ t. typed_in self.now (stmt_of t)) (tested_in self.now at (expr_of test) (If (expr_of test) (stmt_of yes.value) (stmt_of no.value))) result }
+        ensures { Follows (λ t. typed_in self.now (stmt_of t)) (tested_in self.now at (expr_of test.value) (If (expr_of test.value) (stmt_of yes.value) (stmt_of no.value))) result }
     {
         not_void(&test, at)?;
         Ok(TypedStmt::If {
-            test,
+            test: Box::into_inner(test),
             yes,
             no: Some(no),
         })
@@ -299,7 +306,7 @@ impl<'a> Body<'a> {
         ensures bodies { (scope_of self.new.scopes).bodies ≡ (scope_of self.old.scopes).bodies }
         ensures returned { self.new.result ≡ self.old.result }
     {
-        let value = expression(&self.scopes, value)?;
+        let value = self.tested(value)?;
         let labelled = self.choices(parts, enclosing.in_switch())?;
         switched(self.scopes.alloc, place, at, value, labelled)
     }
@@ -343,7 +350,7 @@ impl<'a> Body<'a> {
     {
         match part {
             SwitchPart::Case(label) => {
-                let value = constant_tree(&self.scopes, label)?;
+                let value = self.label(label)?;
                 let word = word_at(label, &value)?;
                 Ok(LabelOrBody {
                     choice: Choice::Case(word),
@@ -369,7 +376,7 @@ impl<'a> Body<'a> {
         ensures bodies { (scope_of self.new.scopes).bodies ≡ (scope_of self.old.scopes).bodies }
         ensures returned { self.new.result ≡ self.old.result }
     {
-        let test = expression(&self.scopes, test)?;
+        let test = self.tested(test)?;
         let body = self.inner(body, Enclosing::Loop)?;
         self.while_over(test, body, at)
     }
@@ -377,14 +384,17 @@ impl<'a> Body<'a> {
     // A while over its test and its body.
     fn while_over(
         &self,
-        test: TypedExpr,
+        test: Box<TypedExpr>,
         body: Box<TypedStmt>,
         at: u32,
     ) -> Result<TypedStmt, Refusal>
-        ensures { Follows (λ t. typed_in self.now (stmt_of t)) (tested_in self.now at (expr_of test) (While (expr_of test) (stmt_of body.value))) result }
+        ensures { Follows (λ t. typed_in self.now (stmt_of t)) (tested_in self.now at (expr_of test.value) (While (expr_of test.value) (stmt_of body.value))) result }
     {
         not_void(&test, at)?;
-        Ok(TypedStmt::While { test, body })
+        Ok(TypedStmt::While {
+            test: Box::into_inner(test),
+            body,
+        })
     }
 
     // 6.6.5.2.
@@ -403,9 +413,12 @@ impl<'a> Body<'a> {
     fn do_test(&self, body: Box<TypedStmt>, test: &Expr, at: u32) -> Result<TypedStmt, Refusal>
         ensures { Follows (λ t. typed_in self.now (stmt_of t)) (test_in self.now at (stmt_of body.value) (expression_of test.now)) result }
     {
-        let test = expression(&self.scopes, test)?;
+        let test = self.tested(test)?;
         not_void(&test, at)?;
-        Ok(TypedStmt::Do { body, test })
+        Ok(TypedStmt::Do {
+            body,
+            test: Box::into_inner(test),
+        })
     }
 
     // 6.6.5.3.
@@ -437,21 +450,38 @@ impl<'a> Body<'a> {
     {
         test_not_void(&head.test, at)?;
         Ok(TypedStmt::For {
-            first: head.first,
-            test: head.test,
-            third: head.third,
+            first: Box::into_inner(head.first),
+            test: Box::into_inner(head.test),
+            third: Box::into_inner(head.third),
             body,
         })
     }
 
-    // An expression that may be absent.
-    fn optional(&self, e: &Option<Expr>) -> Result<Option<TypedExpr>, Refusal>
-        ensures { Follows option_expr_of (rules.optional (scope_of self.now.scopes) (optional_of e.now)) result }
+    // An expression that may be absent, in a box.
+    fn optional(&self, e: &Option<Expr>) -> Result<Box<Option<TypedExpr>>, Refusal>
+        ensures { Follows (λ x. option_expr_of x.value) (rules.optional (scope_of self.now.scopes) (optional_of e.now)) result }
     {
-        match e {
-            None => Ok(None),
-            Some(e) => Ok(Some(expression(&self.scopes, e)?)),
-        }
+        let typed = match e {
+            None => None,
+            Some(e) => Some(expression(&self.scopes, e)?),
+        };
+        boxed(self.scopes.alloc, typed)
+    }
+
+    // A test or the value of a switch, which is kept in its box while what stands behind it is typed.
+    fn tested(&self, e: &Expr) -> Result<Box<TypedExpr>, Refusal>
+        ensures { Follows (λ x. expr_of x.value) (typing (scope_of self.now.scopes) (expression_of e.now)) result }
+    {
+        let typed = expression(&self.scopes, e)?;
+        boxed(self.scopes.alloc, typed)
+    }
+
+    // A label, in a box while its word is looked for.
+    fn label(&self, e: &Expr) -> Result<Box<TypedExpr>, Refusal>
+        ensures { Follows (λ x. expr_of x.value) (constant_typing (scope_of self.now.scopes) (expression_of e.now)) result }
+    {
+        let typed = constant_tree(&self.scopes, e)?;
+        boxed(self.scopes.alloc, typed)
     }
 }
 

@@ -8,5 +8,5 @@ use Rattle.c_bodies.proofs.labels.switched.Goals as goal
 
 pub returns-in-Integer : goal.returns-in-Integer
 returns-in-Integer c =
-    let e : switched c.args.place c.args.at (expr_of c.args.value) (labelled_of c.args.labelled) ≡ Is (Switch (expr_of c.args.value) (choice_list c.args.labelled.choices.items)) = search rules in
-    e ∙ ap Is (sym (switch_of_list c.args.value c.args.labelled.choices))
+    let e : switched c.args.place c.args.at (expr_of c.args.value.value) (labelled_of c.args.labelled) ≡ Is (Switch (expr_of c.args.value.value) (choice_list c.args.labelled.choices.items)) = search rules in
+    rw c.into_inner.ensures (e ∙ ap Is (sym (switch_of_list c.args.value.value c.args.labelled.choices)))

@@ -49,25 +49,25 @@ do_loop-returns-clause-follows t c =
 pub either-returns-clause-follows : goal.either-returns-clause-follows
 either-returns-clause-follows t c =
     same_follows _ _ c.otherwise.new.self c.otherwise.result
-    (else_rest c.args.self.now c.inner.new.self c.in_ok-yes.ensures.tables c.in_ok-yes.ensures.bodies c.in_ok-yes.ensures.returned c.args.enclosing (expression_of c.args.test.now) (statement_of c.args.yes.now.kind c.args.yes.now.at) (statement_of c.args.no.now.kind c.args.no.now.at) c.args.at (expr_of c.in_ok-test.test) (stmt_of c.in_ok-yes.yes.value) c.in_ok-test.ensures c.in_ok-yes.ensures.follows)
+    (else_rest c.args.self.now c.inner.new.self c.in_ok-yes.ensures.tables c.in_ok-yes.ensures.bodies c.in_ok-yes.ensures.returned c.args.enclosing (expression_of c.args.test.now) (statement_of c.args.yes.now.kind c.args.yes.now.at) (statement_of c.args.no.now.kind c.args.no.now.at) c.args.at (expr_of c.in_ok-test.test.value) (stmt_of c.in_ok-yes.yes.value) c.in_ok-test.ensures c.in_ok-yes.ensures.follows)
     c.otherwise.ensures.follows
 
 pub choice-returns-clause-follows : goal.choice-returns-clause-follows
 choice-returns-clause-follows t c =
     same_follows _ _ c.inner.new.self c.one_armed.result
-    (if_rest c.args.self.now c.inner.new.self c.args.enclosing (expression_of c.args.test.now) (statement_of c.args.yes.now.kind c.args.yes.now.at) c.args.at (expr_of c.in_ok-test.test) (stmt_of c.in_ok-yes.yes.value) c.in_ok-test.ensures c.in_ok-yes.ensures.follows)
+    (if_rest c.args.self.now c.inner.new.self c.args.enclosing (expression_of c.args.test.now) (statement_of c.args.yes.now.kind c.args.yes.now.at) c.args.at (expr_of c.in_ok-test.test.value) (stmt_of c.in_ok-yes.yes.value) c.in_ok-test.ensures c.in_ok-yes.ensures.follows)
     c.one_armed.ensures
 
 pub otherwise-returns-clause-follows : goal.otherwise-returns-clause-follows
 otherwise-returns-clause-follows t c =
     same_follows _ _ c.inner.new.self c.two_armed.result
-    (arms_rest c.args.self.now c.inner.new.self c.args.enclosing (statement_of c.args.no.now.kind c.args.no.now.at) c.args.at (expr_of c.args.test) (stmt_of c.args.yes.value) (stmt_of c.in_ok-no.no.value) c.in_ok-no.ensures.follows)
+    (arms_rest c.args.self.now c.inner.new.self c.args.enclosing (statement_of c.args.no.now.kind c.args.no.now.at) c.args.at (expr_of c.args.test.value) (stmt_of c.args.yes.value) (stmt_of c.in_ok-no.no.value) c.in_ok-no.ensures.follows)
     c.two_armed.ensures
 
 pub while_loop-returns-clause-follows : goal.while_loop-returns-clause-follows
 while_loop-returns-clause-follows t c =
     same_follows _ _ c.inner.new.self c.while_over.result
-    (while_rest c.args.self.now c.inner.new.self around.Loop (expression_of c.args.test.now) (statement_of c.args.body.now.kind c.args.body.now.at) c.args.at (expr_of c.in_ok-test.test) (stmt_of c.in_ok-body.body.value) c.in_ok-test.ensures c.in_ok-body.ensures.follows)
+    (while_rest c.args.self.now c.inner.new.self around.Loop (expression_of c.args.test.now) (statement_of c.args.body.now.kind c.args.body.now.at) c.args.at (expr_of c.in_ok-test.test.value) (stmt_of c.in_ok-body.body.value) c.in_ok-test.ensures c.in_ok-body.ensures.follows)
     c.while_over.ensures
 
 pub for_loop-returns-clause-follows : goal.for_loop-returns-clause-follows
@@ -113,10 +113,10 @@ choices-returns-in_err-found-clause-follows t c =
 pub switch-returns-clause-follows : goal.switch-returns-clause-follows
 switch-returns-clause-follows t c =
     with_locals_follow _ c.choices.new.self _ c.switched.result
-    (switch_rest c.args.self.now c.choices.new.self c.args.enclosing (expression_of c.args.value.now) (parts_of c.args.parts.now) c.args.place c.args.at (expr_of c.in_ok-value.value) (labelled_of c.in_ok-labelled.labelled) c.in_ok-value.ensures (rw c.in_switch.ensures at c.in_ok-labelled.ensures.follows))
+    (switch_rest c.args.self.now c.choices.new.self c.args.enclosing (expression_of c.args.value.now) (parts_of c.args.parts.now) c.args.place c.args.at (expr_of c.in_ok-value.value.value) (labelled_of c.in_ok-labelled.labelled) c.in_ok-value.ensures (rw c.in_switch.ensures at c.in_ok-labelled.ensures.follows))
     c.switched.ensures
 
 pub label_or_body-returns-in_ok-word-in-Case-clause-typed : goal.label_or_body-returns-in_ok-word-in-Case-clause-typed
 label_or_body-returns-in_ok-word-in-Case-clause-typed t c =
-    label_typed c.args.self.now c.args.enclosing c.args.part.now c.in-Case.label (expr_of c.in_ok-value-in-Case.value) c.in_ok-word-in-Case.word c.points.result
-    c.in-Case.is c.in_ok-value-in-Case.ensures c.in_ok-word-in-Case.ensures c.points.ensures
+    label_typed c.args.self.now c.args.enclosing c.args.part.now c.in-Case.label (expr_of c.in_ok-value-in-Case.value.value) c.in_ok-word-in-Case.word c.points.result
+    c.in-Case.is c.in_ok-value-in-Case.ensures (rw c.deref.ensures at c.in_ok-word-in-Case.ensures) (rw c.deref-in-Case.ensures at c.points.ensures)
