@@ -12,8 +12,8 @@ use Rattle.c_tree.specs.Eval.{Env, object_number}
 use Rattle.c_tree.specs.Exec.{named, fresh, make_object, enter}
 use Rattle.c_tree.specs.SourceRun.{pass}
 use Rattle.c_means.specs.declared.blocks.Opened.{Opened}
-use Rattle.c_means.specs.declared.value.Value.{Value}
-use Rattle.c_means.specs.Values.{value_of}
+use Rattle.c_state.specs.declared.value.Value.{Value}
+use Rattle.c_state.specs.Values.{value_of}
 use Rattle.c_means.specs.Blocks.{numbers_of, put_back}
 
 back_at : (numbers : ℕ → ℕ) (n before object k : ℕ) → numbers n ≡ before → cond (k == n) before (cond (k == n) object (numbers k)) ≡ numbers k

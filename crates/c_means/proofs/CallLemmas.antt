@@ -15,12 +15,10 @@ use Rattle.c_tree.specs.ProgramView.{program_of}
 use Rattle.c_tree.specs.View.{function_of, argument_list, expr_of}
 use Rattle.c_tree.specs.declared.program.VarRef.{VarRef}
 use Rattle.c_means.specs.declared.frame.Run.{Run}
-use Rattle.c_means.specs.declared.names.Names.{Names}
-use Rattle.c_means.specs.declared.value.Name.{Name}
-use Rattle.c_means.specs.declared.value.Stop.{Stop}
+use Rattle.c_state.specs.declared.names.Names.{Names}
+use Rattle.c_state.specs.declared.value.Stop.{Stop}
 use Rattle.c_means.specs.Frames.{env_in}
-use Rattle.c_means.specs.Names.{numbers_in}
-use Rattle.c_means.specs.Worlds.{Stops}
+use Rattle.c_state.specs.Worlds.{Stops}
 use Rattle.c_means.proofs.Sizes.{get_mapped, get_missing}
 use Rattle.c_means.proofs.TurnLemmas.{grouped, same_behind, stops_behind}
 
@@ -89,13 +87,11 @@ none_from (x ∷ es) zero all = absurd (omega (arith, all))
 none_from (x ∷ es) (suc k) all = none_from es k (omega (arith, all))
 
 -- the parameters are the first names of a call
-pub entered_first : (r : Run) (names : Names) (declared : List VarRef) (w w1 : World) (given : Env × List ℕ) → declared ≡ r.function.now.params → names.scalars.items ≡ [] → names.locals.items ≡ []
+pub entered_first : (r : Run) (names : Names) (declared : List VarRef) (w w1 : World) (given : Env × List ℕ) → declared ≡ r.function.now.params → env_in r names ≡ nothing_named (function_of r.function.now)
     → enter declared (env_in r names) w ≡ Gives given w1 → enter (function_of r.function.now).params (nothing_named (function_of r.function.now)) w ≡ Gives given w1
-entered_first r names declared w w1 given same scalars locals is =
-    let f = function_of r.function.now in
-    ap (λ (ps : List VarRef). enter ps (nothing_named f) w) (sym same)
-    ∙ ap {B = Res (Env × List ℕ)} (λ (e : Env). enter declared e w) (sym (ap (λ (s : List Name). record { function = f; scalar = numbers_in s; local = numbers_in names.locals.items }) scalars
-    ∙ ap (λ (l : List Name). record { function = f; scalar = numbers_in []; local = numbers_in l }) locals))
+entered_first r names declared w w1 given same none_named is =
+    ap (λ (ps : List VarRef). enter ps (nothing_named (function_of r.function.now)) w) (sym same)
+    ∙ ap {B = Res (Env × List ℕ)} (λ (e : Env). enter declared e w) (sym none_named)
     ∙ is
 
 pub plus_one : (k : ℕ) → k + 1 ≡ suc k

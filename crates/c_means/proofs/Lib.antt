@@ -1,15 +1,9 @@
-mod AnswerLemmas
+mod ArrayLemmas
 mod BlockLemmas
 mod CallLemmas
-mod FillLemmas
-mod InputLemmas
 mod LabelLemmas
 mod MainLemmas
-mod NameLemmas
-mod ObjectLemmas
 mod RunLemmas
 mod Sizes
 mod StepLemmas
-mod StoreLemmas
 mod TurnLemmas
-mod WorldLemmas

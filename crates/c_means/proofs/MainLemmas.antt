@@ -17,10 +17,10 @@ use Rattle.c_tree.specs.Store as runs
 use Rattle.c_tree.specs.Store.{Cell, Obj, Store, World, Res, Does, Gives, with_new}
 use Rattle.c_tree.specs.Exec.{set_cells}
 use Rattle.c_tree.specs.SourceRun.{main_of, main_name, static_object, first_world, call_function, call_within}
-use Rattle.c_means.specs.declared.value.Value.{Value}
-use Rattle.c_means.specs.declared.value.Stop.{Stop}
-use Rattle.c_means.specs.Values.{option_of}
-use Rattle.c_means.specs.Worlds.{Stops}
+use Rattle.c_state.specs.declared.value.Value.{Value}
+use Rattle.c_state.specs.declared.value.Stop.{Stop}
+use Rattle.c_state.specs.Values.{option_of}
+use Rattle.c_state.specs.Worlds.{Stops}
 use Rattle.c_means.specs.Runs.{statics_of, main_run}
 
 -- whether a function is named main

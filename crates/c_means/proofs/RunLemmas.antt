@@ -12,16 +12,16 @@ use Rattle.c_tree.specs.declared.typed_expression.TargetForm as target
 use Rattle.c_tree.specs.declared.typed_expression.TargetForm.{TargetForm}
 use Rattle.c_tree.specs.TypedTree as tree
 use Rattle.c_tree.specs.TypedTree.{Kind, Expr, Node, Form, Lvalue, Named, At, Stmt}
-use Rattle.c_means.specs.Operands.{needed, tested}
+use Rattle.c_means.specs.Expressions.{needed, tested}
 use Rattle.c_tree.specs.Eval.{Calls, Env, eval, eval_form, value, test_of, choose, some, lvalue_place}
 use Rattle.c_tree.specs.Exec.{exec}
 use Rattle.c_tree.specs.View.{form_of, expr_of, lvalue_of, stmt_of}
-use Rattle.c_means.specs.declared.value.Value as code
-use Rattle.c_means.specs.declared.value.Stop.{Stop}
+use Rattle.c_state.specs.declared.value.Value as code
+use Rattle.c_state.specs.declared.value.Stop.{Stop}
 use Rattle.c_means.specs.declared.blocks.Flow as flow
-use Rattle.c_means.specs.Values.{option_of, value_of}
+use Rattle.c_state.specs.Values.{option_of, value_of}
 use Rattle.c_means.specs.Blocks.{flow_of}
-use Rattle.c_means.specs.Worlds.{Stops}
+use Rattle.c_state.specs.Worlds.{Stops}
 use Rattle.c_means.proofs.TurnLemmas.{grouped, stops_behind}
 
 -- an error that is passed on says what it said

@@ -5,8 +5,8 @@ use Rattle.c_syntax.specs.declared.operator.BinaryOp.{BinaryOp}
 use Rattle.c_tree.specs.Store.{Value, World, Gives, ◌>>=◌, load, save}
 use Rattle.c_tree.specs.TypedTree.{Kind, Expr, Lvalue, AssignOp, StepBefore, StepAfter}
 use Rattle.c_tree.specs.Eval.{Calls, Env, Spot, eval_form, spot, value, of_two, stepped, some, points, kind_of, lvalue_place}
-use Rattle.c_means.specs.declared.value.Stop.{Stop}
-use Rattle.c_means.specs.Worlds.{Stops}
+use Rattle.c_state.specs.declared.value.Stop.{Stop}
+use Rattle.c_state.specs.Worlds.{Stops}
 use Rattle.c_means.proofs.RunLemmas.{past}
 use Rattle.c_means.proofs.TurnLemmas.{stops_behind}
 

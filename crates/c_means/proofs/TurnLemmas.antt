@@ -5,9 +5,9 @@ use Rattle.c_tree.specs.Store.{World, Res, Gives, Finished, TooMany, Fails, Does
 use Rattle.c_tree.specs.Eval.{Env, choose}
 use Rattle.c_tree.specs.Exec.{Flow, Next, Broke, Continued, Returned, after_turn}
 use Rattle.c_means.specs.Turns.{left_by, unless_left, turn, turn_first}
-use Rattle.c_means.specs.declared.value.Stop.{Stop}
-use Rattle.c_means.specs.declared.value.Stop.TheVariants as stops
-use Rattle.c_means.specs.Worlds.{Stops}
+use Rattle.c_state.specs.declared.value.Stop.{Stop}
+use Rattle.c_state.specs.declared.value.Stop.TheVariants as stops
+use Rattle.c_state.specs.Worlds.{Stops}
 
 -- one part of a run behind another, whichever way they are grouped
 pub grouped : {A B C : Type 0} (r : Res A) (f : A → Does B) (g : B → Does C) → after (after r f) g ≡ after r (λ a w. after (f a w) g)

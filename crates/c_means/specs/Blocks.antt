@@ -7,7 +7,7 @@ use Rattle.c_means.specs.declared.blocks.Opened.{Opened}
 use Rattle.c_means.specs.declared.blocks.Fresh.{Fresh}
 use Rattle.c_means.specs.declared.blocks.Flow.{Flow}
 use Rattle.c_means.specs.declared.blocks.Flow.TheVariants as flows
-use Rattle.c_means.specs.Values.{cell_view, option_of}
+use Rattle.c_state.specs.Values.{cell_view, option_of}
 
 -- the numbers of the objects of a block, in order of declaration
 abbrev pub numbers_of : List Opened → List ℕ

@@ -6,10 +6,10 @@ use Rattle.c_tree.specs.TypedTree.{ObjectTree, ProgramTree}
 use Rattle.c_tree.specs.Store as runs
 use Rattle.c_tree.specs.Store.{Store, Res, World, Does, Gives}
 use Rattle.c_tree.specs.SourceRun.{outcome_of, static_object, call_function, call_within, main_of}
-use Rattle.c_means.specs.declared.value.Value.{Value}
-use Rattle.c_means.specs.declared.value.Stop.{Stop}
-use Rattle.c_means.specs.Values.{option_of}
-use Rattle.c_means.specs.Worlds.{Stops}
+use Rattle.c_state.specs.declared.value.Value.{Value}
+use Rattle.c_state.specs.declared.value.Stop.{Stop}
+use Rattle.c_state.specs.Values.{option_of}
+use Rattle.c_state.specs.Worlds.{Stops}
 
 -- the static objects alone
 abbrev pub statics_of : List ObjectTree → Store

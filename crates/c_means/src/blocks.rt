@@ -7,14 +7,11 @@ ghost use Rattle.c_tree.specs.View.{function_of};
 ghost use Rattle.c_means.specs.Blocks.{fresh_of, numbers_of, put_back, flow_of, option_flow_of};
 ghost use Rattle.c_means.specs.Frames.{env_in};
 ghost use Rattle.c_means.specs.Turns as turns;
-ghost use Rattle.c_means.specs.Values.{value_of, option_of};
-ghost use Rattle.c_means.specs.Worlds.{world_of};
+ghost use Rattle.c_state.specs.Values.{value_of, option_of};
+ghost use Rattle.c_state.specs.Worlds.{world_of};
 
-use crate::fills::{listed, unset};
 use crate::frame::Run;
-use crate::names::Names;
-use crate::state::State;
-use crate::value::{Cell, Name, Value};
+use c_state::{Cell, Name, Names, State, Value, listed, unset};
 use c_tree::{Function, ScalarType, VarRef};
 use std::alloc::Global;
 use word_base::NoMemory;
@@ -101,83 +98,81 @@ fn object_of(alloc: Global, f: &Function, reference: VarRef) -> Result<Option<Fr
     }
 }
 
-impl State {
-    // The object of a name is made.
-    fn declare(
-        &mut self,
-        run: &Run,
-        names: &mut Names,
-        reference: VarRef,
-    ) -> Result<Option<Opened>, NoMemory>
-        ensures declared { IfOk result (λ opened. exec.make_object (exec.fresh (function_of run.now.function.now) reference) reference (env_in run.now names.old) (world_of self.old) ≡ Gives (env_in run.now names.new, numbers_of (option_to_list opened)) (world_of self.new)) }
-        ensures back { IfOk result (λ opened. put_back (env_in run.now names.new) (option_to_list opened) ≡ env_in run.now names.old) }
-    {
-        let Some(fresh) = object_of(run.alloc, run.function, reference)? else {
-            return Ok(None);
-        };
-        let before = names.find(reference);
-        let object = self.store.make(fresh.kind, fresh.cells)?;
-        names.set(reference, object)?;
-        Ok(Some(Opened {
-            reference,
-            object,
-            before,
-        }))
-    }
+// The object of a name is made.
+fn declare(
+    state: &mut State,
+    run: &Run,
+    names: &mut Names,
+    reference: VarRef,
+) -> Result<Option<Opened>, NoMemory>
+    ensures declared { IfOk result (λ opened. exec.make_object (exec.fresh (function_of run.now.function.now) reference) reference (env_in run.now names.old) (world_of state.old) ≡ Gives (env_in run.now names.new, numbers_of (option_to_list opened)) (world_of state.new)) }
+    ensures back { IfOk result (λ opened. put_back (env_in run.now names.new) (option_to_list opened) ≡ env_in run.now names.old) }
+{
+    let Some(fresh) = object_of(run.alloc, run.function, reference)? else {
+        return Ok(None);
+    };
+    let before = names.find(reference);
+    let object = state.store.make(fresh.kind, fresh.cells)?;
+    names.set(reference, object)?;
+    Ok(Some(Opened {
+        reference,
+        object,
+        before,
+    }))
+}
 
-    /// Fresh objects for the names of a block.
-    pub(crate) fn enter(
-        &mut self,
-        run: &Run,
-        names: &mut Names,
-        declared: &[VarRef],
-    ) -> Result<Vec<Opened>, NoMemory>
-        ensures entered { IfOk result (λ opened. exec.enter declared.now (env_in run.now names.old) (world_of self.old) ≡ Gives (env_in run.now names.new, numbers_of opened.items) (world_of self.new)) }
-        ensures back { IfOk result (λ opened. put_back (env_in run.now names.new) opened.items ≡ env_in run.now names.old) }
-    {
-        let mut opened = Vec::new(run.alloc);
-        for reference in declared {
-            if let Some(one) = self.declare(run, names, *reference)? {
-                opened.push(one)?;
-            }
-        }
-        Ok(opened)
-    }
-
-    /// The objects of a block end, the last one first.
-    pub(crate) fn leave(&mut self, opened: &[Opened])
-        ensures { exec.leave (numbers_of opened.now) (world_of self.old) ≡ Gives (tt {0}) (world_of self.new) }
-    {
-        for one in opened.iter().rev() {
-            self.store.finish(one.object);
+/// Fresh objects for the names of a block.
+pub(crate) fn enter(
+    state: &mut State,
+    run: &Run,
+    names: &mut Names,
+    declared: &[VarRef],
+) -> Result<Vec<Opened>, NoMemory>
+    ensures entered { IfOk result (λ opened. exec.enter declared.now (env_in run.now names.old) (world_of state.old) ≡ Gives (env_in run.now names.new, numbers_of opened.items) (world_of state.new)) }
+    ensures back { IfOk result (λ opened. put_back (env_in run.now names.new) opened.items ≡ env_in run.now names.old) }
+{
+    let mut opened = Vec::new(run.alloc);
+    for reference in declared {
+        if let Some(one) = declare(state, run, names, *reference)? {
+            opened.push(one)?;
         }
     }
+    Ok(opened)
+}
 
-    /// Each argument goes into the object of its parameter.
-    pub(crate) fn pass(
-        &mut self,
-        run: &Run,
-        names: &Names,
-        parameters: &[VarRef],
-        arguments: &[Value],
-    )
-        ensures { calls.pass parameters.now (map value_of arguments.now) (env_in run.now names.now) (world_of self.old) ≡ Gives (tt {0}) (world_of self.new) }
-    {
-        for (parameter, value) in parameters.iter().zip(arguments) {
-            self.store.set(names.find(*parameter), 0, *value);
-        }
+/// The objects of a block end, the last one first.
+pub(crate) fn leave(state: &mut State, opened: &[Opened])
+    ensures { exec.leave (numbers_of opened.now) (world_of state.old) ≡ Gives (tt {0}) (world_of state.new) }
+{
+    for one in opened.iter().rev() {
+        state.store.finish(one.object);
     }
+}
 
-    /// A local array gets its list.
-    pub(crate) fn fill(&mut self, run: &Run, names: &Names, number: u32) -> Result<(), NoMemory>
-        ensures { OnOk result (exec.fill (slice_get (env_in run.now names.now).function.locals number) ((env_in run.now names.now).local number) (world_of self.old) ≡ Gives exec.Next (world_of self.new)) }
-    {
-        if let Some(object) = run.function.locals.as_slice().get(number as usize) {
-            let cells = listed(run.alloc, object)?;
-            self.store.fill(names.find(VarRef::Local(number)), cells);
-        }
-        Ok(())
+/// Each argument goes into the object of its parameter.
+pub(crate) fn pass(
+    state: &mut State,
+    run: &Run,
+    names: &Names,
+    parameters: &[VarRef],
+    arguments: &[Value],
+)
+    ensures { calls.pass parameters.now (map value_of arguments.now) (env_in run.now names.now) (world_of state.old) ≡ Gives (tt {0}) (world_of state.new) }
+{
+    for (parameter, value) in parameters.iter().zip(arguments) {
+        state.store.set(names.find(*parameter), 0, *value);
     }
+}
+
+/// A local array gets its list.
+pub(crate) fn fill(state: &mut State, run: &Run, names: &Names, number: u32) -> Result<(), NoMemory>
+    ensures { OnOk result (exec.fill (slice_get (env_in run.now names.now).function.locals number) ((env_in run.now names.now).local number) (world_of state.old) ≡ Gives exec.Next (world_of state.new)) }
+{
+    if let Some(object) = run.function.locals.as_slice().get(number as usize) {
+        let cells = listed(run.alloc, object)?;
+        state.store.fill(names.find(VarRef::Local(number)), cells);
+    }
+    Ok(())
 }
 
 /// Each name of a block stands again for what it stood for before.

@@ -3,16 +3,9 @@
 
 mod blocks;
 mod expressions;
-mod fills;
 mod frame;
-mod inputs;
 mod labels;
-mod names;
-mod operators;
 mod run;
-mod state;
 mod statements;
-mod store;
-mod value;
 
 pub use run::evaluate;

@@ -8,16 +8,13 @@ ghost use Rattle.c_tree.specs.Store.{Gives};
 ghost use Rattle.c_tree.specs.SourceRun as calls;
 ghost use Rattle.c_tree.specs.SourceRun.{source_run};
 ghost use Rattle.c_means.specs.Runs.{IsOutcome, main_run, statics_of};
-ghost use Rattle.c_means.specs.Stores.{store_of};
-ghost use Rattle.c_means.specs.Values.{option_of};
-ghost use Rattle.c_means.specs.Worlds.{world_of, Stops};
+ghost use Rattle.c_state.specs.Stores.{store_of};
+ghost use Rattle.c_state.specs.Values.{option_of};
+ghost use Rattle.c_state.specs.Worlds.{world_of, Stops};
 
-use crate::fills::listed;
 use crate::frame::Run;
-use crate::inputs::Inputs;
-use crate::state::State;
-use crate::store::Store;
-use crate::value::{Stop, Value};
+use crate::statements::body;
+use c_state::{Inputs, State, Stop, Store, Value, listed};
 use c_tree::{Function, Object, Program};
 use std::alloc::Global;
 use word_base::{Ending, NoMemory, Outcome, Outs, PortWord, Ports};
@@ -82,7 +79,7 @@ fn run_main(
         turns,
         depth: functions.len(),
     };
-    state.body(&run, &[])
+    body(state, &run, &[])
 }
 
 // The function that runs first.

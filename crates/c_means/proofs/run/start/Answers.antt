@@ -3,9 +3,9 @@ use Rattle.word_base.specs.Ports.{input_of}
 use Rattle.c_tree.specs.ProgramView.{program_of}
 use Rattle.c_tree.specs.View.{object_of}
 use Rattle.c_tree.specs.declared.program.Object.{Object}
-use Rattle.c_means.specs.Inputs.{input_left}
+use Rattle.c_state.specs.Inputs.{input_left}
 use Rattle.c_means.specs.Runs.{statics_of}
-use Rattle.c_means.specs.Stores.{store_of}
+use Rattle.c_state.specs.Stores.{store_of}
 use Rattle.c_means.proofs.MainLemmas.{at_start}
 use Rattle.c_means.proofs.run.start.Goals as goal
 

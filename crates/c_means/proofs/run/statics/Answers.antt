@@ -1,6 +1,6 @@
 use Rattle.std.proofs.Common.{map}
-use Rattle.c_means.specs.Stores.{store_of}
-use Rattle.c_means.specs.Values.{cell_view}
+use Rattle.c_state.specs.Stores.{store_of}
+use Rattle.c_state.specs.Values.{cell_view}
 use Rattle.c_means.proofs.MainLemmas.{next_static}
 use Rattle.c_means.proofs.run.statics.Goals as goal
 

@@ -1,9 +1,0 @@
-use Rattle.c_means.specs.Inputs.{input_left}
-use Rattle.c_means.specs.Stores.{store_of}
-use Rattle.c_means.proofs.WorldLemmas.{word_taken}
-use Rattle.c_means.proofs.state.State.take.Goals as goal
-
-pub returns-in-Some-clause-gives : goal.returns-in-Some-clause-gives
-returns-in-Some-clause-gives c =
-    let s = c.args.self.now in
-    word_taken (store_of s.store) (input_left s.inputs) (input_left c.take.new.self) s.outs.items c.args.port c.in-Some.word c.in-Some.ensures

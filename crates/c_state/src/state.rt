@@ -1,0 +1,82 @@
+//! What is known at a point of a run: the objects, the input that is left, and the outputs so far.
+ghost use Rattle.std.specs.Prelude.{◌≡◌, IfOk, IfErr, OnOk, None};
+ghost use Rattle.c_tree.specs.Eval as eval;
+ghost use Rattle.c_tree.specs.Store as runs;
+ghost use Rattle.c_tree.specs.Store.{Gives};
+ghost use Rattle.c_state.specs.Values.{value_of, option_of};
+ghost use Rattle.c_state.specs.Worlds.{world_of, Stops};
+
+use crate::inputs::Inputs;
+use crate::store::Store;
+use crate::value::{Cell, Spot, Stop, Value, bad_pointer, undefined};
+use c_tree::{ScalarType, points};
+use word_base::{Ending, PortWord, UndefinedKind};
+
+#[derive(Drop)]
+pub struct State {
+    pub store: Store,
+    pub inputs: Inputs,
+    pub outs: Vec<PortWord>,
+}
+
+impl State {
+    /// The value of a cell, read as its type says.
+    pub fn load(&self, spot: Spot, kind: Option<ScalarType>, at: u32) -> Result<Value, Stop>
+        ensures gives { IfOk result (λ v. runs.load spot.object.number spot.index (eval.points kind) at (world_of self.now) ≡ Gives (value_of v) (world_of self.now)) }
+        ensures stops { IfErr result (Stops (runs.load spot.object.number spot.index (eval.points kind) at (world_of self.now)) self.now.outs.items) }
+    {
+        match self.store.cell(spot.object, spot.index, points(kind)) {
+            Some(Cell::Holds(value)) => Ok(value),
+            Some(Cell::Unset) => Err(undefined(UndefinedKind::Indeterminate, at)),
+            None => Err(bad_pointer(at)),
+        }
+    }
+
+    /// A value goes into a cell, written as its type says.
+    pub fn save(
+        &mut self,
+        spot: Spot,
+        kind: Option<ScalarType>,
+        value: Value,
+        at: u32,
+    ) -> Result<Value, Stop>
+        ensures gives { IfOk result (λ v. runs.save spot.object.number spot.index (eval.points kind) (value_of value) at (world_of self.old) ≡ Gives (value_of v) (world_of self.new)) }
+        ensures stops { IfErr result (Stops (runs.save spot.object.number spot.index (eval.points kind) (value_of value) at (world_of self.old)) self.new.outs.items) }
+    {
+        if self
+            .store
+            .cell(spot.object, spot.index, points(kind))
+            .is_none()
+        {
+            return Err(bad_pointer(at));
+        }
+        self.store.set(spot.object, spot.index, value);
+        Ok(value)
+    }
+
+    /// The next word of a port, or the end of the run.
+    pub fn take(&mut self, port: u8) -> Result<Value, Stop>
+        ensures gives { IfOk result (λ v. runs.take_word port (world_of self.old) ≡ Gives (value_of v) (world_of self.new)) }
+        ensures stops { IfErr result (Stops (runs.take_word port (world_of self.old)) self.new.outs.items) }
+    {
+        match self.inputs.take(port) {
+            Some(word) => Ok(Value::Word(word)),
+            None => Err(Stop::Ended(Ending::InputEnded(port))),
+        }
+    }
+
+    /// A word goes out. It yields to want of memory at a port from 16 on, which no source has.
+    pub fn emit(&mut self, port: u8, value: Value, at: u32) -> Result<(), Stop>
+        ensures gives { OnOk result (eval.emit port (value_of value) at (world_of self.old) ≡ Gives None (world_of self.new)) }
+        ensures stops { IfErr result (Stops (eval.emit port (value_of value) at (world_of self.old)) self.new.outs.items) }
+    {
+        let Value::Word(word) = value else {
+            return Err(bad_pointer(at));
+        };
+        if port >= 16 {
+            return Err(Stop::NoMemory);
+        }
+        self.outs.push(PortWord::new(port, word))?;
+        Ok(())
+    }
+}
