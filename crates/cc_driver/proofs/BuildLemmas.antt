@@ -1,8 +1,8 @@
 -- What the causes of a build's refusal make of its status and line.
 use Rattle.std.proofs.Common.{◌≡◌, ◌≢◌, ◌∙◌, ℕ, Bool, List, Option, Some, None, refl, sym, subst, inl, inr, ⊎_elim, IsTrue}
 use Rattle.std.specs.Prelude.{◌⊎◌}
-use Rattle.word_base.specs.Counts.{Counts, FetchFailed, StoreFailed}
-use Rattle.word_base.specs.Files.{Files}
+use Rattle.cc_shelf.specs.Counts.{Counts, FetchFailed, StoreFailed}
+use Rattle.cc_shelf.specs.Files.{Files}
 use Rattle.cc_driver.specs.Build.{IsTooLong, IsAccepted, IsWithoutTypes, IsRefusedFor, IsToldWith, ReadCause, TooLongCause, BuildRefused, Builds, build_status}
 use Rattle.cc_driver.specs.BuildAnswer.{PutsFault, SourceRefused, RefusesFor}
 use Rattle.cc_text.specs.Line.{Puts, Sinks, build_line}

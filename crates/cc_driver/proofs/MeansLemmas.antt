@@ -1,8 +1,8 @@
 -- What is told of the files of an evaluation, and the status.
 use Rattle.std.proofs.Common.{◌≡◌, ◌∙◌, ◌<◌, ◌≤◌, ℕ, Bool, List, length, Option, Some, None, refl, sym, ap, subst, inl, inr, IsTrue, arith}
 use Rattle.std.specs.Prelude.{◌⊎◌, Result, Ok, Err, IsErrAnd, MatchResult}
-use Rattle.word_base.specs.Counts.{Counts, FetchFailed, Rose}
-use Rattle.word_base.specs.Files.{Files}
+use Rattle.cc_shelf.specs.Counts.{Counts, FetchFailed, Rose}
+use Rattle.cc_shelf.specs.Files.{Files}
 use Rattle.word_base.specs.declared.outcome.Outcome.{Outcome}
 use Rattle.c25_image.proofs.PortLines.{bad_no_text}
 use Rattle.cc_driver.specs.Answer.{AnswerPut, PutWhole, PutPart, PutNothing}

@@ -1,6 +1,6 @@
 -- What the put of an answer makes of the status and of the sink (docs/COMMANDS.md, "Statuses and lines").
 use Rattle.std.specs.Prelude.{◌≡◌, ℕ, IsTrue, List, ◌++◌, take, codes, Some}
-use Rattle.word_base.specs.Counts.{Rose}
+use Rattle.cc_shelf.specs.Counts.{Rose}
 use Rattle.cc_text.specs.Line.{Puts, Sinks}
 
 -- an answer of this text, whose status is this where all of it is put

@@ -1,6 +1,6 @@
 -- What a build whose source is refused answers and puts (docs/COMMANDS.md, "build").
 use Rattle.std.specs.Prelude.{◌≡◌, ◌⊎◌, ℕ, Bool, IsTrue, List, Some}
-use Rattle.word_base.specs.Files.{Files}
+use Rattle.cc_shelf.specs.Files.{Files}
 use Rattle.cc_text.specs.declared.fault.SourceFault.{SourceFault}
 use Rattle.cc_text.specs.SourceFaults.{source_line}
 use Rattle.cc_text.specs.Line.{Puts, Sinks}

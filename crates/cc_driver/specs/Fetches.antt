@@ -1,7 +1,7 @@
 -- The fetches of a file and of a port file, in this order, and when they are refused (docs/COMMANDS.md, "run" and "means").
 use Rattle.std.specs.Prelude.{◌≡◌, ℕ, ◌≤◌, Bool, IsTrue, List, length, Option, Some}
-use Rattle.word_base.specs.Counts.{Counts}
-use Rattle.word_base.specs.Files.{Files}
+use Rattle.cc_shelf.specs.Counts.{Counts}
+use Rattle.cc_shelf.specs.Files.{Files}
 use Rattle.c25_image.specs.PortText.{IsFirstBad}
 use Rattle.cc_driver.specs.Build.{ReadCause, LongCause}
 use Rattle.cc_text.specs.declared.fault.FileFault.{FileFault}

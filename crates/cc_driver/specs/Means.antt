@@ -1,7 +1,7 @@
 -- What a source means on port input, and when that is refused (docs/COMMANDS.md, "means").
 use Rattle.std.specs.Prelude.{◌≡◌, ℕ, Bool, IsTrue, List}
-use Rattle.word_base.specs.Counts.{Counts}
-use Rattle.word_base.specs.Files.{Files}
+use Rattle.cc_shelf.specs.Counts.{Counts}
+use Rattle.cc_shelf.specs.Files.{Files}
 use Rattle.word_base.specs.Ports.{input_of}
 use Rattle.word_base.specs.declared.outcome.Outcome.{Outcome}
 use Rattle.c_tree.specs.TypedTree.{ProgramTree}

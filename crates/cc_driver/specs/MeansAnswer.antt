@@ -1,7 +1,7 @@
 -- What the call of `means` answers and puts (docs/COMMANDS.md, "means").
 use Rattle.std.specs.Prelude.{◌≡◌, ℕ, ◌<◌, Bool, IsTrue, List, length, Some, None}
-use Rattle.word_base.specs.Counts.{Counts}
-use Rattle.word_base.specs.Files.{Files}
+use Rattle.cc_shelf.specs.Counts.{Counts}
+use Rattle.cc_shelf.specs.Files.{Files}
 use Rattle.word_base.specs.declared.outcome.Outcome.{Outcome}
 use Rattle.c_tree.specs.TypedTree.{ProgramTree}
 use Rattle.c25_image.specs.PortText.{IsFirstBad}

@@ -1,7 +1,7 @@
 -- What a run of an image comes to, and when it is refused (docs/COMMANDS.md, "run").
 use Rattle.std.specs.Prelude.{◌≡◌, ℕ, Bool, IsTrue, List}
-use Rattle.word_base.specs.Counts.{Counts}
-use Rattle.word_base.specs.Files.{Files}
+use Rattle.cc_shelf.specs.Counts.{Counts}
+use Rattle.cc_shelf.specs.Files.{Files}
 use Rattle.word_base.specs.Ports.{Outputs, input_of}
 use Rattle.c25_isa.specs.declared.event.Stop.{Stop}
 use Rattle.c25_isa.specs.Image.{Contents}

@@ -1,7 +1,7 @@
 -- What the call of `run` answers and puts (docs/COMMANDS.md, "run").
 use Rattle.std.specs.Prelude.{◌≡◌, ℕ, Bool, IsTrue, List, Some}
-use Rattle.word_base.specs.Counts.{Counts}
-use Rattle.word_base.specs.Files.{Files}
+use Rattle.cc_shelf.specs.Counts.{Counts}
+use Rattle.cc_shelf.specs.Files.{Files}
 use Rattle.word_base.specs.Ports.{Outputs}
 use Rattle.c25_isa.specs.declared.event.Stop.{Stop}
 use Rattle.cc_text.specs.declared.fault.RunFault.{RunFault}

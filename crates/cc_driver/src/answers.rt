@@ -1,7 +1,7 @@
 //! What the commands do and answer.
 ghost use Rattle.std.specs.Prelude.{◌≡◌, ◌≢◌, ◌⊎◌, [], ◌∷◌, ℕ, List, Some, None, IsTrue, Contains, codes};
-ghost use Rattle.word_base.specs.Counts.{FetchFailed, StoreFailed, Rose};
-ghost use Rattle.word_base.specs.Files.{Unchanged};
+ghost use Rattle.cc_shelf.specs.Counts.{FetchFailed, StoreFailed, Rose};
+ghost use Rattle.cc_shelf.specs.Files.{Unchanged};
 ghost use Rattle.word_base.specs.declared.outcome.Outcome.{Outcome};
 ghost use Rattle.cc_driver.specs.Answer.{AnswerPut};
 ghost use Rattle.cc_driver.specs.Build.{Builds, IsToldWith, IsAccepted, IsWithoutTypes, IsRefusedFor, IsTooLong, ReadCause, TooLongCause, build_status};
@@ -24,7 +24,8 @@ use cc_text::{
     report_run, say,
 };
 use std::alloc::Global;
-use word_base::{Outcome, Shelf, Sink, SinkFault};
+use cc_shelf::{Shelf, Sink, SinkFault};
+use word_base::Outcome;
 
 // The status of a refused build.
 fn build_status(fault: &BuildFault) -> u8

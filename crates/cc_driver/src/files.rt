@@ -1,13 +1,13 @@
 //! The files of commands that take a file and a port file.
 ghost use Rattle.std.specs.Prelude.{◌≡◌, ◌≤◌, length, IfOk, IfErr, IsTrue};
-ghost use Rattle.word_base.specs.Files.{Unchanged};
+ghost use Rattle.cc_shelf.specs.Files.{Unchanged};
 ghost use Rattle.cc_driver.specs.Fetches.{IsFetched, FetchesRefused, ports_limit};
 ghost use Rattle.cc_text.specs.CommandFaults.{of_shelf_fault};
 ghost use Rattle.cc_text.specs.declared.fault.RunFault.TheVariants as faults;
 
 use cc_text::{FileFault, RunFault};
 use std::alloc::Global;
-use word_base::{Shelf, ShelfFault};
+use cc_shelf::{Shelf, ShelfFault};
 
 /// The greatest length of a port file, in bytes.
 const PORTS_LIMIT: u64 = 16_777_216;

@@ -1,7 +1,7 @@
 //! What a source means on port input.
 ghost use Rattle.std.specs.Prelude.{◌≡◌, ◌<◌, ◌^◌, length, IfOk, IfErr, IsTrue, MatchResult};
-ghost use Rattle.word_base.specs.Counts.{FetchFailed};
-ghost use Rattle.word_base.specs.Files.{Unchanged};
+ghost use Rattle.cc_shelf.specs.Counts.{FetchFailed};
+ghost use Rattle.cc_shelf.specs.Files.{Unchanged};
 ghost use Rattle.word_base.specs.declared.outcome.Outcome.{Outcome};
 ghost use Rattle.cc_driver.specs.Means.{Meant, MeansTo, MeansRefused, TextsRefused};
 ghost use Rattle.cc_text.specs.declared.fault.RunFault.TheVariants as faults;
@@ -13,7 +13,8 @@ use c_means::evaluate;
 use c25_image::read_ports;
 use cc_text::MeansFault;
 use std::alloc::Global;
-use word_base::{Outcome, Shelf};
+use cc_shelf::Shelf;
+use word_base::Outcome;
 
 // Evaluates the source of one text on the ports of another. The format of the ports comes before the faults of the source.
 fn means_texts(

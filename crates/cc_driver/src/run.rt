@@ -1,6 +1,6 @@
 //! The run of an image on port input.
 ghost use Rattle.std.specs.Prelude.{◌≡◌, IfOk, IfErr, IsTrue};
-ghost use Rattle.word_base.specs.Files.{Unchanged};
+ghost use Rattle.cc_shelf.specs.Files.{Unchanged};
 ghost use Rattle.cc_driver.specs.Run.{Ran, RunsTo, BytesRefused, RunRefused};
 
 use crate::files::fetch_both;
@@ -9,7 +9,7 @@ use c25_isa::{RunOutcome, Start};
 use c25_sim::Machine;
 use cc_text::RunFault;
 use std::alloc::Global;
-use word_base::Shelf;
+use cc_shelf::Shelf;
 
 /// The greatest length of an image's text, in bytes.
 const IMAGE_LIMIT: u64 = 4_194_304;

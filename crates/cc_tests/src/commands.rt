@@ -4,7 +4,7 @@ use std::alloc::Global;
 use std::process::Abort;
 use std::test::Fail;
 use std::thread::Threads;
-use word_base::{MemShelf, MemSink};
+use cc_memory::{MemShelf, MemSink};
 
 /// A command over a shelf that holds the files `i` and `p`.
 #[derive(Clone, Copy)]

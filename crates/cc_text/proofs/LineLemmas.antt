@@ -1,9 +1,9 @@
 -- What a put makes of a sink.
 use Rattle.std.proofs.Common.{◌≡◌, ℕ, Bool, subst, List, ◌++◌, Ok, Err, OnOk, IfErr, IsTrue}
 use Rattle.std.specs.Prelude.{Result}
-use Rattle.word_base.specs.declared.sink.SinkFault.{SinkFault}
-use Rattle.word_base.specs.declared.sink.SinkFault.TheVariants.{Failed, NoMemory}
-use Rattle.word_base.specs.SinkAnswers.{PutRefused}
+use Rattle.cc_shelf.specs.declared.sink.SinkFault.{SinkFault}
+use Rattle.cc_shelf.specs.declared.sink.SinkFault.TheVariants.{Failed, NoMemory}
+use Rattle.cc_shelf.specs.SinkAnswers.{PutRefused}
 use Rattle.cc_text.specs.Line.{LinePut, Whole, Part, Nothing}
 
 -- a put of a line, whatever it answers

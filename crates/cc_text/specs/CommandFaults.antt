@@ -3,8 +3,8 @@ use Rattle.c25_image.specs.declared.fault.ImageFault.{ImageFault}
 use Rattle.c25_image.specs.declared.fault.ImageFault.TheVariants as image_faults
 use Rattle.c25_image.specs.declared.fault.PortFault.{PortFault}
 use Rattle.c25_image.specs.declared.fault.PortFault.TheVariants as port_faults
-use Rattle.word_base.specs.declared.shelf.ShelfFault.{ShelfFault}
-use Rattle.word_base.specs.declared.shelf.ShelfFault.TheVariants as shelf_faults
+use Rattle.cc_shelf.specs.declared.shelf.ShelfFault.{ShelfFault}
+use Rattle.cc_shelf.specs.declared.shelf.ShelfFault.TheVariants as shelf_faults
 use Rattle.cc_text.specs.declared.fault.FrontFault.{FrontFault}
 use Rattle.cc_text.specs.declared.fault.FrontFault.TheVariants as front
 use Rattle.cc_text.specs.declared.fault.BuildFault.{BuildFault}

@@ -1,6 +1,6 @@
 -- The lines that are put, and what a put makes of a sink (docs/COMMANDS.md, "Statuses and lines").
 use Rattle.std.specs.Prelude.{◌≡◌, ℕ, ◌==◌, Bool, IsTrue, if◌then◌else◌, List, ◌++◌, take, codes, Option, Some, None}
-use Rattle.word_base.specs.Counts.{Rose}
+use Rattle.cc_shelf.specs.Counts.{Rose}
 use Rattle.cc_text.specs.SourceFaults.{source_line}
 use Rattle.cc_text.specs.declared.fault.BuildFault.{BuildFault}
 use Rattle.cc_text.specs.declared.fault.BuildFault.TheVariants as fault

@@ -8,7 +8,8 @@ ghost use Rattle.cc_text.specs.MeansText.{means_line};
 use crate::fault::{BuildFault, FileFault, MeansFault, RunFault, SourceFault};
 use c_rules::{LimitName, TypeFault};
 use std::alloc::Global;
-use word_base::{NoMemory, Sink, Text};
+use cc_shelf::Sink;
+use word_base::{NoMemory, Text};
 
 /// Puts a line. A failure changes no status.
 pub fn say<K: Sink>(alloc: Global, out: &mut K, line: &[u8])

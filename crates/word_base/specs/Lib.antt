@@ -1,11 +1,4 @@
 pub mod Name
-pub mod Files
-pub mod Counts
-pub mod ShelfAnswers
-pub mod SinkAnswers
-pub mod ReadAnswers
-pub mod Held
-pub mod MemCounts
 pub mod Words
 pub mod Ports
 pub mod Outcome

@@ -1,0 +1,5 @@
+pub mod Files
+pub mod Counts
+pub mod ShelfAnswers
+pub mod SinkAnswers
+pub mod ReadAnswers

@@ -1,5 +1,0 @@
-use Rattle.word_base.proofs.HeldLemmas.{contains_is}
-use Rattle.word_base.proofs.mem_shelf.MemShelf.count_call.Goals as goal
-
-pub returns-clause-fails : goal.returns-clause-fails
-returns-clause-fails c = contains_is _ _ _ _ c.deref.ensures.value c.contains-fails.ensures.cases

@@ -1,6 +1,0 @@
-use Rattle.std.proofs.Common.{◌≡◌, take, None}
-use Rattle.word_base.specs.Held.{held}
-use Rattle.word_base.proofs.mem_shelf.place_of.Given as goal
-
-abbrev pub invariant-loop-i : goal.invariant-loop-i
-invariant-loop-i l = held (take l.i l.files) l.name ≡ None
