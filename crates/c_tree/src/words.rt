@@ -5,7 +5,7 @@ ghost use Rattle.c_tree.specs.Operators as operators;
 ghost use Rattle.c_tree.specs.Operators.{answer};
 
 use c_syntax::{BinaryOp, UnaryOp};
-use word_base::{UndefinedKind, signed, wrap16};
+use word_base::{UndefinedKind, div_trunc, signed, wrap16};
 
 /// An operator on two ints: the word of its value, or why it has none.
 pub fn int_binary(op: BinaryOp, a: u16, b: u16) -> Result<u16, UndefinedKind>
@@ -14,7 +14,7 @@ pub fn int_binary(op: BinaryOp, a: u16, b: u16) -> Result<u16, UndefinedKind>
     match op {
         BinaryOp::Add => fit(signed(a) + signed(b)),
         BinaryOp::Sub => fit(signed(a) - signed(b)),
-        BinaryOp::Mul => fit(signed(a) * signed(b)),
+        BinaryOp::Mul => int_product(a, b),
         BinaryOp::Div => int_quotient(a, b),
         BinaryOp::Rem => int_remainder(a, b),
         BinaryOp::And => Ok(a & b),
@@ -95,10 +95,19 @@ fn fit(value: i32) -> Result<u16, UndefinedKind>
     }
 }
 
+fn int_product(a: u16, b: u16) -> Result<u16, UndefinedKind>
+    ensures { result ≡ answer (words.int_multiply a b) }
+{
+    match signed(a).checked_mul(signed(b)) {
+        Some(product) => fit(product),
+        None => Err(UndefinedKind::Overflow),
+    }
+}
+
 fn int_quotient(a: u16, b: u16) -> Result<u16, UndefinedKind>
     ensures { result ≡ answer (words.int_quotient a b) }
 {
-    match signed(a).checked_div(signed(b)) {
+    match div_trunc(signed(a), signed(b)) {
         Some(quotient) => fit(quotient),
         None => Err(UndefinedKind::DivideByZero),
     }
