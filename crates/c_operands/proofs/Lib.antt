@@ -1,1 +1,2 @@
 pub mod OperandLists
+pub mod WordLemmas

@@ -1,6 +1,6 @@
 -- The pure operands that the checker's stand for.
-use Rattle.std.specs.Prelude.{ℕ, Bool, not, if◌then◌else◌}
-use Rattle.c_tree.specs.TypedTree.{Expr}
+use Rattle.std.specs.Prelude.{ℕ, Bool, not, if◌then◌else◌, Option, Some, None}
+use Rattle.c_tree.specs.TypedTree.{Expr, Kind}
 use Rattle.c_tree.specs.Eval.{kind_of}
 use Rattle.c_tree.specs.View.{expr_of}
 use Rattle.c_operands.specs.declared.conversions.Operand as memory
@@ -28,3 +28,8 @@ abbrev pub beside_void : ℕ → Expr → Expr → Outcome Pair
 beside_void at x y =
     if is_void_pointer (kind_of x) then Is (record { left = x; right = converted_like x y })
     else breaks (not (is_void_pointer (kind_of y))) Mismatch at (Is (record { left = converted_like y x; right = y }))
+
+-- a word of a type, of which void has none
+abbrev pub valued : Kind → Option ℕ → Option ℕ
+valued None word = None
+valued (Some kind) word = word

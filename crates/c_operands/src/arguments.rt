@@ -173,5 +173,9 @@ fn none_left(at: u32, rest: IntoIter<Operand, Global>) -> Result<(), Refusal>
 fn any_void_left(mut rest: IntoIter<Operand, Global>) -> bool
     ensures { result ≡ list_any (λ x. is_void x.value.kind) (into_iter_items rest) }
 {
-    rest.any(|x| x.value.kind.is_none())
+    rest.any(|x| {
+        let void = x.value.kind.is_none();
+        drop(x);
+        void
+    })
 }

@@ -1,10 +1,9 @@
 //! Constant expressions: ISO 9899:1990 6.4.
-ghost use Rattle.std.specs.Prelude.{◌≡◌, if◌then◌else◌};
-ghost use Rattle.c_tree.specs.Eval as eval;
-ghost use Rattle.c_tree.specs.Operators as operators;
+ghost use Rattle.std.specs.Prelude.{◌≡◌};
 ghost use Rattle.c_syntax.specs.SyntaxView.{expression_of};
 ghost use Rattle.c_tree.specs.View.{expr_of};
 ghost use Rattle.c_rules.specs.Constants as constants;
+ghost use Rattle.c_operands.specs.OperandView.{valued};
 
 use c_syntax::{BinaryOp, Expr, ExprKind, UnaryOp};
 use c_tree::{
@@ -51,32 +50,50 @@ pub(crate) fn word_of(e: &TypedExpr) -> Option<u16>
 {
     match &e.form {
         ExprForm::Const(word) => Some(*word),
-        ExprForm::Unary { op, value } => of_one(*op, e.kind, word_of(value)?),
+        ExprForm::Unary { op, value } => of_one(*op, e.kind, word_of(value)),
         ExprForm::Binary { op, left, right } => {
-            of_two(*op, left.kind, right.kind, word_of(left)?, word_of(right)?)
+            of_two(*op, left.kind, right.kind, word_of(left), word_of(right))
         }
-        ExprForm::And { left, right } => match word_of(left)? {
-            0 => Some(0),
-            _ => Some(truth(word_of(right)? != 0)),
-        },
-        ExprForm::Or { left, right } => match word_of(left)? {
-            0 => Some(truth(word_of(right)? != 0)),
-            _ => Some(1),
-        },
-        ExprForm::Not(value) => Some(truth(word_of(value)? == 0)),
-        ExprForm::Pick { test, yes, no } => match word_of(test)? {
-            0 => word_of(no),
-            _ => word_of(yes),
-        },
-        ExprForm::Convert(value) if e.kind.is_some() => word_of(value),
+        ExprForm::And { left, right } => {
+            tested(word_of(left), truth_of(word_of(right)), Some(0))
+        }
+        ExprForm::Or { left, right } => { tested(word_of(left), Some(1), truth_of(word_of(right))) }
+        ExprForm::Not(value) => tested(word_of(value), Some(0), Some(1)),
+        ExprForm::Pick { test, yes, no } => tested(word_of(test), word_of(yes), word_of(no)),
+        ExprForm::Convert(value) => valued(e.kind, word_of(value)),
         _ => None,
     }
 }
 
-// An operator on a word of this type.
-fn of_one(op: UnaryOp, kind: Option<ScalarType>, a: u16) -> Option<u16>
-    ensures { result ≡ constants.good (if eval.is_unsigned kind then operators.unsigned_unary op a else operators.int_unary op a) }
+// What stands behind a test: the last where the word is 0.
+fn tested(test: Option<u16>, other: Option<u16>, zero_case: Option<u16>) -> Option<u16>
+    ensures { result ≡ constants.tested test other zero_case }
 {
+    match test? {
+        0 => zero_case,
+        _ => other,
+    }
+}
+
+// The truth value of a word.
+fn truth_of(word: Option<u16>) -> Option<u16>
+    ensures { result ≡ constants.truth_of word }
+{
+    Some(truth(word? != 0))
+}
+
+// A word of this type: there is none of void.
+fn valued(kind: Option<ScalarType>, word: Option<u16>) -> Option<u16>
+    ensures { result ≡ valued kind word }
+{
+    if kind.is_some() { word } else { None }
+}
+
+// An operator on a word of this type.
+fn of_one(op: UnaryOp, kind: Option<ScalarType>, a: Option<u16>) -> Option<u16>
+    ensures { result ≡ constants.word_of_one op kind a }
+{
+    let a = a?;
     if is_unsigned(kind) {
         Some(unsigned_unary(op, a))
     } else {
@@ -84,8 +101,24 @@ fn of_one(op: UnaryOp, kind: Option<ScalarType>, a: u16) -> Option<u16>
     }
 }
 
-// An operator on two words of these types. Of two null pointers it is only known whether they are equal.
+// An operator on two words of these types, where both are there.
 fn of_two(
+    op: BinaryOp,
+    left: Option<ScalarType>,
+    right: Option<ScalarType>,
+    a: Option<u16>,
+    b: Option<u16>,
+) -> Option<u16>
+    ensures { result ≡ constants.word_of_two op left right a b }
+{
+    match (a, b) {
+        (Some(a), Some(b)) => calculated(op, left, right, a, b),
+        _ => None,
+    }
+}
+
+// Of two null pointers it is only known whether they are equal.
+fn calculated(
     op: BinaryOp,
     left: Option<ScalarType>,
     right: Option<ScalarType>,

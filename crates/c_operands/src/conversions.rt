@@ -75,12 +75,23 @@ pub fn given(alloc: Global, kind: ScalarType, at: u32, x: Operand) -> Result<Typ
 {
     match (class_of(Some(kind)), class_of(x.value.kind)) {
         (Class::Integer, Class::Integer) => converted(alloc, kind, x.value),
-        (Class::Pointer, Class::Pointer) if !x.null && goes_with(kind, x.value.kind) => {
-            converted(alloc, kind, x.value)
+        (Class::Pointer, Class::Integer) => null_given(kind, at, x),
+        (Class::Pointer, Class::Pointer) => pointer_given(alloc, kind, at, x),
+        _ => {
+            drop(x);
+            Err(mismatch(at))
         }
-        (Class::Pointer, Class::Integer | Class::Pointer) => null_given(kind, at, &x),
-        _ => Err(mismatch(at)),
     }
+}
+
+// What a pointer gives where one of this type is wanted.
+fn pointer_given(alloc: Global, kind: ScalarType, at: u32, x: Operand) -> Result<TypedExpr, Refusal>
+    ensures { Follows expr_of (rules.pointer_given kind at (operand_of x)) result }
+{
+    if !x.null && goes_with(kind, x.value.kind) {
+        return converted(alloc, kind, x.value);
+    }
+    null_given(kind, at, x)
 }
 
 // Whether a pointer goes where one of this type is wanted: a void pointer goes with any, both ways.
@@ -91,11 +102,13 @@ fn goes_with(kind: ScalarType, other: Option<ScalarType>) -> bool
 }
 
 // The null pointer of a type, where the operand is one.
-fn null_given(kind: ScalarType, at: u32, x: &Operand) -> Result<TypedExpr, Refusal>
-    ensures { Follows expr_of (breaks (not x.now.null) rule.Mismatch at (Is (rules.null_of kind (expr_of x.now.value)))) result }
+fn null_given(kind: ScalarType, at: u32, x: Operand) -> Result<TypedExpr, Refusal>
+    ensures { Follows expr_of (breaks (not x.null) rule.Mismatch at (Is (rules.null_of kind (expr_of x.value)))) result }
 {
-    if x.null {
-        Ok(null_of(kind, x.value.at))
+    let (place, null) = (x.value.at, x.null);
+    drop(x);
+    if null {
+        Ok(null_of(kind, place))
     } else {
         Err(mismatch(at))
     }

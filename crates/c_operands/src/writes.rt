@@ -46,7 +46,10 @@ fn target_of(at: u32, e: TypedExpr) -> Result<Target, Refusal>
             form: TargetForm::At(pointer),
             at: place,
         }),
-        _ => Err(not_lvalue(at)),
+        other => {
+            drop(other);
+            Err(not_lvalue(at))
+        }
     }
 }
 
@@ -70,6 +73,7 @@ pub fn assigned(alloc: Global, at: u32, to: TypedExpr, value: Operand) -> Result
     let kind = to.kind;
     let target = target_of(at, to);
     let Some(kind) = kind else {
+        drop(value);
         return Err(mismatch(at));
     };
     let value = given_boxed(alloc, kind, at, value)?;
