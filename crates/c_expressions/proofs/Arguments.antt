@@ -130,27 +130,27 @@ arguments_behind cursor o trees all q r high e =
     record { trees = f.others.trees; reads = subst (λ l. ReadsSome (behind o.rest) (listed f.others.trees l)) f.same_rest some; high = omega (arith, high, f.others_high) }
 
 module _ (before : List Token) (depth : ℕ) (list : List Expr) (height : ℕ) (cursor : List Token) (p : Parsed) (mid : List Token) (s : ArgumentsSoFar before depth list height cursor) (q : IsParsed AssignmentRow None cursor (depth + 1) p mid) where
-  more_height : max height p.height ≡ arguments_height (trees_of (list ++ p.tree ∷ []))
-  more_height = ap (λ h. max h p.height) s.height_is ∙ ap (λ h. max (arguments_height (trees_of list)) h) q.measured.height ∙ sym (height_more list p.tree)
+  more_height : max height p.height ≡ arguments_height (trees_of (list ++ p.tree.value ∷ []))
+  more_height = ap (λ h. max h p.height) s.height_is ∙ ap (λ h. max (arguments_height (trees_of list)) h) q.measured.height ∙ sym (height_more list p.tree.value)
 
   more_fits : depth + max height p.height + 1 ≤ greatest_height
   more_fits = let k = s.fits in let j = q.measured.fits in omega arith
 
-  pub arguments_more : mark_at mid ≡ Some mark.Comma → ArgumentsSoFar before depth (list ++ p.tree ∷ []) (max height p.height) (behind mid)
+  pub arguments_more : mark_at mid ≡ Some mark.Comma → ArgumentsSoFar before depth (list ++ p.tree.value ∷ []) (max height p.height) (behind mid)
   arguments_more e = record {
-    goes = λ trees rest r. subst (λ t. ReadsSome before (listed t rest)) (sym (onto_more list p.tree trees)) (s.goes (argument (expression_of p.tree) trees) rest (OneRead q.reads (rest_goes mid (listed trees rest) e r)));
+    goes = λ trees rest r. subst (λ t. ReadsSome before (listed t rest)) (sym (onto_more list p.tree.value trees)) (s.goes (argument (expression_of p.tree.value) trees) rest (OneRead q.reads (rest_goes mid (listed trees rest) e r)));
     only = λ all r. let from = s.only all r in arguments_behind cursor (read p mid) from.trees all q.reads from.reads from.high e;
     height_is = more_height;
     fits = more_fits;
     shorter = let k = s.shorter in let j = q.shorter in omega (arith, behind_shorter mid);
   }
 
-  arguments_some : mark_at mid ≡ Some mark.CloseParen → ReadsSome before (listed (trees_of (list ++ p.tree ∷ [])) (behind mid))
+  arguments_some : mark_at mid ≡ Some mark.CloseParen → ReadsSome before (listed (trees_of (list ++ p.tree.value ∷ [])) (behind mid))
   arguments_some e =
-      subst (λ t. ReadsSome before (listed t (behind mid))) (sym (onto_more list p.tree no_argument) ∙ onto_none (list ++ p.tree ∷ []))
-      (s.goes (argument (expression_of p.tree) no_argument) (behind mid) (OneRead q.reads (rest_ends mid e)))
+      subst (λ t. ReadsSome before (listed t (behind mid))) (sym (onto_more list p.tree.value no_argument) ∙ onto_none (list ++ p.tree.value ∷ []))
+      (s.goes (argument (expression_of p.tree.value) no_argument) (behind mid) (OneRead q.reads (rest_ends mid e)))
 
-  pub arguments_end : (a : Arguments) → a.list.items ≡ list ++ p.tree ∷ [] → a.height ≡ max height p.height → mark_at mid ≡ Some mark.CloseParen → separator_of before ≡ OtherHere → AreRead before depth a (behind mid)
+  pub arguments_end : (a : Arguments) → a.list.items ≡ list ++ p.tree.value ∷ [] → a.height ≡ max height p.height → mark_at mid ≡ Some mark.CloseParen → separator_of before ≡ OtherHere → AreRead before depth a (behind mid)
   arguments_end a items high e other = record {
     reads = subst (λ g. ReadsArguments g before (listed (trees_of a.list.items) (behind mid))) (sym other)
         (SomeRead (subst (λ l. ReadsSome before (listed (trees_of l) (behind mid))) (sym items) (arguments_some e)));
@@ -163,7 +163,7 @@ some_other : (before : List Token) (o : ArgumentsReading) → ReadsSome before o
 some_other before o (OneRead {o = x} r s) h = separator_other before x r h
 
 pub arguments_done : (before : List Token) (depth : ℕ) (list : List Expr) (height : ℕ) (cursor : List Token) (p : Parsed) (mid : List Token) (a : Arguments) → ArgumentsSoFar before depth list height cursor
-    → IsParsed AssignmentRow None cursor (depth + 1) p mid → mark_at before ≢ Some mark.CloseParen → mark_at mid ≡ Some mark.CloseParen → a.list.items ≡ list ++ p.tree ∷ [] → a.height ≡ max height p.height → AreRead before depth a (behind mid)
+    → IsParsed AssignmentRow None cursor (depth + 1) p mid → mark_at before ≢ Some mark.CloseParen → mark_at mid ≡ Some mark.CloseParen → a.list.items ≡ list ++ p.tree.value ∷ [] → a.height ≡ max height p.height → AreRead before depth a (behind mid)
 arguments_done before depth list height cursor p mid a s q h e items high =
     arguments_end before depth list height cursor p mid s q a items high e (some_other before _ (arguments_some before depth list height cursor p mid s q e) h)
 

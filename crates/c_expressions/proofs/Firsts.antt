@@ -116,7 +116,7 @@ own row before s o e f r g =
     Both (subst (λ k. Starts row k before o) (sym (ap (first_of row) e ∙ f)) r) (subst (λ k. More row (place_of before) k o.tree o.unary o.rest o) (sym (g ∙ no_primary (next_of o.rest))) Stop)
 
 -- the height of a node over one part
-one_measured : (depth : ℕ) (operand : Parsed) (form : ExpressionForm) (at : ℕ) (unary : Bool) (p : Parsed) → IsMeasured (depth + 1) operand → expression_height (expression_of operand.tree) ≡ form_height form
+one_measured : (depth : ℕ) (operand : Parsed) (form : ExpressionForm) (at : ℕ) (unary : Bool) (p : Parsed) → IsMeasured (depth + 1) operand → expression_height (expression_of operand.tree.value) ≡ form_height form
     → IsNode form at unary operand.height p → IsMeasured depth p
 one_measured depth operand form at unary p m e n = node_measured form at unary operand.height depth p n (m.height ∙ e) (let k = m.fits in omega arith)
 
@@ -147,7 +147,7 @@ pub starts_by : (t : Token) (more : List Token) (k : TokenKind) → t.kind ≡ k
 starts_by t more k e = ap (λ q. kind_start q (next_of more) (spec_of more) (start_of more)) e
 
 pub step_parsed : (before : List Token) (depth : ℕ) (up : Bool) (operand : Parsed) (rest : List Token) (p : Parsed) (at : ℕ) → step_at (mark_at before) ≡ Some up → (0 < length before → at ≡ place_of before)
-    → IsParsed UnaryRow None (behind before) (depth + 1) operand rest → IsNode (StepBefore up (expression_of operand.tree)) at true operand.height p → IsParsed UnaryRow None before depth p rest
+    → IsParsed UnaryRow None (behind before) (depth + 1) operand rest → IsNode (StepBefore up (expression_of operand.tree.value)) at true operand.height p → IsParsed UnaryRow None before depth p rest
 step_parsed [] depth up operand rest p at e place r n = absurd cc
 step_parsed (t ∷ more) depth up operand rest p at e place r n =
     let is : IsMark (step_mark up) t = is_first t more (step_mark up) (step_stands (mark_at (t ∷ more)) up e) in
@@ -155,7 +155,7 @@ step_parsed (t ∷ more) depth up operand rest p at e place r n =
     (own UnaryRow (t ∷ more) (StepStart up) _ (starts_by t more (token.Mark (step_mark up)) is ∙ step_start up (spec_of more)) refl (StepFirst is r.reads) (no_unary (next_of rest) ∙ sym (no_primary (next_of rest))))
 
 pub prefix_parsed : (before : List Token) (depth : ℕ) (op : PrefixOp) (operand : Parsed) (rest : List Token) (p : Parsed) (at : ℕ) → prefix_at (mark_at before) ≡ Some op → (0 < length before → at ≡ place_of before)
-    → IsParsed CastRow None (behind before) (depth + 1) operand rest → IsNode (Prefix op (expression_of operand.tree)) at true operand.height p → IsParsed UnaryRow None before depth p rest
+    → IsParsed CastRow None (behind before) (depth + 1) operand rest → IsNode (Prefix op (expression_of operand.tree.value)) at true operand.height p → IsParsed UnaryRow None before depth p rest
 prefix_parsed [] depth op operand rest p at e place r n = absurd cc
 prefix_parsed (t ∷ more) depth op operand rest p at e place r n =
     let is : IsMark (prefix_mark op) t = is_first t more (prefix_mark op) (prefix_stands (mark_at (t ∷ more)) op e) in
@@ -163,7 +163,7 @@ prefix_parsed (t ∷ more) depth op operand rest p at e place r n =
     (own UnaryRow (t ∷ more) (PrefixStart op) _ (starts_by t more (token.Mark (prefix_mark op)) is ∙ prefix_start op (spec_of more)) refl (PrefixFirst is r.reads) (no_unary (next_of rest) ∙ sym (no_primary (next_of rest))))
 
 pub size_parsed : (before : List Token) (depth : ℕ) (operand : Parsed) (rest : List Token) (p : Parsed) (at : ℕ) → word_at before ≡ Some keyword.Sizeof → opens_type (behind before) ≡ false → (0 < length before → at ≡ place_of before)
-    → IsParsed UnaryRow None (behind before) (depth + 1) operand rest → IsNode (SizeofValue (expression_of operand.tree)) at true operand.height p → IsParsed UnaryRow None before depth p rest
+    → IsParsed UnaryRow None (behind before) (depth + 1) operand rest → IsNode (SizeofValue (expression_of operand.tree.value)) at true operand.height p → IsParsed UnaryRow None before depth p rest
 size_parsed [] depth operand rest p at e o place r n = absurd cc
 size_parsed (t ∷ more) depth operand rest p at e o place r n =
     let is : IsKeyword keyword.Sizeof t = kind_worded t.kind keyword.Sizeof e in
@@ -196,16 +196,16 @@ cast_height : (tree : TypeTree) (operand : Expression) → expression_height ope
 cast_height tree (Node form at) = omega arith
 
 pub cast_parsed : (before mid : List Token) (depth : ℕ) (tree : TypeTree) (operand : Parsed) (rest : List Token) (p : Parsed) (at : ℕ) → opens_type before ≡ true → (0 < length before → at ≡ place_of before) → ReadsClosed before tree mid
-    → IsParsed CastRow None mid (depth + 1) operand rest → IsNode (Cast tree (expression_of operand.tree)) at false operand.height p → IsParsed CastRow None before depth p rest
+    → IsParsed CastRow None mid (depth + 1) operand rest → IsNode (Cast tree (expression_of operand.tree.value)) at false operand.height p → IsParsed CastRow None before depth p rest
 cast_parsed before mid depth tree operand rest p at o place r q n =
-    first_parsed CastRow before depth p rest _ at false _ n (one_measured depth operand _ at false p q.measured (cast_height tree (expression_of operand.tree)) n) place (let k = q.shorter in omega (arith, closed_shorter before mid tree r))
+    first_parsed CastRow before depth p rest _ at false _ n (one_measured depth operand _ at false p q.measured (cast_height tree (expression_of operand.tree.value)) n) place (let k = q.shorter in omega (arith, closed_shorter before mid tree r))
     (cast_reads before mid tree (read operand rest) o r q.reads)
 
 -- ---- passing on
 
 pub unary_starts : (start : Parsed) (before : List Token) (depth : ℕ) (p : Parsed) (after : List Token) → IsBehind start before depth p after → IsParsed UnaryRow (Some start) before depth p after
 unary_starts start before depth p after b = record {
-  reads = Up refl (Up refl AtPrimary b.more) (subst (λ g. More UnaryRow start.at g (expression_of p.tree) p.is_unary after (read p after)) (sym (no_unary (next_of after))) Stop);
+  reads = Up refl (Up refl AtPrimary b.more) (subst (λ g. More UnaryRow start.at g (expression_of p.tree.value) p.is_unary after (read p after)) (sym (no_unary (next_of after))) Stop);
   place = b.place;
   measured = b.measured;
   shorter = b.shorter;
@@ -248,10 +248,10 @@ unary_passes_by (t ∷ more) h e f = kind_passes t.kind (next_of more) (spec_of 
 pub unary_passes : (before : List Token) (depth : ℕ) (s : Parsed) (mid : List Token) (p : Parsed) (after : List Token) → word_at before ≢ Some keyword.Sizeof → step_at (mark_at before) ≡ None → prefix_at (mark_at before) ≡ None
     → IsOperand before depth s mid → IsBehind s mid depth p after → IsParsed UnaryRow None before depth p after
 unary_passes before depth s mid p after h e f a b =
-    let postfix : Reads PostfixRow before (read p after) = Both a.starts (subst (λ q. More PostfixRow q (going_of PostfixRow (next_of mid)) (expression_of s.tree) s.is_unary mid (read p after)) a.place b.more) in
+    let postfix : Reads PostfixRow before (read p after) = Both a.starts (subst (λ q. More PostfixRow q (going_of PostfixRow (next_of mid)) (expression_of s.tree.value) s.is_unary mid (read p after)) a.place b.more) in
     record {
       reads = Both (subst (λ k. Starts UnaryRow k before (read p after)) (sym (unary_passes_by before h e f)) (PassFirst refl postfix))
-          (subst (λ g. More UnaryRow (place_of before) g (expression_of p.tree) p.is_unary after (read p after)) (sym (no_unary (next_of after))) Stop);
+          (subst (λ g. More UnaryRow (place_of before) g (expression_of p.tree.value) p.is_unary after (read p after)) (sym (no_unary (next_of after))) Stop);
       place = b.place ∙ a.place;
       measured = b.measured;
       shorter = let k = a.shorter in let j = b.shorter in omega arith;
@@ -306,12 +306,12 @@ some_kind : (before : List Token) (kind : TokenKind) → kind_at before ≡ Some
 some_kind [] kind e = absurd cc
 some_kind (t ∷ more) kind e = omega arith
 
-pub constant_read : (before after : List Token) (kind : TokenKind) (k : ExprKind) (at : ℕ) → after ≡ behind before → kind_at before ≡ Some kind → constant_form kind ≡ Some (form_of k) → (0 < length before → at ≡ place_of before)
-    → IsConstant before (record { tree = record { kind = k; at = at }; height = 0 + 1; at = at; is_unary = true }) after
-constant_read before after kind k at left e is place = record {
+pub constant_read : (before after : List Token) (kind : TokenKind) (k : ExprKind) (at : ℕ) (p : Parsed) → after ≡ behind before → kind_at before ≡ Some kind → constant_form kind ≡ Some (form_of k) → (0 < length before → at ≡ place_of before)
+    → IsNode (form_of k) at true 0 p → IsConstant before p after
+constant_read before after kind k at p left e is place n = record {
   form = form_of k;
   is = constant_by before kind e ∙ is;
-  node = let here = place (some_kind before kind e) in record { tree = ap (Node (form_of k)) here; place = here; unary_is = refl; height = refl };
+  node = subst (λ a. IsNode (form_of k) a true 0 p) (place (some_kind before kind e)) n;
   left = left;
 }
 

@@ -136,28 +136,28 @@ module _ (depth : ℕ) (left : Parsed) (before : List Token) where
   pub step_too_high : (up : Bool) → IsMeasured depth left → step_at (mark_at before) ≡ Some up → greatest_height < depth + left.height + 1 → NoneBehind left depth before
   step_too_high up m e h = record {
     never = λ all k f.
-        let high = more_higher PostfixRow left.at (going_of PostfixRow (next_of (behind before))) (Node (StepAfter up (expression_of left.tree)) left.at) true (behind before) all (step_inside left.at (expression_of left.tree) left.is_unary before up all e k) in
+        let high = more_higher PostfixRow left.at (going_of PostfixRow (next_of (behind before))) (Node (StepAfter up (expression_of left.tree.value)) left.at) true (behind before) all (step_inside left.at (expression_of left.tree.value) left.is_unary before up all e k) in
         omega (arith, h, m.height, f, high);
   }
 
-  index_high : (all : Reading) (i : Indexed left.at (expression_of left.tree) before all) → 1 + max (expression_height (expression_of left.tree)) (expression_height i.index.tree) ≤ expression_height all.tree
-  index_high all i = more_higher PostfixRow left.at (going_of PostfixRow (next_of (behind i.index.rest))) (Node (Index (expression_of left.tree) i.index.tree) left.at) true (behind i.index.rest) all i.goes
+  index_high : (all : Reading) (i : Indexed left.at (expression_of left.tree.value) before all) → 1 + max (expression_height (expression_of left.tree.value)) (expression_height i.index.tree) ≤ expression_height all.tree
+  index_high all i = more_higher PostfixRow left.at (going_of PostfixRow (next_of (behind i.index.rest))) (Node (Index (expression_of left.tree.value) i.index.tree) left.at) true (behind i.index.rest) all i.goes
 
   module _ (e : mark_at before ≡ Some mark.OpenBracket) where
     pub index_too_high : IsMeasured depth left → greatest_height < depth + left.height + 1 → NoneBehind left depth before
     index_too_high m h = record {
-      never = λ all k f. let i = index_inside left.at (expression_of left.tree) left.is_unary before all e k in omega (arith, h, m.height, f, index_high all i);
+      never = λ all k f. let i = index_inside left.at (expression_of left.tree.value) left.is_unary before all e k in omega (arith, h, m.height, f, index_high all i);
     }
 
     pub index_refused : NoReading ExpressionRow None (depth + 1) (behind before) → NoneBehind left depth before
     index_refused n = record {
-      never = λ all k f. let i = index_inside left.at (expression_of left.tree) left.is_unary before all e k in n.never i.index i.reads (let high = index_high all i in omega (arith, f, high));
+      never = λ all k f. let i = index_inside left.at (expression_of left.tree.value) left.is_unary before all e k in n.never i.index i.reads (let high = index_high all i in omega (arith, f, high));
     }
 
     pub index_not_closed : (index : Parsed) (mid : List Token) → IsParsed ExpressionRow None (behind before) (depth + 1) index mid → mark_at mid ≢ Some mark.CloseBracket → NoneBehind left depth before
     index_not_closed index mid r h = record {
       never = λ all k f.
-          let i = index_inside left.at (expression_of left.tree) left.is_unary before all e k in
+          let i = index_inside left.at (expression_of left.tree.value) left.is_unary before all e k in
           h (sym (ap (λ o. mark_at o.rest) (one_reading ExpressionRow (behind before) i.index (read index mid) i.reads r.reads)) ∙ i.closes);
     }
 
@@ -208,7 +208,7 @@ module _ (depth : ℕ) (before : List Token) (h : word_at before ≢ Some keywor
         let o = unary_operand all r in
         let same = one_start PostfixRow (first_of PostfixRow (start_of before)) before o.first (read start mid) o.starts s.starts in
         n.never all
-        (subst (λ a. More PostfixRow a (going_of PostfixRow (next_of mid)) (expression_of start.tree) start.is_unary mid all) (sym s.place)
+        (subst (λ a. More PostfixRow a (going_of PostfixRow (next_of mid)) (expression_of start.tree.value) start.is_unary mid all) (sym s.place)
         (subst (λ x. More PostfixRow (place_of before) (going_of PostfixRow (next_of x.rest)) x.tree x.unary x.rest all) same o.goes))
         f;
   }

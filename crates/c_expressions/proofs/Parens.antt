@@ -130,9 +130,9 @@ goes_on : (before : List Token) (depth : ℕ) (places : List ℕ) (at : ℕ) (in
     → mark_at cursor ≡ Some mark.CloseParen → 0 < length places → length cursor ≤ length input → IsParsed ExpressionRow (Some (closed_by inner at)) (behind cursor) depth p after → ParenState before depth places p after
 goes_on before depth places at inner input cursor p after l r e some le q =
     let start = paren_start_at l.token input l.is l.spec in
-    let takes = paren_takes l.token input cursor (expression_of inner.tree) inner.is_unary l.is r e in
-    let primary = alone PrimaryRow (l.token ∷ input) (reading (expression_of inner.tree) true (behind cursor)) (subst (λ f. Starts PrimaryRow f (l.token ∷ input) (reading (expression_of inner.tree) true (behind cursor))) (sym (ap primary_first start)) takes) refl in
-    Inside (l.token ∷ input) l.opened some (climbs_reads ExpressionRow (l.token ∷ input) at (reading (expression_of inner.tree) true (behind cursor)) (read p after) start l.place primary q.reads) q.measured
+    let takes = paren_takes l.token input cursor (expression_of inner.tree.value) inner.is_unary l.is r e in
+    let primary = alone PrimaryRow (l.token ∷ input) (reading (expression_of inner.tree.value) true (behind cursor)) (subst (λ f. Starts PrimaryRow f (l.token ∷ input) (reading (expression_of inner.tree.value) true (behind cursor))) (sym (ap primary_first start)) takes) refl in
+    Inside (l.token ∷ input) l.opened some (climbs_reads ExpressionRow (l.token ∷ input) at (reading (expression_of inner.tree.value) true (behind cursor)) (read p after) start l.place primary q.reads) q.measured
     (let k = q.shorter in omega (arith, le, behind_shorter cursor))
 
 pub parens_more : (before : List Token) (depth : ℕ) (all places : List ℕ) (at : ℕ) (inner : Parsed) (cursor : List Token) (p : Parsed) (after : List Token) → ParenState before depth all inner cursor → all ≡ places ++ at ∷ []
@@ -146,7 +146,7 @@ closes : (before : List Token) (depth : ℕ) (places : List ℕ) (at : ℕ) (inn
 closes before depth places at inner input cursor t NoneOpened is spec place r e none le m =
     let start = paren_start_at t input is spec in
     record {
-      starts = operand_by (t ∷ input) ParenStart (reading (expression_of inner.tree) true (behind cursor)) start refl refl (paren_takes t input cursor (expression_of inner.tree) inner.is_unary is r e);
+      starts = operand_by (t ∷ input) ParenStart (reading (expression_of inner.tree.value) true (behind cursor)) start refl refl (paren_takes t input cursor (expression_of inner.tree.value) inner.is_unary is r e);
       place = place;
       measured = record { height = m.height; fits = m.fits };
       shorter = omega (arith, le, behind_shorter cursor);

@@ -30,8 +30,3 @@ goes_out (Err e) g h = refuses e g h
 pub memory_alone : {T : Type 0} (Q : Type 0) (r : Result T Refusal) → IfErr r (λ e. e ≡ refusals.NoMemory) → IfErr r (λ e. Refuses Q e)
 memory_alone Q (Ok x) h = tt
 memory_alone Q (Err e) h = subst (λ v. Refuses Q v) (sym h) (tt {0})
-
--- what is known of a refusal leads on
-pub known_so : {T : Type 0} {P Q : Type 0} (r : Result T Refusal) → (P → Q) → IfErr r (λ e. P) → IfErr r (λ e. Refuses Q e)
-known_so (Ok x) g h = tt
-known_so (Err e) g h = refuses_all e (g h)

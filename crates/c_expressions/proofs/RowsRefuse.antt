@@ -84,14 +84,14 @@ first_refused row next start depth before e pass n = record {
 -- ---- what was read so far
 
 abbrev pub MoreOf : Row → Parsed → List Token → Reading → Type 0
-MoreOf row left after all = More row left.at (going_of row (next_of after)) (expression_of left.tree) left.is_unary after all
+MoreOf row left after all = More row left.at (going_of row (next_of after)) (expression_of left.tree.value) left.is_unary after all
 
 module _ (row next : Row) (start : Option Parsed) (before : List Token) (depth : ℕ) (left : Parsed) (after : List Token) (e : tighter row ≡ Some next) (pass : PassesOn row next start before) (r : IsParsed next start before depth left after) where
   goes_through : (all : Reading) → ReadBy row start before all → MoreOf row left after all
   goes_through all k =
       let q = passed_by row next start before all e pass k in
       let same : q.mid ≡ read left after = one_by next start before q.mid (read left after) q.reads r.reads in
-      subst (λ a. More row a (going_of row (next_of after)) (expression_of left.tree) left.is_unary after all) (sym r.place)
+      subst (λ a. More row a (going_of row (next_of after)) (expression_of left.tree.value) left.is_unary after all) (sym r.place)
       (subst (λ z. More row (place_from start before) (going_of row (next_of z.rest)) z.tree z.unary z.rest all) same q.more)
 
   -- where nothing goes on from there that fits, the row has no reading
@@ -111,7 +111,7 @@ more_begins row start before depth m = record { goes = λ all k. k; only = λ al
 
 pub more_done : (row : Row) (start : Parsed) (before : List Token) (depth : ℕ) (left : Parsed) (after : List Token) → MoreSoFar row start before depth left after → going_of row (next_of after) ≡ Stops → IsMore row start before depth left after
 more_done row start before depth left after s e = record {
-  more = s.goes (read left after) (subst (λ g. More row left.at g (expression_of left.tree) left.is_unary after (read left after)) (sym e) Stop);
+  more = s.goes (read left after) (subst (λ g. More row left.at g (expression_of left.tree.value) left.is_unary after (read left after)) (sym e) Stop);
   place = s.place;
   measured = s.measured;
   shorter = s.shorter;
@@ -128,18 +128,18 @@ pub record Joined (row next : Row) (form : Expression → Expression → Express
 node_stands : (row : Row) (form : ExpressionForm) (at : ℕ) (unary : Bool) (parts : ℕ) (p : Parsed) (rest : List Token) (all : Reading) → IsNode form at unary parts p
     → More row at (going_of row (next_of rest)) (Node form at) unary rest all → MoreOf row p rest all
 node_stands row form at unary parts p rest all n m =
-    subst (λ u. More row p.at (going_of row (next_of rest)) (expression_of p.tree) u rest all) (sym n.unary_is)
+    subst (λ u. More row p.at (going_of row (next_of rest)) (expression_of p.tree.value) u rest all) (sym n.unary_is)
     (subst (λ t. More row p.at (going_of row (next_of rest)) t unary rest all) (sym n.tree)
     (subst (λ a. More row a (going_of row (next_of rest)) (Node form at) unary rest all) (sym n.place) m))
 
 module _ (row next : Row) (form : Expression → Expression → ExpressionForm) (tall : (l r : Expression) → form_height (form l r) ≡ max (expression_height l) (expression_height r))
     (start : Parsed) (before : List Token) (depth : ℕ) (left : Parsed) (after : List Token) (s : MoreSoFar row start before depth left after)
-    (joins : (all : Reading) → MoreOf row left after all → Joined row next form left.at (expression_of left.tree) after all) where
-  joined_high : (all : Reading) (j : Joined row next form left.at (expression_of left.tree) after all)
-      → (expression_height (expression_of left.tree) + 1 ≤ expression_height all.tree) × (expression_height j.right.tree + 1 ≤ expression_height all.tree)
+    (joins : (all : Reading) → MoreOf row left after all → Joined row next form left.at (expression_of left.tree.value) after all) where
+  joined_high : (all : Reading) (j : Joined row next form left.at (expression_of left.tree.value) after all)
+      → (expression_height (expression_of left.tree.value) + 1 ≤ expression_height all.tree) × (expression_height j.right.tree + 1 ≤ expression_height all.tree)
   joined_high all j =
-      let k = grows row left.at _ (Node (form (expression_of left.tree) j.right.tree) left.at) false j.right.rest all j.more in
-      let e = tall (expression_of left.tree) j.right.tree in
+      let k = grows row left.at _ (Node (form (expression_of left.tree.value) j.right.tree) left.at) false j.right.rest all j.more in
+      let e = tall (expression_of left.tree.value) j.right.tree in
       (omega (arith, k, e), omega (arith, k, e))
 
   join_too_high : greatest_height < depth + left.height + 1 → NoMore row start depth before
@@ -158,18 +158,18 @@ module _ (row next : Row) (form : Expression → Expression → ExpressionForm) 
         n.never j.right j.reads (omega (arith, k, low));
   }
 
-  joined_more : ((o all : Reading) → Reads next (behind after) o → More row left.at (going_of row (next_of o.rest)) (Node (form (expression_of left.tree) o.tree) left.at) false o.rest all → MoreOf row left after all)
+  joined_more : ((o all : Reading) → Reads next (behind after) o → More row left.at (going_of row (next_of o.rest)) (Node (form (expression_of left.tree.value) o.tree) left.at) false o.rest all → MoreOf row left after all)
       → (right : Parsed) (rest : List Token) (p : Parsed) → depth + left.height + 1 ≤ greatest_height → IsParsed next None (behind after) (depth + 1) right rest
-      → IsNode (form (expression_of left.tree) (expression_of right.tree)) left.at false (max left.height right.height) p → MoreSoFar row start before depth p rest
+      → IsNode (form (expression_of left.tree.value) (expression_of right.tree.value)) left.at false (max left.height right.height) p → MoreSoFar row start before depth p rest
   joined_more goes right rest p le r n = record {
     goes = λ all m. s.goes all (goes (read right rest) all r.reads (node_more row left.at _ false _ p rest all n m));
     only = λ all m.
         let j = joins all (s.only all m) in
         let same : j.right ≡ read right rest = one_reading next (behind after) j.right (read right rest) j.reads r.reads in
-        node_stands row (form (expression_of left.tree) (expression_of right.tree)) left.at false (max left.height right.height) p rest all n
-        (subst (λ z. More row left.at (going_of row (next_of z.rest)) (Node (form (expression_of left.tree) z.tree) left.at) false z.rest all) same j.more);
+        node_stands row (form (expression_of left.tree.value) (expression_of right.tree.value)) left.at false (max left.height right.height) p rest all n
+        (subst (λ z. More row left.at (going_of row (next_of z.rest)) (Node (form (expression_of left.tree.value) z.tree) left.at) false z.rest all) same j.more);
     place = n.place ∙ s.place;
-    measured = two_measured depth left right _ left.at false p s.measured r.measured le (tall (expression_of left.tree) (expression_of right.tree)) n;
+    measured = two_measured depth left right _ left.at false p s.measured r.measured le (tall (expression_of left.tree.value) (expression_of right.tree.value)) n;
     shorter = let k = r.shorter in omega (arith, behind_shorter after, s.shorter);
   }
 
@@ -181,10 +181,10 @@ next_by tokens m e = next_is tokens ∙ ap next_at e
 comma_joins_by : (at : ℕ) (left : Expression) (unary : Bool) (tokens : List Token) (all : Reading) → More ExpressionRow at (Goes CommaNext) left unary tokens all → Joined ExpressionRow AssignmentRow Comma at left tokens all
 comma_joins_by at left unary tokens all (CommaMore {o = o} is r m) = record { right = o; reads = r; more = m }
 
-comma_joins : (left : Parsed) (after : List Token) → mark_at after ≡ Some mark.Comma → (all : Reading) → MoreOf ExpressionRow left after all → Joined ExpressionRow AssignmentRow Comma left.at (expression_of left.tree) after all
+comma_joins : (left : Parsed) (after : List Token) → mark_at after ≡ Some mark.Comma → (all : Reading) → MoreOf ExpressionRow left after all → Joined ExpressionRow AssignmentRow Comma left.at (expression_of left.tree.value) after all
 comma_joins left after e all m =
-    comma_joins_by left.at (expression_of left.tree) left.is_unary after all
-    (subst (λ n. More ExpressionRow left.at (going_of ExpressionRow n) (expression_of left.tree) left.is_unary after all) (next_by after mark.Comma e) m)
+    comma_joins_by left.at (expression_of left.tree.value) left.is_unary after all
+    (subst (λ n. More ExpressionRow left.at (going_of ExpressionRow n) (expression_of left.tree.value) left.is_unary after all) (next_by after mark.Comma e) m)
 
 comma_tall : (l r : Expression) → form_height (Comma l r) ≡ max (expression_height l) (expression_height r)
 comma_tall l r = refl
@@ -201,10 +201,10 @@ module _ (start : Parsed) (before : List Token) (depth : ℕ) (left : Parsed) (a
     comma_refused = right_refused ExpressionRow AssignmentRow Comma comma_tall start before depth left after s (comma_joins left after e)
 
     pub comma_more : (right : Parsed) (rest : List Token) (p : Parsed) → depth + left.height + 1 ≤ greatest_height → IsParsed AssignmentRow None (behind after) (depth + 1) right rest
-        → IsNode (Comma (expression_of left.tree) (expression_of right.tree)) left.at false (max left.height right.height) p → MoreSoFar ExpressionRow start before depth p rest
+        → IsNode (Comma (expression_of left.tree.value) (expression_of right.tree.value)) left.at false (max left.height right.height) p → MoreSoFar ExpressionRow start before depth p rest
     comma_more =
         joined_more ExpressionRow AssignmentRow Comma comma_tall start before depth left after s (comma_joins left after e)
-        (λ o all r m. comma_goes left.at (expression_of left.tree) left.is_unary after o all e r m)
+        (λ o all r m. comma_goes left.at (expression_of left.tree.value) left.is_unary after o all e r m)
 
 -- ---- a level
 
@@ -231,8 +231,8 @@ module _ (at : ℕ) (left : Expression) (unary : Bool) (tokens : List Token) (al
   level_joins_by l i n is = absurd cc
 
 pub level_joins : (l : Level) (i : Infix) (left : Parsed) (after : List Token) → IsInfix l (next_of after) i → (all : Reading) → MoreOf (level_row l) left after all
-    → Joined (level_row l) (tight (level_row l)) (infix_form i) left.at (expression_of left.tree) after all
-level_joins l i left after is all m = level_joins_by left.at (expression_of left.tree) left.is_unary after all l i (next_of after) is m
+    → Joined (level_row l) (tight (level_row l)) (infix_form i) left.at (expression_of left.tree.value) after all
+level_joins l i left after is all m = level_joins_by left.at (expression_of left.tree.value) left.is_unary after all l i (next_of after) is m
 
 module _ (l : Level) (start : Parsed) (before : List Token) (depth : ℕ) (left : Parsed) (after : List Token) (s : MoreSoFar (level_row l) start before depth left after) (i : Infix) (is : IsInfix l (next_of after) i) where
   pub operator_too_high : greatest_height < depth + left.height + 1 → NoMore (level_row l) start depth before
@@ -246,10 +246,10 @@ module _ (l : Level) (start : Parsed) (before : List Token) (depth : ℕ) (left 
         (subst (λ row. NoReading row None (depth + 1) (behind after)) (sym (ap or_primary e)) n)
 
     pub level_more : (right : Parsed) (rest : List Token) (p : Parsed) → depth + left.height + 1 ≤ greatest_height → IsParsed (row_at next) None (behind after) (depth + 1) right rest
-        → IsNode (infix_form i (expression_of left.tree) (expression_of right.tree)) left.at false (max left.height right.height) p → MoreSoFar (level_row l) start before depth p rest
+        → IsNode (infix_form i (expression_of left.tree.value) (expression_of right.tree.value)) left.at false (max left.height right.height) p → MoreSoFar (level_row l) start before depth p rest
     level_more right rest p le r n =
         joined_more (level_row l) (tight (level_row l)) (infix_form i) (infix_height i) start before depth left after s (level_joins l i left after is)
-        (λ o all q m. level_goes left.at (expression_of left.tree) left.is_unary after l i o all is q m) right rest p le
+        (λ o all q m. level_goes left.at (expression_of left.tree.value) left.is_unary after l i o all is q m) right rest p le
         (subst (λ row. IsParsed row None (behind after) (depth + 1) right rest) (sym (ap or_primary e)) r) n
 
 -- ---- the loop over the levels
@@ -392,14 +392,14 @@ assigned_by a (AssignOpNext op) at left unary tokens all e m = subst (λ b. Assi
 assigned_by a n at left unary tokens all e m = absurd cc
 
 module _ (depth : ℕ) (left : Parsed) (before : List Token) (a : Assignment) (e : next_assignment (next_of before) ≡ Some a) where
-  assigns : (all : Reading) → MoreOf AssignmentRow left before all → Assigned a left.at (expression_of left.tree) left.is_unary before all
-  assigns all m = assigned_by a (next_of before) left.at (expression_of left.tree) left.is_unary before all e m
+  assigns : (all : Reading) → MoreOf AssignmentRow left before all → Assigned a left.at (expression_of left.tree.value) left.is_unary before all
+  assigns all m = assigned_by a (next_of before) left.at (expression_of left.tree.value) left.is_unary before all e m
 
-  assigned_high : (all : Reading) (k : Assigned a left.at (expression_of left.tree) left.is_unary before all)
-      → (expression_height (expression_of left.tree) + 1 ≤ expression_height all.tree) × (expression_height k.right.tree + 1 ≤ expression_height all.tree)
+  assigned_high : (all : Reading) (k : Assigned a left.at (expression_of left.tree.value) left.is_unary before all)
+      → (expression_height (expression_of left.tree.value) + 1 ≤ expression_height all.tree) × (expression_height k.right.tree + 1 ≤ expression_height all.tree)
   assigned_high all k =
       let high = ap expression_height k.is in
-      let tall = assignment_height a (expression_of left.tree) k.right.tree in
+      let tall = assignment_height a (expression_of left.tree.value) k.right.tree in
       (omega (arith, high, tall), omega (arith, high, tall))
 
   pub not_assigned_to : left.is_unary ≢ true → NoMore AssignmentRow left depth before
@@ -426,10 +426,10 @@ chosen_by at left unary tokens all (QuestionMore {chosen = chosen} {same = same}
     record { first = reading chosen same (u ∷ more); reads_first = r; colon = ap kind_mark colon; second = o; reads_second = s; is = refl }
 
 module _ (depth : ℕ) (test : Parsed) (before : List Token) (e : mark_at before ≡ Some mark.Question) where
-  chooses : (all : Reading) → MoreOf ConditionalRow test before all → Chosen test.at (expression_of test.tree) before all
+  chooses : (all : Reading) → MoreOf ConditionalRow test before all → Chosen test.at (expression_of test.tree.value) before all
   chooses all m =
-      chosen_by test.at (expression_of test.tree) test.is_unary before all
-      (subst (λ n. More ConditionalRow test.at (going_of ConditionalRow n) (expression_of test.tree) test.is_unary before all) (next_by before mark.Question e) m)
+      chosen_by test.at (expression_of test.tree.value) test.is_unary before all
+      (subst (λ n. More ConditionalRow test.at (going_of ConditionalRow n) (expression_of test.tree.value) test.is_unary before all) (next_by before mark.Question e) m)
 
   pub conditional_too_high : IsMeasured depth test → greatest_height < depth + test.height + 1 → NoMore ConditionalRow test depth before
   conditional_too_high l h = record { never = λ all m low. let j = ap expression_height (chooses all m).is in let q = l.height in omega (arith, j, q, h, low) }

@@ -101,7 +101,7 @@ stars_only {after = after} {n = n} r = record {
 
 -- ---- expressions
 
-pub read_taken : {row : Row} {before after : List Token} {depth : ℕ} {p : Parsed} → IsParsed row None before depth p after → Takes (λ taken. Derives row taken (expression_of p.tree)) before after
+pub read_taken : {row : Row} {before after : List Token} {depth : ℕ} {p : Parsed} → IsParsed row None before depth p after → Takes (λ taken. Derives row taken (expression_of p.tree.value)) before after
 read_taken {row = row} {before = before} {after = after} {p = p} r =
     let d = reads_derived row before (read p after) r.reads in
     record { taken = d.taken; cut = d.cut; is = d.derives }
@@ -109,7 +109,7 @@ read_taken {row = row} {before = before} {after = after} {p = p} r =
 pub read_fewer : {row : Row} {before after : List Token} {depth : ℕ} {p : Parsed} → IsParsed row None before depth p after → length after < length before
 read_fewer {row = row} {before = before} {after = after} {p = p} r =
     let d = reads_derived row before (read p after) r.reads in
-    let (t, more, is, h) = expression_begins row d.taken (expression_of p.tree) d.derives in
+    let (t, more, is, h) = expression_begins row d.taken (expression_of p.tree.value) d.derives in
     let n = ap length d.cut ∙ length-append d.taken after in
     let m = ap length is in
     omega (arith, n, m)

@@ -22,7 +22,7 @@ pub data Climbs : Row → ℕ → Reading → Reading → Type 0 where
 
 -- what was read, and the tokens behind it
 abbrev pub read : Parsed → List Token → Reading
-read p after = reading (expression_of p.tree) p.is_unary after
+read p after = reading (expression_of p.tree.value) p.is_unary after
 
 -- a row's reading, from its start where it has one
 abbrev pub ReadBy : Row → Option Parsed → List Token → Reading → Type 0
@@ -35,7 +35,7 @@ place_from (Some s) before = s.at
 
 -- its height is that of its tree, which may stand under so many nodes
 pub record IsMeasured (depth : ℕ) (p : Parsed) : Type 0 where
-  pub height : p.height ≡ expression_height (expression_of p.tree)
+  pub height : p.height ≡ expression_height (expression_of p.tree.value)
   pub fits : depth + p.height ≤ greatest_height
 
 abbrev pub MayStart : ℕ → Option Parsed → Type 0
@@ -58,31 +58,31 @@ pub record IsOperand (before : List Token) (depth : ℕ) (p : Parsed) (after : L
 
 -- what goes on behind an operand
 pub record IsBehind (start : Parsed) (before : List Token) (depth : ℕ) (p : Parsed) (after : List Token) : Type 0 where
-  pub more : More PostfixRow start.at (going_of PostfixRow (next_of before)) (expression_of start.tree) start.is_unary before (read p after)
+  pub more : More PostfixRow start.at (going_of PostfixRow (next_of before)) (expression_of start.tree.value) start.is_unary before (read p after)
   pub place : p.at ≡ start.at
   pub measured : IsMeasured depth p
   pub shorter : length after ≤ length before
 
 -- what goes on with what was read, by a row
 pub record IsMore (row : Row) (left : Parsed) (before : List Token) (depth : ℕ) (p : Parsed) (after : List Token) : Type 0 where
-  pub more : More row left.at (going_of row (next_of before)) (expression_of left.tree) left.is_unary before (read p after)
+  pub more : More row left.at (going_of row (next_of before)) (expression_of left.tree.value) left.is_unary before (read p after)
   pub place : p.at ≡ left.at
   pub measured : IsMeasured depth p
   pub shorter : length after ≤ length before
 
 -- a node of a form over parts of a height
 pub record IsNode (form : ExpressionForm) (at : ℕ) (unary : Bool) (parts : ℕ) (p : Parsed) : Type 0 where
-  pub tree : expression_of p.tree ≡ Node form at
+  pub tree : expression_of p.tree.value ≡ Node form at
   pub place : p.at ≡ at
   pub unary_is : p.is_unary ≡ unary
   pub height : p.height ≡ parts + 1
 
 -- one index or step behind an operand, with which the row goes on, and only so
 pub record IsOneBehind (left : Parsed) (before : List Token) (depth : ℕ) (p : Parsed) (after : List Token) : Type 0 where
-  pub more : (all : Reading) → More PostfixRow p.at (going_of PostfixRow (next_of after)) (expression_of p.tree) p.is_unary after all
-      → More PostfixRow left.at (going_of PostfixRow (next_of before)) (expression_of left.tree) left.is_unary before all
-  pub only : (all : Reading) → More PostfixRow left.at (going_of PostfixRow (next_of before)) (expression_of left.tree) left.is_unary before all
-      → More PostfixRow p.at (going_of PostfixRow (next_of after)) (expression_of p.tree) p.is_unary after all
+  pub more : (all : Reading) → More PostfixRow p.at (going_of PostfixRow (next_of after)) (expression_of p.tree.value) p.is_unary after all
+      → More PostfixRow left.at (going_of PostfixRow (next_of before)) (expression_of left.tree.value) left.is_unary before all
+  pub only : (all : Reading) → More PostfixRow left.at (going_of PostfixRow (next_of before)) (expression_of left.tree.value) left.is_unary before all
+      → More PostfixRow p.at (going_of PostfixRow (next_of after)) (expression_of p.tree.value) p.is_unary after all
   pub place : p.at ≡ left.at
   pub measured : IsMeasured depth p
   pub shorter : length after < length before
@@ -153,14 +153,14 @@ pub record NoReading (row : Row) (start : Option Parsed) (depth : ℕ) (before :
 
 -- so for what goes on with what was read, by a row
 pub record NoMore (row : Row) (left : Parsed) (depth : ℕ) (before : List Token) : Type 0 where
-  pub never : (all : Reading) → More row left.at (going_of row (next_of before)) (expression_of left.tree) left.is_unary before all → depth + expression_height all.tree ≤ greatest_height → ⊥
+  pub never : (all : Reading) → More row left.at (going_of row (next_of before)) (expression_of left.tree.value) left.is_unary before all → depth + expression_height all.tree ≤ greatest_height → ⊥
 
 -- so for what stands first in the row `postfix`, for what goes on behind an operand, for the arguments of a call, and for a type in parentheses
 pub record NoOperand (depth : ℕ) (before : List Token) : Type 0 where
   pub never : (all : Reading) → Starts PostfixRow (first_of PostfixRow (start_of before)) before all → depth + expression_height all.tree ≤ greatest_height → ⊥
 
 pub record NoneBehind (start : Parsed) (depth : ℕ) (before : List Token) : Type 0 where
-  pub never : (all : Reading) → More PostfixRow start.at (going_of PostfixRow (next_of before)) (expression_of start.tree) start.is_unary before all → depth + expression_height all.tree ≤ greatest_height → ⊥
+  pub never : (all : Reading) → More PostfixRow start.at (going_of PostfixRow (next_of before)) (expression_of start.tree.value) start.is_unary before all → depth + expression_height all.tree ≤ greatest_height → ⊥
 
 pub record NoArguments (depth : ℕ) (before : List Token) : Type 0 where
   pub never : (all : ArgumentsReading) → ReadsArguments (separator_of before) before all → depth + arguments_height all.trees + 1 ≤ greatest_height → ⊥

@@ -7,7 +7,7 @@ ghost use Rattle.c_syntax.specs.Grammar.{ExpressionRow, AssignmentRow, Condition
 ghost use Rattle.c_syntax.specs.SyntaxTree.{Comma, Conditional, Cast};
 ghost use Rattle.c_syntax.specs.Lookahead.{next_of, going_of, Stops};
 ghost use Rattle.c_syntax.specs.Measures.{greatest_height};
-ghost use Rattle.c_syntax.specs.SyntaxView.{expression_of, type_of};
+ghost use Rattle.c_syntax.specs.SyntaxView.{expression_of, form_of, type_of};
 ghost use Rattle.c_syntax.specs.declared.token.Punct.TheVariants as marks;
 ghost use Rattle.c_expressions.specs.Front.{mark_at};
 ghost use Rattle.c_expressions.specs.Operators.{level_row, row_at, infix_form, assignment_form, next_assignment, IsInfix};
@@ -17,8 +17,8 @@ ghost use Rattle.c_expressions.specs.Refusals.{Refuses};
 
 use crate::fault::Refusal;
 use crate::operators::{Assignment, Infix, Level, assignment_of, infix_of};
-use crate::parser::{Parsed, Parser, boxed};
-use c_syntax::{ExprKind, Punct, TypeName};
+use crate::parser::{Parsed, Parser};
+use c_syntax::{Expr, ExprKind, Punct, TypeName};
 
 impl<'a> Parser<'a> {
     /// The row `expression`, under so many nodes.
@@ -59,13 +59,15 @@ impl<'a> Parser<'a> {
     fn joined_by_comma(&self, left: Parsed, right: Parsed) -> Result<Parsed, Refusal>
         requires left { left.height < greatest_height }
         requires right { right.height < greatest_height }
-        ensures node { IfOk result (IsNode (Comma (expression_of left.tree) (expression_of right.tree)) left.at false (max left.height right.height)) }
+        ensures node { IfOk result (IsNode (Comma (expression_of left.tree.value) (expression_of right.tree.value)) left.at false (max left.height right.height)) }
         ensures memory { IfErr result (λ f. f ≡ refusals.NoMemory) }
     {
         let parts = left.height.max(right.height);
-        let at = left.at;
-        let (left, right) = boxed(self.alloc, left.tree, right.tree)?;
-        Ok(Parsed::node(ExprKind::Comma { left, right }, parts, at, false))
+        let kind = ExprKind::Comma {
+            left: left.tree,
+            right: right.tree,
+        };
+        Parsed::node(self.alloc, kind, parts, left.at, false)
     }
 
     /// The row `assignment`.
@@ -126,26 +128,12 @@ impl<'a> Parser<'a> {
     ) -> Result<Parsed, Refusal>
         requires left { left.height < greatest_height }
         requires right { right.height < greatest_height }
-        ensures node { IfOk result (IsNode (assignment_form assignment (expression_of left.tree) (expression_of right.tree)) left.at false (max left.height right.height)) }
+        ensures node { IfOk result (IsNode (assignment_form assignment (expression_of left.tree.value) (expression_of right.tree.value)) left.at false (max left.height right.height)) }
         ensures memory { IfErr result (λ f. f ≡ refusals.NoMemory) }
     {
         let parts = left.height.max(right.height);
-        let at = left.at;
-        let (left, right) = boxed(self.alloc, left.tree, right.tree)?;
-        match assignment {
-            Assignment::Plain => Ok(Parsed::node(
-                ExprKind::Assign { left, right },
-                parts,
-                at,
-                false,
-            )),
-            Assignment::With(op) => Ok(Parsed::node(
-                ExprKind::AssignOp { op, left, right },
-                parts,
-                at,
-                false,
-            )),
-        }
+        let kind = assignment_kind(assignment, left.tree, right.tree);
+        Parsed::node(self.alloc, kind, parts, left.at, false)
     }
 
     /// The row `conditional`.
@@ -188,18 +176,16 @@ impl<'a> Parser<'a> {
         requires test { test.height < greatest_height }
         requires yes { yes.height < greatest_height }
         requires no { no.height < greatest_height }
-        ensures node { IfOk result (IsNode (Conditional (expression_of test.tree) (expression_of yes.tree) (expression_of no.tree)) test.at false (max test.height (max yes.height no.height))) }
+        ensures node { IfOk result (IsNode (Conditional (expression_of test.tree.value) (expression_of yes.tree.value) (expression_of no.tree.value)) test.at false (max test.height (max yes.height no.height))) }
         ensures memory { IfErr result (λ f. f ≡ refusals.NoMemory) }
     {
         let parts = test.height.max(yes.height.max(no.height));
-        let at = test.at;
-        let (yes, no) = boxed(self.alloc, yes.tree, no.tree)?;
         let kind = ExprKind::Conditional {
-            test: Box::new(self.alloc, test.tree)?,
-            yes,
-            no,
+            test: test.tree,
+            yes: yes.tree,
+            no: no.tree,
         };
-        Ok(Parsed::node(kind, parts, at, false))
+        Parsed::node(self.alloc, kind, parts, test.at, false)
     }
 
     /// The row of a level, or the row `cast` where there is none. The tighter levels are read in a loop, so that nested
@@ -256,22 +242,12 @@ impl<'a> Parser<'a> {
     fn joined(&self, operator: Infix, left: Parsed, right: Parsed) -> Result<Parsed, Refusal>
         requires left { left.height < greatest_height }
         requires right { right.height < greatest_height }
-        ensures node { IfOk result (IsNode (infix_form operator (expression_of left.tree) (expression_of right.tree)) left.at false (max left.height right.height)) }
+        ensures node { IfOk result (IsNode (infix_form operator (expression_of left.tree.value) (expression_of right.tree.value)) left.at false (max left.height right.height)) }
         ensures memory { IfErr result (λ f. f ≡ refusals.NoMemory) }
     {
         let parts = left.height.max(right.height);
-        let at = left.at;
-        let (left, right) = boxed(self.alloc, left.tree, right.tree)?;
-        match operator {
-            Infix::Or => Ok(Parsed::node(ExprKind::Or { left, right }, parts, at, false)),
-            Infix::And => Ok(Parsed::node(ExprKind::And { left, right }, parts, at, false)),
-            Infix::Value(op) => Ok(Parsed::node(
-                ExprKind::Binary { op, left, right },
-                parts,
-                at,
-                false,
-            )),
-        }
+        let kind = infix_kind(operator, left.tree, right.tree);
+        Parsed::node(self.alloc, kind, parts, left.at, false)
     }
 
     /// The row `cast`.
@@ -310,14 +286,34 @@ impl<'a> Parser<'a> {
 
     fn converted(&self, to: TypeName, operand: Parsed, at: u32) -> Result<Parsed, Refusal>
         requires { operand.height < greatest_height }
-        ensures node { IfOk result (IsNode (Cast (type_of to) (expression_of operand.tree)) at false operand.height) }
+        ensures node { IfOk result (IsNode (Cast (type_of to) (expression_of operand.tree.value)) at false operand.height) }
         ensures memory { IfErr result (λ f. f ≡ refusals.NoMemory) }
     {
-        let height = operand.height;
         let kind = ExprKind::Cast {
             to,
-            operand: Box::new(self.alloc, operand.tree)?,
+            operand: operand.tree,
         };
-        Ok(Parsed::node(kind, height, at, false))
+        Parsed::node(self.alloc, kind, operand.height, at, false)
+    }
+}
+
+// An assignment of what stands right to what stands left.
+fn assignment_kind(assignment: Assignment, left: Box<Expr>, right: Box<Expr>) -> ExprKind
+    ensures { form_of result ≡ assignment_form assignment (expression_of left.value) (expression_of right.value) }
+{
+    match assignment {
+        Assignment::Plain => ExprKind::Assign { left, right },
+        Assignment::With(op) => ExprKind::AssignOp { op, left, right },
+    }
+}
+
+// An operator between two operands.
+fn infix_kind(operator: Infix, left: Box<Expr>, right: Box<Expr>) -> ExprKind
+    ensures { form_of result ≡ infix_form operator (expression_of left.value) (expression_of right.value) }
+{
+    match operator {
+        Infix::Or => ExprKind::Or { left, right },
+        Infix::And => ExprKind::And { left, right },
+        Infix::Value(op) => ExprKind::Binary { op, left, right },
     }
 }

@@ -15,8 +15,8 @@ ghost use Rattle.c_expressions.specs.Refusals.{Refuses};
 
 use crate::fault::Refusal;
 use crate::operators::{prefix_of, step_of};
-use crate::parser::{Arguments, Parsed, Parser, boxed};
-use c_syntax::{Expr, ExprKind, Keyword, PrefixOp, Punct, TokenKind, TypeName};
+use crate::parser::{Arguments, Parsed, Parser};
+use c_syntax::{ExprKind, Keyword, PrefixOp, Punct, TokenKind, TypeName};
 use word_base::Text;
 
 impl<'a> Parser<'a> {
@@ -85,15 +85,14 @@ impl<'a> Parser<'a> {
 
     fn stepped_before(&self, up: bool, operand: Parsed, at: u32) -> Result<Parsed, Refusal>
         requires { operand.height < greatest_height }
-        ensures node { IfOk result (IsNode (StepBefore up (expression_of operand.tree)) at true operand.height) }
+        ensures node { IfOk result (IsNode (StepBefore up (expression_of operand.tree.value)) at true operand.height) }
         ensures memory { IfErr result (λ f. f ≡ refusals.NoMemory) }
     {
-        let height = operand.height;
         let kind = ExprKind::StepBefore {
             up,
-            operand: Box::new(self.alloc, operand.tree)?,
+            operand: operand.tree,
         };
-        Ok(Parsed::node(kind, height, at, true))
+        Parsed::node(self.alloc, kind, operand.height, at, true)
     }
 
     // An operator before a cast.
@@ -113,15 +112,14 @@ impl<'a> Parser<'a> {
 
     fn prefixed(&self, op: PrefixOp, operand: Parsed, at: u32) -> Result<Parsed, Refusal>
         requires { operand.height < greatest_height }
-        ensures node { IfOk result (IsNode (Prefix op (expression_of operand.tree)) at true operand.height) }
+        ensures node { IfOk result (IsNode (Prefix op (expression_of operand.tree.value)) at true operand.height) }
         ensures memory { IfErr result (λ f. f ≡ refusals.NoMemory) }
     {
-        let height = operand.height;
         let kind = ExprKind::Prefix {
             op,
-            operand: Box::new(self.alloc, operand.tree)?,
+            operand: operand.tree,
         };
-        Ok(Parsed::node(kind, height, at, true))
+        Parsed::node(self.alloc, kind, operand.height, at, true)
     }
 
     // `sizeof` of a type or of a value.
@@ -137,7 +135,7 @@ impl<'a> Parser<'a> {
         self.cursor.skip();
         if self.cursor.opens_type() {
             let sized = self.type_in_parentheses()?;
-            return Ok(Parsed::node(ExprKind::SizeofType(sized), 1, at, true));
+            return Parsed::node(self.alloc, ExprKind::SizeofType(sized), 1, at, true);
         }
         let operand = self.unary(None, depth + 1)?;
         self.sized(operand, at)
@@ -145,12 +143,11 @@ impl<'a> Parser<'a> {
 
     fn sized(&self, operand: Parsed, at: u32) -> Result<Parsed, Refusal>
         requires { operand.height < greatest_height }
-        ensures node { IfOk result (IsNode (SizeofValue (expression_of operand.tree)) at true operand.height) }
+        ensures node { IfOk result (IsNode (SizeofValue (expression_of operand.tree.value)) at true operand.height) }
         ensures memory { IfErr result (λ f. f ≡ refusals.NoMemory) }
     {
-        let height = operand.height;
-        let kind = ExprKind::SizeofValue(Box::new(self.alloc, operand.tree)?);
-        Ok(Parsed::node(kind, height, at, true))
+        let kind = ExprKind::SizeofValue(operand.tree);
+        Parsed::node(self.alloc, kind, operand.height, at, true)
     }
 
     // `(`, a type and `)`.
@@ -204,13 +201,15 @@ impl<'a> Parser<'a> {
     fn element(&self, left: Parsed, index: Parsed) -> Result<Parsed, Refusal>
         requires left { left.height < greatest_height }
         requires index { index.height < greatest_height }
-        ensures node { IfOk result (IsNode (Index (expression_of left.tree) (expression_of index.tree)) left.at true (max left.height index.height)) }
+        ensures node { IfOk result (IsNode (Index (expression_of left.tree.value) (expression_of index.tree.value)) left.at true (max left.height index.height)) }
         ensures memory { IfErr result (λ f. f ≡ refusals.NoMemory) }
     {
         let parts = left.height.max(index.height);
-        let at = left.at;
-        let (operand, index) = boxed(self.alloc, left.tree, index.tree)?;
-        Ok(Parsed::node(ExprKind::Index { operand, index }, parts, at, true))
+        let kind = ExprKind::Index {
+            operand: left.tree,
+            index: index.tree,
+        };
+        Parsed::node(self.alloc, kind, parts, left.at, true)
     }
 
     // A step behind its operand.
@@ -228,16 +227,14 @@ impl<'a> Parser<'a> {
 
     fn stepped_after(&self, up: bool, left: Parsed) -> Result<Parsed, Refusal>
         requires { left.height < greatest_height }
-        ensures node { IfOk result (IsNode (StepAfter up (expression_of left.tree)) left.at true left.height) }
+        ensures node { IfOk result (IsNode (StepAfter up (expression_of left.tree.value)) left.at true left.height) }
         ensures memory { IfErr result (λ f. f ≡ refusals.NoMemory) }
     {
-        let height = left.height;
-        let at = left.at;
         let kind = ExprKind::StepAfter {
             up,
-            operand: Box::new(self.alloc, left.tree)?,
+            operand: left.tree,
         };
-        Ok(Parsed::node(kind, height, at, true))
+        Parsed::node(self.alloc, kind, left.height, left.at, true)
     }
 
     /// The row `primary`, and calls of names.
@@ -259,7 +256,7 @@ impl<'a> Parser<'a> {
     // A number or a character.
     fn constant(&mut self) -> Result<Parsed, Refusal>
         ensures parsed { IfOk result (λ p. IsConstant self.old.cursor p self.new.cursor) }
-        ensures refused { IfErr result (λ _. constant_at self.old.cursor ≡ None) }
+        ensures refused { IfErr result (Refuses (constant_at self.old.cursor ≡ None)) }
     {
         let at = self.cursor.place();
         let Some(kind) = self.cursor.kind() else {
@@ -269,7 +266,7 @@ impl<'a> Parser<'a> {
             return Err(self.cursor.refused());
         };
         self.cursor.skip();
-        Ok(Parsed::node(constant, 0, at, true))
+        Parsed::node(self.alloc, constant, 0, at, true)
     }
 
     // A name, or a call of one.
@@ -284,18 +281,14 @@ impl<'a> Parser<'a> {
         let name = self.cursor.take_name()?;
         let name = Text::copy_of(self.alloc, name)?;
         if !self.cursor.take(Punct::OpenParen) {
-            return Ok(Parsed::node(ExprKind::Name(name), 0, at, true));
+            return Parsed::node(self.alloc, ExprKind::Name(name), 0, at, true);
         }
         let arguments = self.arguments(depth)?;
-        Ok(Parsed::node(
-            ExprKind::Call {
-                name,
-                arguments: arguments.list,
-            },
-            arguments.height,
-            at,
-            true,
-        ))
+        let kind = ExprKind::Call {
+            name,
+            arguments: arguments.list,
+        };
+        Parsed::node(self.alloc, kind, arguments.height, at, true)
     }
 
     // The arguments of a call to its closing parenthesis.
@@ -315,8 +308,7 @@ impl<'a> Parser<'a> {
         self.allow(1, depth)?;
         loop {
             let next = self.assignment(None, depth + 1)?;
-            arguments.height = arguments.height.max(next.height);
-            arguments.list.push(next.tree)?;
+            arguments.add(next)?;
             if !self.cursor.take(Punct::Comma) {
                 self.cursor.expect(Punct::CloseParen)?;
                 return Ok(arguments);

@@ -1,9 +1,9 @@
 //! What the parts of the parser share: where it stands, and how high a tree may be.
-ghost use Rattle.std.specs.Prelude.{◌≡◌, ◌↔◌, ◌+◌, ◌<◌, ◌≤◌, ◌^◌, true, length, IfOk, IfErr, None};
+ghost use Rattle.std.specs.Prelude.{◌≡◌, ◌↔◌, ◌+◌, ◌<◌, ◌≤◌, ◌^◌, ◌++◌, ◌∷◌, [], max, true, length, IfOk, IfErr, None};
 ghost use Rattle.c_syntax.specs.Measures.{greatest_height};
-ghost use Rattle.c_syntax.specs.SyntaxView.{specs_of, type_of};
+ghost use Rattle.c_syntax.specs.SyntaxView.{form_of, specs_of, type_of};
 ghost use Rattle.c_expressions.specs.declared.fault.Refusal.TheVariants as refusals;
-ghost use Rattle.c_expressions.specs.Parses.{ReadsSpecs, ReadsStars, ReadsType};
+ghost use Rattle.c_expressions.specs.Parses.{IsNode, ReadsSpecs, ReadsStars, ReadsType};
 ghost use Rattle.c_expressions.specs.Refusals.{Refuses};
 ghost use Rattle.c_syntax.specs.Lookahead.{spec_of};
 
@@ -29,10 +29,10 @@ pub struct Tall<T> {
     pub height: u32,
 }
 
-/// An expression that was read.
+/// An expression that was read. Its tree waits in a box: little is moved then, and a proof needn't open it where it is dropped.
 #[derive(Drop)]
 pub(crate) struct Parsed {
-    pub(crate) tree: Expr,
+    pub(crate) tree: Box<Expr>,
     pub(crate) height: u32,
     /// The place of its first token, which may be a parenthesis.
     pub(crate) at: u32,
@@ -48,31 +48,55 @@ pub(crate) struct Arguments {
     pub(crate) height: u32,
 }
 
-/// Two trees in boxes. Their types are parameters, so a proof needn't open the tree that is dropped where memory is wanting.
-pub(crate) fn boxed<T: Drop, U: Drop>(
-    alloc: Global,
-    first: T,
-    second: U,
-) -> Result<(Box<T>, Box<U>), Refusal>
-    ensures first { IfOk result (λ boxes. boxes.0.value ≡ first) }
-    ensures second { IfOk result (λ boxes. boxes.1.value ≡ second) }
+// A tree in a box. Its type is a parameter, so a proof needn't open the tree that is dropped where memory is wanting.
+fn boxed<T: Drop>(alloc: Global, tree: T) -> Result<Box<T>, Refusal>
+    ensures tree { IfOk result (λ boxed. boxed.value ≡ tree) }
     ensures memory { IfErr result (λ f. f ≡ refusals.NoMemory) }
 {
-    Ok((Box::new(alloc, first)?, Box::new(alloc, second)?))
+    Ok(Box::new(alloc, tree)?)
+}
+
+// Puts a tree behind others.
+fn add<T: Drop>(list: &mut Vec<T>, next: T) -> Result<(), Refusal>
+    ensures items { IfOk result (λ _. list.new.items ≡ list.old.items ++ next ∷ []) }
+    ensures memory { IfErr result (λ f. f ≡ refusals.NoMemory) }
+{
+    list.push(next)?;
+    Ok(())
+}
+
+impl Arguments {
+    /// Puts one behind the others.
+    pub(crate) fn add(&mut self, next: Parsed) -> Result<(), Refusal>
+        ensures items { IfOk result (λ _. self.new.list.items ≡ self.old.list.items ++ next.tree.value ∷ []) }
+        ensures height { self.new.height ≡ max self.old.height next.height }
+        ensures memory { IfErr result (λ f. f ≡ refusals.NoMemory) }
+    {
+        self.height = self.height.max(next.height);
+        add(&mut self.list, Box::into_inner(next.tree))
+    }
 }
 
 impl Parsed {
     /// A node over parts of this height.
-    pub(crate) fn node(kind: ExprKind, parts: u32, at: u32, is_unary: bool) -> Self
+    pub(crate) fn node(
+        alloc: Global,
+        kind: ExprKind,
+        parts: u32,
+        at: u32,
+        is_unary: bool,
+    ) -> Result<Self, Refusal>
         requires { parts < greatest_height }
-        ensures { result ≡ record { tree = record { kind = kind; at = at }; height = parts + 1; at = at; is_unary = is_unary } }
+        ensures node { IfOk result (IsNode (form_of kind) at is_unary parts) }
+        ensures memory { IfErr result (λ f. f ≡ refusals.NoMemory) }
     {
-        Parsed {
-            tree: Expr { kind, at },
+        let tree = boxed(alloc, Expr { kind, at })?;
+        Ok(Parsed {
+            tree,
             height: parts + 1,
             at,
             is_unary,
-        }
+        })
     }
 
     /// Puts it in parentheses, of which the first stands there.

@@ -13,10 +13,10 @@ use crate::parser::{Parsed, Parser, Tall};
 use c_syntax::{Expr, Specs};
 
 fn whole(parsed: Parsed) -> Tall<Expr>
-    ensures { result ≡ record { tree = parsed.tree; height = parsed.height } }
+    ensures { result ≡ record { tree = parsed.tree.value; height = parsed.height } }
 {
     Tall {
-        tree: parsed.tree,
+        tree: Box::into_inner(parsed.tree),
         height: parsed.height,
     }
 }

@@ -5,16 +5,15 @@ use Rattle.c_syntax.specs.declared.token.Punct.TheVariants as mark
 use Rattle.c_syntax.specs.Lookahead.{next_of, going_of, Stops}
 use Rattle.c_expressions.specs.Front.{mark_at, opens_type, behind, word_at, name_at}
 use Rattle.c_expressions.specs.Operators.{next_assignment, level_row, row_at, step_at, prefix_at}
-use Rattle.c_expressions.proofs.Refusals.{refuses_all, passed_on, known_to, goes_out, known_so, memory_alone}
+use Rattle.c_expressions.proofs.Refusals.{refuses_all, passed_on, known_to, goes_out, memory_alone}
 use Rattle.c_expressions.proofs.Rows.{assignment_more, conditional_more, assignment_done, conditional_done, index_behind, behind_done}
 use Rattle.c_expressions.proofs.RowsRefuse.{expression_first_refused, expression_read, expression_refused, more_begins, commas_done, comma_too_high, comma_refused, comma_more, assignment_first_refused, assignment_read, assignment_refused, not_assigned_to, assignment_too_high, assigned_refused, conditional_first_refused, conditional_read, conditional_refused, conditional_too_high, chosen_refused, no_colon, other_refused, more_done, level_more, operator_too_high, operand_refused, cast_tightest, is_looser, looser_refused, level_read, level_refused, cast_passes, cast_starts, cast_first_refused, cast_start_refused, cast_too_high, cast_not_closed, cast_operand_refused}
 use Rattle.c_expressions.proofs.parser.Parser.+parser.Goals as goal
 use Rattle.c_expressions.specs.Parses.{IsParsed, IsNode}
-use Rattle.c_syntax.specs.SyntaxView.{trees_of, type_of}
+use Rattle.c_syntax.specs.SyntaxView.{type_of}
 use Rattle.c_syntax.specs.Measures.{greatest_height}
 use Rattle.c_expressions.proofs.Firsts.{cast_parsed, constant_operand, name_operand, call_operand, step_parsed, prefix_parsed, size_parsed, size_type_parsed, unary_starts, unary_passes}
 use Rattle.c_syntax.specs.declared.token.Keyword.TheVariants as keyword
-use Rattle.c_syntax.specs.SyntaxTree.{Node, Name, Call, SizeofType}
 use Rattle.c_expressions.proofs.Parens.{opened_length, parens_begin, parens_fewer, parens_measured, parens_more, parens_close}
 use Rattle.c_syntax.proofs.Views.{call_form}
 use Rattle.c_expressions.proofs.Arguments.{arguments_begin, arguments_none, arguments_done, arguments_more}
@@ -256,8 +255,8 @@ arguments-returns-then-not-take-clause-parsed t c =
     let e : mark_at c.assignment.new.self.cursor ≡ Some mark.CloseParen = sym (ap mark_at m) ∙ c.in_ok-expect.ensures.taken in
     let k : c.expect.new.self ≡ behind c.assignment.new.self.cursor = c.in_ok-expect.ensures.left ∙ ap behind m in
     rw k (arguments_done c.args.self.now.cursor c.args.depth c.loop-arguments.arguments.list.items c.loop-arguments.arguments.height c.loop-arguments.self.cursor c.in_ok-next.next c.assignment.new.self.cursor
-    (record { list = c.push.new.self; height = c.max.result })
-    c.loop-arguments.invariant c.in_ok-next.ensures.parsed h e c.in_ok-push.ensures.items c.max.ensures)
+    c.add.new.self
+    c.loop-arguments.invariant c.in_ok-next.ensures.parsed h e c.in_ok-add.ensures.items c.add.ensures.height)
 
 pub arguments-loop-arguments-init : goal.arguments-loop-arguments-init
 arguments-loop-arguments-init t c =
@@ -268,7 +267,7 @@ pub arguments-loop-arguments-preserved : goal.arguments-loop-arguments-preserved
 arguments-loop-arguments-preserved t c =
     let e : mark_at c.assignment.new.self.cursor ≡ Some mark.Comma = search rules in
     let k : c.take-in-loop-arguments.new.self ≡ behind c.assignment.new.self.cursor = search rules in
-    rw (k, c.in_ok-push.ensures.items, c.max.ensures) (arguments_more c.args.self.now.cursor c.args.depth c.loop-arguments.arguments.list.items c.loop-arguments.arguments.height c.loop-arguments.self.cursor c.in_ok-next.next c.assignment.new.self.cursor
+    rw (k, c.in_ok-add.ensures.items, c.add.ensures.height) (arguments_more c.args.self.now.cursor c.args.depth c.loop-arguments.arguments.list.items c.loop-arguments.arguments.height c.loop-arguments.self.cursor c.in_ok-next.next c.assignment.new.self.cursor
     c.loop-arguments.invariant c.in_ok-next.ensures.parsed e)
 
 pub arguments-returns-in_err-allow-clause-refused : goal.arguments-returns-in_err-allow-clause-refused
@@ -346,8 +345,10 @@ named-returns-then-not-take-clause-parsed t c =
     let h : mark_at c.take_name.new.self ≢ Some mark.OpenParen = search rules in
     let g : mark_at (behind c.args.self.now.cursor) ≢ Some mark.OpenParen = subst (λ l. mark_at l ≢ Some mark.OpenParen) c.in_ok-name.ensures.left h in
     let e : name_at c.args.self.now.cursor ≡ Some c.in_ok-name-2.name = c.in_ok-name.ensures.taken ∙ ap Some (sym c.in_ok-name-2.ensures) in
-    let n : IsNode (Name c.in_ok-name-2.name) c.place-at.result true 0 c.node.result = rw c.node.ensures (record { tree = refl; place = refl; unary_is = refl; height = refl }) in
-    rw k (name_operand c.args.self.now.cursor c.args.depth c.node.result c.in_ok-name-2.name c.place-at.result e g c.place-at.ensures c.requires.room n)
+    rw k (IfOk-weaker c.node.result _ _ (λ p n. name_operand c.args.self.now.cursor c.args.depth p c.in_ok-name-2.name c.place-at.result e g c.place-at.ensures c.requires.room n) c.node.ensures.node)
+
+pub named-returns-then-not-take-clause-refused : goal.named-returns-then-not-take-clause-refused
+named-returns-then-not-take-clause-refused t c = memory_alone _ c.node.result c.node.ensures.memory
 
 pub named-returns-clause-parsed : goal.named-returns-clause-parsed
 named-returns-clause-parsed t c =
@@ -357,9 +358,14 @@ named-returns-clause-parsed t c =
     let g : mark_at (behind c.args.self.now.cursor) ≡ Some mark.OpenParen = sym (ap mark_at c.in_ok-name.ensures.left) ∙ h in
     let e : name_at c.args.self.now.cursor ≡ Some c.in_ok-name-2.name = c.in_ok-name.ensures.taken ∙ ap Some (sym c.in_ok-name-2.ensures) in
     let q = rw j at c.in_ok-arguments.ensures.parsed in
-    let n : IsNode (Call c.in_ok-name-2.name (trees_of c.in_ok-arguments.arguments.list.items)) c.place-at.result true c.in_ok-arguments.arguments.height c.node-2.result =
-    rw c.node-2.ensures (record { tree = ap (λ f. Node f c.place-at.result) (call_form c.in_ok-name-2.name c.in_ok-arguments.arguments.list); place = refl; unary_is = refl; height = refl }) in
-    call_operand c.args.self.now.cursor c.args.depth c.node-2.result c.in_ok-name-2.name c.place-at.result c.in_ok-arguments.arguments c.arguments.new.self.cursor e g c.place-at.ensures q n
+    let all = c.in_ok-arguments.arguments in
+    IfOk-weaker c.node-2.result _ _
+    (λ p n. call_operand c.args.self.now.cursor c.args.depth p c.in_ok-name-2.name c.place-at.result all c.arguments.new.self.cursor e g c.place-at.ensures q
+    (subst (λ f. IsNode f c.place-at.result true all.height p) (call_form c.in_ok-name-2.name all.list) n))
+    c.node-2.ensures.node
+
+pub named-returns-clause-refused : goal.named-returns-clause-refused
+named-returns-clause-refused t c = memory_alone _ c.node-2.result c.node-2.ensures.memory
 
 pub named-returns-in_err-name-clause-refused : goal.named-returns-in_err-name-clause-refused
 named-returns-in_err-name-clause-refused t c = known_to c.from_residual.result (named_not c.args.depth c.args.self.now.cursor c.requires.name c.in_err-name.ensures.refused)
@@ -465,15 +471,19 @@ pub primary-returns-clause-refused : goal.primary-returns-clause-refused
 primary-returns-clause-refused t c =
     let h : mark_at c.args.self.now.cursor ≢ Some mark.OpenParen = search rules in
     let n : name_at c.args.self.now.cursor ≡ None = search rules in
-    known_so c.constant.result (other_no_operand c.args.depth c.args.self.now.cursor h n) c.constant.ensures.refused
+    goes_out c.constant.result (other_no_operand c.args.depth c.args.self.now.cursor h n) c.constant.ensures.refused
 
 pub size-returns-then-opens_type-clause-parsed : goal.size-returns-then-opens_type-clause-parsed
 size-returns-then-opens_type-clause-parsed t c =
     let o : opens_type c.skip.new.self ≡ true = search rules in
     let b : opens_type (behind c.args.self.now.cursor) ≡ true = sym (ap opens_type c.skip.ensures.behind) ∙ o in
     let q = rw c.skip.ensures.behind at c.in_ok-sized.ensures.parsed in
-    let n : IsNode (SizeofType (type_of c.in_ok-sized.sized)) c.place-at.result true 1 c.node.result = rw c.node.ensures (record { tree = refl; place = refl; unary_is = refl; height = refl }) in
-    size_type_parsed c.args.self.now.cursor c.args.depth (type_of c.in_ok-sized.sized) c.type_in_parentheses.new.self.cursor c.node.result c.place-at.result c.requires.word b c.place-at.ensures q c.in_ok-allow.ensures.low n
+    IfOk-weaker c.node.result _ _
+    (λ p n. size_type_parsed c.args.self.now.cursor c.args.depth (type_of c.in_ok-sized.sized) c.type_in_parentheses.new.self.cursor p c.place-at.result c.requires.word b c.place-at.ensures q c.in_ok-allow.ensures.low n)
+    c.node.ensures.node
+
+pub size-returns-then-opens_type-clause-refused : goal.size-returns-then-opens_type-clause-refused
+size-returns-then-opens_type-clause-refused t c = memory_alone _ c.node.result c.node.ensures.memory
 
 pub size-returns-clause-parsed : goal.size-returns-clause-parsed
 size-returns-clause-parsed t c =
