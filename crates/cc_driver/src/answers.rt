@@ -19,12 +19,12 @@ use crate::build::build;
 use crate::means::means;
 use crate::run::run;
 use c25_isa::Stop;
+use cc_shelf::{Shelf, Sink, SinkFault};
 use cc_text::{
     BuildFault, FileFault, MeansFault, RunFault, answer_text, outcome_text, report, report_means,
     report_run, say,
 };
 use std::alloc::Global;
-use cc_shelf::{Shelf, Sink, SinkFault};
 use word_base::Outcome;
 
 // The status of a refused build.

@@ -5,9 +5,9 @@ ghost use Rattle.cc_driver.specs.Fetches.{IsFetched, FetchesRefused, ports_limit
 ghost use Rattle.cc_text.specs.CommandFaults.{of_shelf_fault};
 ghost use Rattle.cc_text.specs.declared.fault.RunFault.TheVariants as faults;
 
+use cc_shelf::{Shelf, ShelfFault};
 use cc_text::{FileFault, RunFault};
 use std::alloc::Global;
-use cc_shelf::{Shelf, ShelfFault};
 
 /// The greatest length of a port file, in bytes.
 const PORTS_LIMIT: u64 = 16_777_216;

@@ -11,9 +11,9 @@ use crate::files::fetch_both;
 use crate::front::{SOURCE_LIMIT, typed_program};
 use c_means::evaluate;
 use c25_image::read_ports;
+use cc_shelf::Shelf;
 use cc_text::MeansFault;
 use std::alloc::Global;
-use cc_shelf::Shelf;
 use word_base::Outcome;
 
 // Evaluates the source of one text on the ports of another. The format of the ports comes before the faults of the source.

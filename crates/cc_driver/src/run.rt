@@ -7,9 +7,9 @@ use crate::files::fetch_both;
 use c25_image::{read_image, read_ports};
 use c25_isa::{RunOutcome, Start};
 use c25_sim::Machine;
+use cc_shelf::Shelf;
 use cc_text::RunFault;
 use std::alloc::Global;
-use cc_shelf::Shelf;
 
 /// The greatest length of an image's text, in bytes.
 const IMAGE_LIMIT: u64 = 4_194_304;

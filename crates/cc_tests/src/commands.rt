@@ -1,10 +1,10 @@
 //! Commands over a shelf and a sink in memory.
 use cc_driver::c25cc;
+use cc_memory::{MemShelf, MemSink};
 use std::alloc::Global;
 use std::process::Abort;
 use std::test::Fail;
 use std::thread::Threads;
-use cc_memory::{MemShelf, MemSink};
 
 /// A command over a shelf that holds the files `i` and `p`.
 #[derive(Clone, Copy)]

@@ -1,7 +1,7 @@
 //! The real files and the real standard output, and what pieces of a search share.
+use cc_shelf::{FileShelf, OutSink, Shelf, ShelfFault, Sink};
 use std::fs;
 use std::test::Fail;
-use cc_shelf::{FileShelf, OutSink, Shelf, ShelfFault, Sink};
 use word_base::{Gate, NoMemory, OpenGate};
 
 const NAME: &str = "file_shelf.tmp";

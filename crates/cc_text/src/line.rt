@@ -7,8 +7,8 @@ ghost use Rattle.cc_text.specs.MeansText.{means_line};
 
 use crate::fault::{BuildFault, FileFault, MeansFault, RunFault, SourceFault};
 use c_rules::{LimitName, TypeFault};
-use std::alloc::Global;
 use cc_shelf::Sink;
+use std::alloc::Global;
 use word_base::{NoMemory, Text};
 
 /// Puts a line. A failure changes no status.
