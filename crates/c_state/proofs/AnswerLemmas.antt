@@ -1,24 +1,21 @@
 -- What an answer that looks at no object says at a point of a run.
-use Rattle.std.proofs.Common.{◌≡◌, refl, sym, subst, ℕ, Result, Ok, Err, IfOk, IfErr}
+use Rattle.std.proofs.Common.{◌≡◌, refl, sym, subst, ℕ, Result, Ok, Err}
 use Rattle.std.specs.Prelude.{◌==◌}
 use Rattle.c_syntax.specs.declared.operator.BinaryOp.{BinaryOp}
 use Rattle.c_syntax.specs.declared.operator.BinaryOp.TheVariants as op
 use Rattle.c_tree.specs.Operators.{int_binary}
 use Rattle.c_tree.specs.Eval.{calc, equality, ordering}
-use Rattle.c_tree.specs.Store.{Value, World, Does, Gives}
+use Rattle.c_tree.specs.Store.{Value, Does}
 use Rattle.c_state.specs.declared.value.Value as code
 use Rattle.c_state.specs.declared.value.Stop.{Stop}
 use Rattle.c_state.specs.Values.{value_of}
-use Rattle.c_state.specs.Worlds.{Stops}
+use Rattle.c_state.specs.declared.state.State.{State}
+use Rattle.c_state.specs.Worlds.{world_of, ComesTo}
 use Rattle.c_state.specs.Operands.{IsAnswer}
 
-pub gives_at : (does : Does Value) (r : Result code.Value Stop) (w : World) → IsAnswer does r → IfOk r (λ v. does w ≡ Gives (value_of v) w)
-gives_at does (Ok v) w is = is w
-gives_at does (Err s) w is = tt {0}
-
-pub stops_at : (does : Does Value) (r : Result code.Value Stop) (w : World) → IsAnswer does r → IfErr r (Stops (does w) w.outs)
-stops_at does (Ok v) w is = tt {0}
-stops_at does (Err s) w is = is w
+pub comes_at : (does : Does Value) (r : Result code.Value Stop) (s : State) → IsAnswer does r → ComesTo value_of (does (world_of s)) s r
+comes_at does (Ok v) s is = is (world_of s)
+comes_at does (Err stop) s is = is (world_of s)
 
 -- the difference of two pointers into one object, and whether they are equal
 pub subtracted : (o : BinaryOp) (i j at : ℕ) (r : Result code.Value Stop) → o ≡ op.Sub → IsAnswer (calc (int_binary o i j) at) r → IsAnswer (ordering o i j at) r

@@ -1,12 +1,11 @@
 //! What operators give on values: ISO 9899:1990 6.3.3.3 and 6.3.5 to 6.3.12, on pointers 6.3.6, 6.3.8 and 6.3.9.
-ghost use Rattle.std.specs.Prelude.{◌≡◌, ◌≤ℤ◌, IfOk, IfErr, pos, negsuc, neg_ℤ, if◌then◌else◌};
+ghost use Rattle.std.specs.Prelude.{◌≡◌, ◌≤ℤ◌, pos, negsuc, neg_ℤ, if◌then◌else◌};
 ghost use Rattle.c_tree.specs.Eval as eval;
 ghost use Rattle.c_tree.specs.Operators as operators;
-ghost use Rattle.c_tree.specs.Store.{Gives};
 ghost use Rattle.c_state.specs.Operands as operands;
 ghost use Rattle.c_state.specs.Operands.{IsAnswer};
 ghost use Rattle.c_state.specs.Values.{value_of};
-ghost use Rattle.c_state.specs.Worlds.{world_of, Stops};
+ghost use Rattle.c_state.specs.Worlds.{world_of, ComesTo};
 
 use crate::state::State;
 use crate::value::{Spot, Stop, Value, bad_pointer, undefined};
@@ -61,8 +60,7 @@ impl State {
         right: Operand,
         at: u32,
     ) -> Result<Value, Stop>
-        ensures gives { IfOk result (λ v. eval.of_two op left.kind right.kind (value_of left.value) (value_of right.value) at (world_of self.now) ≡ Gives (value_of v) (world_of self.now)) }
-        ensures stops { IfErr result (Stops (eval.of_two op left.kind right.kind (value_of left.value) (value_of right.value) at (world_of self.now)) self.now.outs.items) }
+        ensures { ComesTo value_of (eval.of_two op left.kind right.kind (value_of left.value) (value_of right.value) at (world_of self.now)) self.now result }
     {
         match (left.value, right.value) {
             (Value::Word(a), Value::Word(b)) => {
@@ -90,8 +88,7 @@ impl State {
     fn moved(&self, spot: Spot, by: i32, at: u32) -> Result<Value, Stop>
         requires low { negsuc 65535 ≤ℤ by }
         requires high { by ≤ℤ pos 65536 }
-        ensures gives { IfOk result (λ v. eval.move spot.object.number spot.index by at (world_of self.now) ≡ Gives (value_of v) (world_of self.now)) }
-        ensures stops { IfErr result (Stops (eval.move spot.object.number spot.index by at (world_of self.now)) self.now.outs.items) }
+        ensures { ComesTo value_of (eval.move spot.object.number spot.index by at (world_of self.now)) self.now result }
     {
         let Some(length) = self.store.length(spot.object) else {
             return Err(bad_pointer(at));
@@ -108,8 +105,7 @@ impl State {
 
     // Two pointers, both to living objects.
     fn of_pointers(&self, op: BinaryOp, left: Spot, right: Spot, at: u32) -> Result<Value, Stop>
-        ensures gives { IfOk result (λ v. operands.of_pointers op left.object.number left.index right.object.number right.index at (world_of self.now) ≡ Gives (value_of v) (world_of self.now)) }
-        ensures stops { IfErr result (Stops (operands.of_pointers op left.object.number left.index right.object.number right.index at (world_of self.now)) self.now.outs.items) }
+        ensures { ComesTo value_of (operands.of_pointers op left.object.number left.index right.object.number right.index at (world_of self.now)) self.now result }
     {
         if self.store.length(left.object).is_none() || self.store.length(right.object).is_none() {
             return Err(bad_pointer(at));
@@ -123,8 +119,7 @@ impl State {
 
     // A pointer to a living object, and the null pointer.
     fn beside_null(&self, op: BinaryOp, spot: Spot, at: u32) -> Result<Value, Stop>
-        ensures gives { IfOk result (λ v. operands.beside_null op spot.object.number at (world_of self.now) ≡ Gives (value_of v) (world_of self.now)) }
-        ensures stops { IfErr result (Stops (operands.beside_null op spot.object.number at (world_of self.now)) self.now.outs.items) }
+        ensures { ComesTo value_of (operands.beside_null op spot.object.number at (world_of self.now)) self.now result }
     {
         match self.store.length(spot.object) {
             Some(_) => equality(op, false, at),
@@ -140,8 +135,7 @@ impl State {
         value: Value,
         at: u32,
     ) -> Result<Value, Stop>
-        ensures gives { IfOk result (λ v. eval.stepped up kind (value_of value) at (world_of self.now) ≡ Gives (value_of v) (world_of self.now)) }
-        ensures stops { IfErr result (Stops (eval.stepped up kind (value_of value) at (world_of self.now)) self.now.outs.items) }
+        ensures { ComesTo value_of (eval.stepped up kind (value_of value) at (world_of self.now)) self.now result }
     {
         let op = if up { BinaryOp::Add } else { BinaryOp::Sub };
         let one = Operand {
@@ -159,8 +153,7 @@ impl State {
         value: Value,
         at: u32,
     ) -> Result<Value, Stop>
-        ensures gives { IfOk result (λ v. eval.of_one op kind (value_of value) at (world_of self.now) ≡ Gives (value_of v) (world_of self.now)) }
-        ensures stops { IfErr result (Stops (eval.of_one op kind (value_of value) at (world_of self.now)) self.now.outs.items) }
+        ensures { ComesTo value_of (eval.of_one op kind (value_of value) at (world_of self.now)) self.now result }
     {
         let Value::Word(word) = value else {
             return Err(bad_pointer(at));
@@ -176,8 +169,7 @@ impl State {
 
     /// Where a pointer points.
     pub fn spot_of(&self, value: Value, at: u32) -> Result<Spot, Stop>
-        ensures gives { IfOk result (λ spot. eval.spot_of (value_of value) at (world_of self.now) ≡ Gives (spot.object.number, spot.index) (world_of self.now)) }
-        ensures stops { IfErr result (Stops (eval.spot_of (value_of value) at (world_of self.now)) self.now.outs.items) }
+        ensures { ComesTo (λ spot. (spot.object.number, spot.index)) (eval.spot_of (value_of value) at (world_of self.now)) self.now result }
     {
         match value {
             Value::Pointer(spot) => Ok(spot),
@@ -187,8 +179,7 @@ impl State {
 
     /// Whether a value isn't zero and isn't null.
     pub fn test(&self, value: Value, at: u32) -> Result<bool, Stop>
-        ensures gives { IfOk result (λ b. eval.test_of (value_of value) at (world_of self.now) ≡ Gives b (world_of self.now)) }
-        ensures stops { IfErr result (Stops (eval.test_of (value_of value) at (world_of self.now)) self.now.outs.items) }
+        ensures { ComesTo (λ b. b) (eval.test_of (value_of value) at (world_of self.now)) self.now result }
     {
         match value {
             Value::Word(word) => Ok(word != 0),

@@ -1,10 +1,9 @@
 //! What is known at a point of a run: the objects, the input that is left, and the outputs so far.
-ghost use Rattle.std.specs.Prelude.{◌≡◌, IfOk, IfErr, OnOk, None};
+ghost use Rattle.std.specs.Prelude.{None};
 ghost use Rattle.c_tree.specs.Eval as eval;
 ghost use Rattle.c_tree.specs.Store as runs;
-ghost use Rattle.c_tree.specs.Store.{Gives};
-ghost use Rattle.c_state.specs.Values.{value_of, option_of};
-ghost use Rattle.c_state.specs.Worlds.{world_of, Stops};
+ghost use Rattle.c_state.specs.Values.{value_of};
+ghost use Rattle.c_state.specs.Worlds.{world_of, ComesTo};
 
 use crate::inputs::Inputs;
 use crate::store::Store;
@@ -22,8 +21,7 @@ pub struct State {
 impl State {
     /// The value of a cell, read as its type says.
     pub fn load(&self, spot: Spot, kind: Option<ScalarType>, at: u32) -> Result<Value, Stop>
-        ensures gives { IfOk result (λ v. runs.load spot.object.number spot.index (eval.points kind) at (world_of self.now) ≡ Gives (value_of v) (world_of self.now)) }
-        ensures stops { IfErr result (Stops (runs.load spot.object.number spot.index (eval.points kind) at (world_of self.now)) self.now.outs.items) }
+        ensures { ComesTo value_of (runs.load spot.object.number spot.index (eval.points kind) at (world_of self.now)) self.now result }
     {
         match self.store.cell(spot.object, spot.index, points(kind)) {
             Some(Cell::Holds(value)) => Ok(value),
@@ -40,8 +38,7 @@ impl State {
         value: Value,
         at: u32,
     ) -> Result<Value, Stop>
-        ensures gives { IfOk result (λ v. runs.save spot.object.number spot.index (eval.points kind) (value_of value) at (world_of self.old) ≡ Gives (value_of v) (world_of self.new)) }
-        ensures stops { IfErr result (Stops (runs.save spot.object.number spot.index (eval.points kind) (value_of value) at (world_of self.old)) self.new.outs.items) }
+        ensures { ComesTo value_of (runs.save spot.object.number spot.index (eval.points kind) (value_of value) at (world_of self.old)) self.new result }
     {
         if self
             .store
@@ -56,8 +53,7 @@ impl State {
 
     /// The next word of a port, or the end of the run.
     pub fn take(&mut self, port: u8) -> Result<Value, Stop>
-        ensures gives { IfOk result (λ v. runs.take_word port (world_of self.old) ≡ Gives (value_of v) (world_of self.new)) }
-        ensures stops { IfErr result (Stops (runs.take_word port (world_of self.old)) self.new.outs.items) }
+        ensures { ComesTo value_of (runs.take_word port (world_of self.old)) self.new result }
     {
         match self.inputs.take(port) {
             Some(word) => Ok(Value::Word(word)),
@@ -67,8 +63,7 @@ impl State {
 
     /// A word goes out. It yields to want of memory at a port from 16 on, which no source has.
     pub fn emit(&mut self, port: u8, value: Value, at: u32) -> Result<(), Stop>
-        ensures gives { OnOk result (eval.emit port (value_of value) at (world_of self.old) ≡ Gives None (world_of self.new)) }
-        ensures stops { IfErr result (Stops (eval.emit port (value_of value) at (world_of self.old)) self.new.outs.items) }
+        ensures { ComesTo (λ _. None) (eval.emit port (value_of value) at (world_of self.old)) self.new result }
     {
         let Value::Word(word) = value else {
             return Err(bad_pointer(at));
