@@ -1,5 +1,5 @@
 -- The start of a run.
-use Rattle.std.proofs.Common.{◌≡◌, ◌<◌, ◌+◌, Bool, true, false, ℕ, zero, suc, cond, List, [], ◌∷◌, ◌++◌, length, map, get_or, take, refl, sym, ap, subst, ◌∙◌, Option, Some, None, option_map, Result, IfOk, IfErr, arith}
+use Rattle.std.proofs.Common.{◌≡◌, ◌<◌, ◌+◌, Bool, true, false, ℕ, zero, suc, cond, List, [], ◌∷◌, ◌++◌, length, map, get_or, take, refl, sym, ap, subst, ◌∙◌, Option, Some, None, option_map, Result, arith}
 use Rattle.std.specs.Prelude.{◌==◌, slice_get}
 use Rattle.std.specs.List.{find}
 use Rattle.std.specs.Str.{bytes_eq}
@@ -20,7 +20,8 @@ use Rattle.c_tree.specs.SourceRun.{main_of, main_name, static_object, first_worl
 use Rattle.c_state.specs.declared.value.Value.{Value}
 use Rattle.c_state.specs.declared.value.Stop.{Stop}
 use Rattle.c_state.specs.Values.{option_of}
-use Rattle.c_state.specs.Worlds.{Stops}
+use Rattle.c_state.specs.declared.state.State.{State}
+use Rattle.c_state.specs.Worlds.{ComesTo}
 use Rattle.c_means.specs.Runs.{statics_of, main_run}
 
 -- whether a function is named main
@@ -87,8 +88,5 @@ main_call p functions n f all is =
     ∙ ap (λ d. call_function (call_within tree n d) n (Some (function_of f)) []) (length-map p.functions function_of ∙ ap length (sym all))
 
 -- what is said of a part of a run is said of an equal one
-pub same_gives : (f g : Does (Option runs.Value)) (w after : World) (r : Result (Option Value) Stop) → g ≡ f → IfOk r (λ v. f w ≡ Gives (option_of v) after) → IfOk r (λ v. g w ≡ Gives (option_of v) after)
-same_gives f g w after r same gives = subst (λ (d : Does (Option runs.Value)). IfOk r (λ v. d w ≡ Gives (option_of v) after)) (sym same) gives
-
-pub same_stops : (f g : Does (Option runs.Value)) (w : World) (outs : Outputs) (r : Result (Option Value) Stop) → g ≡ f → IfErr r (Stops (f w) outs) → IfErr r (Stops (g w) outs)
-same_stops f g w outs r same stops = subst (λ (d : Does (Option runs.Value)). IfErr r (Stops (d w) outs)) (sym same) stops
+pub same_comes : (f g : Does (Option runs.Value)) (w : World) (behind : State) (r : Result (Option Value) Stop) → g ≡ f → ComesTo option_of (f w) behind r → ComesTo option_of (g w) behind r
+same_comes f g w behind r same comes = subst (λ (d : Does (Option runs.Value)). ComesTo option_of (d w) behind r) (sym same) comes

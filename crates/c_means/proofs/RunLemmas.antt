@@ -1,5 +1,5 @@
 -- How an evaluation goes on behind its parts.
-use Rattle.std.proofs.Common.{◌≡◌, ◌∙◌, refl, sym, ap, subst, ℕ, Bool, true, false, Option, Some, None, Result, Ok, Err, IfOk, IfErr, IsErrAnd, Box, Global}
+use Rattle.std.proofs.Common.{◌≡◌, ◌∙◌, refl, sym, ap, subst, ℕ, Bool, true, false, Option, Some, None, Result, Ok, Err, IsErrAnd, Box, Global}
 use Rattle.word_base.specs.Ports.{Outputs}
 use Rattle.c_tree.specs.declared.typed_expression.TypedExpr.{TypedExpr}
 use Rattle.c_tree.specs.declared.typed_expression.ExprForm.{ExprForm}
@@ -21,13 +21,14 @@ use Rattle.c_state.specs.declared.value.Stop.{Stop}
 use Rattle.c_means.specs.declared.blocks.Flow as flow
 use Rattle.c_state.specs.Values.{option_of, value_of}
 use Rattle.c_means.specs.Blocks.{flow_of}
-use Rattle.c_state.specs.Worlds.{Stops}
+use Rattle.c_state.specs.declared.state.State.{State}
+use Rattle.c_state.specs.Worlds.{ComesTo, Stops}
 use Rattle.c_means.proofs.TurnLemmas.{grouped, stops_behind}
 
 -- an error that is passed on says what it said
-pub stopped : {T A : Type 0} (r : Result T Stop) (s : Stop) (x : Res A) (outs : Outputs) → IsErrAnd r (λ e. e ≡ s) → Stops x outs s → IfErr r (Stops x outs)
-stopped (Ok t) s x outs is h = tt {0}
-stopped (Err e) s x outs is h = subst (λ v. Stops x outs v) (sym is) h
+pub stopped : {A B : Type 0} (view : B → A) (x : Res A) (behind : State) (r : Result B Stop) (s : Stop) → IsErrAnd r (λ e. e ≡ s) → Stops x behind.outs.items s → ComesTo view x behind r
+stopped view x behind (Ok b) s is h = absurd is
+stopped view x behind (Err e) s is h = subst (λ v. Stops x behind.outs.items v) (sym is) h
 
 -- behind a part that gave a value
 pub past : {A B : Type 0} (r : Res A) (next : A → Does B) (a : A) (w : World) (outs : Outputs) (s : Stop) → r ≡ Gives a w → Stops (next a w) outs s → Stops (after r next) outs s
@@ -43,31 +44,16 @@ pub stops_both : {A B C : Type 0} (r : Res A) (f : A → Does B) (g : B → Does
 stops_both r f g outs s h = subst (λ x. Stops x outs s) (grouped r f g) h
 
 -- an expression and a statement of a form
-module _ (calls : Calls) (env : Env) (e : TypedExpr) (f : Form) (w w' : World) (is : form_of e.form ≡ f) where
-  pub eval_gives : (r : Result (Option code.Value) Stop) → IfOk r (λ v. eval_form calls env f e.kind e.at w ≡ Gives (option_of v) w')
-      → IfOk r (λ v. eval calls env (expr_of e) w ≡ Gives (option_of v) w')
-  eval_gives r h = subst (λ g. IfOk r (λ v. eval_form calls env g e.kind e.at w ≡ Gives (option_of v) w')) (sym is) h
+module _ (calls : Calls) (env : Env) (e : TypedExpr) (f : Form) (w : World) (behind : State) (is : form_of e.form ≡ f) where
+  pub eval_comes : (r : Result (Option code.Value) Stop) → ComesTo option_of (eval_form calls env f e.kind e.at w) behind r → ComesTo option_of (eval calls env (expr_of e) w) behind r
+  eval_comes r h = subst (λ g. ComesTo option_of (eval_form calls env g e.kind e.at w) behind r) (sym is) h
 
-  pub eval_stops : (r : Result (Option code.Value) Stop) → IfErr r (Stops (eval_form calls env f e.kind e.at w) w'.outs)
-      → IfErr r (Stops (eval calls env (expr_of e) w) w'.outs)
-  eval_stops r h = subst (λ g. IfErr r (Stops (eval_form calls env g e.kind e.at w) w'.outs)) (sym is) h
+  pub value_comes : (r : Result code.Value Stop) → ComesTo value_of (value calls env (Node f e.kind e.at) w) behind r → ComesTo value_of (value calls env (expr_of e) w) behind r
+  value_comes r h = subst (λ g. ComesTo value_of (value calls env (Node g e.kind e.at) w) behind r) (sym is) h
 
-  pub value_gives : (r : Result code.Value Stop) → IfOk r (λ v. value calls env (Node f e.kind e.at) w ≡ Gives (value_of v) w')
-      → IfOk r (λ v. value calls env (expr_of e) w ≡ Gives (value_of v) w')
-  value_gives r h = subst (λ g. IfOk r (λ v. value calls env (Node g e.kind e.at) w ≡ Gives (value_of v) w')) (sym is) h
-
-  pub value_stops : (r : Result code.Value Stop) → IfErr r (Stops (value calls env (Node f e.kind e.at) w) w'.outs)
-      → IfErr r (Stops (value calls env (expr_of e) w) w'.outs)
-  value_stops r h = subst (λ g. IfErr r (Stops (value calls env (Node g e.kind e.at) w) w'.outs)) (sym is) h
-
-module _ (calls : Calls) (n : ℕ) (env : Env) (s : TypedStmt) (t : Stmt) (w w' : World) (is : stmt_of s ≡ t) where
-  pub exec_gives : (r : Result flow.Flow Stop) → IfOk r (λ v. exec calls n t env w ≡ Gives (flow_of v) w')
-      → IfOk r (λ v. exec calls n (stmt_of s) env w ≡ Gives (flow_of v) w')
-  exec_gives r h = subst (λ g. IfOk r (λ v. exec calls n g env w ≡ Gives (flow_of v) w')) (sym is) h
-
-  pub exec_stops : (r : Result flow.Flow Stop) → IfErr r (Stops (exec calls n t env w) w'.outs)
-      → IfErr r (Stops (exec calls n (stmt_of s) env w) w'.outs)
-  exec_stops r h = subst (λ g. IfErr r (Stops (exec calls n g env w) w'.outs)) (sym is) h
+pub exec_comes : (calls : Calls) (n : ℕ) (env : Env) (s : TypedStmt) (t : Stmt) (w : World) (behind : State) → stmt_of s ≡ t → (r : Result flow.Flow Stop) → ComesTo flow_of (exec calls n t env w) behind r
+    → ComesTo flow_of (exec calls n (stmt_of s) env w) behind r
+exec_comes calls n env s t w behind is r h = subst (λ g. ComesTo flow_of (exec calls n g env w) behind r) (sym is) h
 
 -- the place of an assignment and of a conversion says nothing
 pub assign_place : (calls : Calls) (env : Env) (l : Lvalue) (e : Expr) (kind : Kind) (at place : ℕ) (w : World) → eval_form calls env (tree.Assign l e) kind at w ≡ eval_form calls env (tree.Assign l e) kind place w
@@ -122,10 +108,6 @@ module _ (calls : Calls) (env : Env) (kind : Kind) (at : ℕ) (w : World) where
   other_value (form.Pick' p e k a q f l b r g m c) pick comma = absurd (pick (record { ptr = p.ptr; alloc = p.alloc; value = record { form = e; kind = k; at = a } }) (record { ptr = q.ptr; alloc = q.alloc; value = record { form = f; kind = l; at = b } }) (record { ptr = r.ptr; alloc = r.alloc; value = record { form = g; kind = m; at = c } }) refl)
   other_value (form.Comma' p e k a q f l b) pick comma = absurd (comma (record { ptr = p.ptr; alloc = p.alloc; value = record { form = e; kind = k; at = a } }) (record { ptr = q.ptr; alloc = q.alloc; value = record { form = f; kind = l; at = b } }) refl)
 
-  pub other_gives : (f : ExprForm) (w' : World) (r : Result code.Value Stop) → ((x y z : Box TypedExpr Global) → f ≡ form.Pick x y z → ⊥) → ((x y : Box TypedExpr Global) → f ≡ form.Comma x y → ⊥)
-      → IfOk r (λ v. needed calls env (Node (form_of f) kind at) w ≡ Gives (value_of v) w') → IfOk r (λ v. value calls env (Node (form_of f) kind at) w ≡ Gives (value_of v) w')
-  other_gives f w' r pick comma h = subst (λ x. IfOk r (λ v. x ≡ Gives (value_of v) w')) (other_value f pick comma) h
-
-  pub other_stops : (f : ExprForm) (outs : Outputs) (r : Result code.Value Stop) → ((x y z : Box TypedExpr Global) → f ≡ form.Pick x y z → ⊥) → ((x y : Box TypedExpr Global) → f ≡ form.Comma x y → ⊥)
-      → IfErr r (Stops (needed calls env (Node (form_of f) kind at) w) outs) → IfErr r (Stops (value calls env (Node (form_of f) kind at) w) outs)
-  other_stops f outs r pick comma h = subst (λ x. IfErr r (Stops x outs)) (other_value f pick comma) h
+  pub other_comes : (f : ExprForm) (behind : State) (r : Result code.Value Stop) → ((x y z : Box TypedExpr Global) → f ≡ form.Pick x y z → ⊥) → ((x y : Box TypedExpr Global) → f ≡ form.Comma x y → ⊥)
+      → ComesTo value_of (needed calls env (Node (form_of f) kind at) w) behind r → ComesTo value_of (value calls env (Node (form_of f) kind at) w) behind r
+  other_comes f behind r pick comma h = subst (λ x. ComesTo value_of x behind r) (other_value f pick comma) h

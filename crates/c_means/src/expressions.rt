@@ -1,14 +1,13 @@
 //! What expressions give, from left to right: ISO 9899:1990 6.3.
-ghost use Rattle.std.specs.Prelude.{◌≡◌, IfOk, IfErr, None, map, if◌then◌else◌};
+ghost use Rattle.std.specs.Prelude.{◌≡◌, None, map, if◌then◌else◌};
 ghost use Rattle.c_tree.specs.Eval as eval;
-ghost use Rattle.c_tree.specs.Store.{Gives};
 ghost use Rattle.c_tree.specs.Store as runs;
 ghost use Rattle.c_tree.specs.TypedTree as tree;
 ghost use Rattle.c_tree.specs.View.{argument_list, expr_of, lvalue_of};
 ghost use Rattle.c_means.specs.Frames.{calls_of, env_in};
 ghost use Rattle.c_means.specs.Expressions.{needed, tested};
 ghost use Rattle.c_state.specs.Values.{option_of, value_of};
-ghost use Rattle.c_state.specs.Worlds.{world_of, Stops};
+ghost use Rattle.c_state.specs.Worlds.{world_of, ComesTo};
 
 use crate::frame::Run;
 use crate::statements::body;
@@ -47,8 +46,7 @@ pub(crate) fn used(
     names: &Names,
     e: &TypedExpr,
 ) -> Result<Value, Stop>
-    ensures gives { IfOk result (λ v. eval.value (calls_of run.now) (env_in run.now names.now) (expr_of e.now) (world_of state.old) ≡ Gives (value_of v) (world_of state.new)) }
-    ensures stops { IfErr result (Stops (eval.value (calls_of run.now) (env_in run.now names.now) (expr_of e.now) (world_of state.old)) state.new.outs.items) }
+    ensures { ComesTo value_of (eval.value (calls_of run.now) (env_in run.now names.now) (expr_of e.now) (world_of state.old)) state.new result }
 {
     match &e.form {
         ExprForm::Pick { test, yes, no } => { picked_value(state, run, names, test, yes, no, e.at) }
@@ -68,8 +66,7 @@ fn picked_value(
     no: &TypedExpr,
     at: u32,
 ) -> Result<Value, Stop>
-    ensures gives { IfOk result (λ v. eval.value (calls_of run.now) (env_in run.now names.now) (tree.Node (tree.Pick (expr_of test.now) (expr_of yes.now) (expr_of no.now)) None at) (world_of state.old) ≡ Gives (value_of v) (world_of state.new)) }
-    ensures stops { IfErr result (Stops (eval.value (calls_of run.now) (env_in run.now names.now) (tree.Node (tree.Pick (expr_of test.now) (expr_of yes.now) (expr_of no.now)) None at) (world_of state.old)) state.new.outs.items) }
+    ensures { ComesTo value_of (eval.value (calls_of run.now) (env_in run.now names.now) (tree.Node (tree.Pick (expr_of test.now) (expr_of yes.now) (expr_of no.now)) None at) (world_of state.old)) state.new result }
 {
     if holds(state, run, names, test, at)? {
         used(state, run, names, yes)
@@ -87,8 +84,7 @@ fn value_behind(
     left: &TypedExpr,
     right: &TypedExpr,
 ) -> Result<Value, Stop>
-    ensures gives { IfOk result (λ v. eval.value (calls_of run.now) (env_in run.now names.now) (tree.Node (tree.Comma (expr_of left.now) (expr_of right.now)) None 0) (world_of state.old) ≡ Gives (value_of v) (world_of state.new)) }
-    ensures stops { IfErr result (Stops (eval.value (calls_of run.now) (env_in run.now names.now) (tree.Node (tree.Comma (expr_of left.now) (expr_of right.now)) None 0) (world_of state.old)) state.new.outs.items) }
+    ensures { ComesTo value_of (eval.value (calls_of run.now) (env_in run.now names.now) (tree.Node (tree.Comma (expr_of left.now) (expr_of right.now)) None 0) (world_of state.old)) state.new result }
 {
     eval(state, run, names, left)?;
     used(state, run, names, right)
@@ -97,8 +93,7 @@ fn value_behind(
 // The value of an expression that passes on no operand's.
 #[cycle(run)]
 fn needed(state: &mut State, run: &Run, names: &Names, e: &TypedExpr) -> Result<Value, Stop>
-    ensures gives { IfOk result (λ v. needed (calls_of run.now) (env_in run.now names.now) (expr_of e.now) (world_of state.old) ≡ Gives (value_of v) (world_of state.new)) }
-    ensures stops { IfErr result (Stops (needed (calls_of run.now) (env_in run.now names.now) (expr_of e.now) (world_of state.old)) state.new.outs.items) }
+    ensures { ComesTo value_of (needed (calls_of run.now) (env_in run.now names.now) (expr_of e.now) (world_of state.old)) state.new result }
 {
     match eval(state, run, names, e)? {
         Some(value) => Ok(value),
@@ -115,8 +110,7 @@ pub(crate) fn holds(
     e: &TypedExpr,
     at: u32,
 ) -> Result<bool, Stop>
-    ensures gives { IfOk result (λ v. tested (calls_of run.now) (env_in run.now names.now) (expr_of e.now) at (world_of state.old) ≡ Gives (v) (world_of state.new)) }
-    ensures stops { IfErr result (Stops (tested (calls_of run.now) (env_in run.now names.now) (expr_of e.now) at (world_of state.old)) state.new.outs.items) }
+    ensures { ComesTo (λ v. v) (tested (calls_of run.now) (env_in run.now names.now) (expr_of e.now) at (world_of state.old)) state.new result }
 {
     let value = used(state, run, names, e)?;
     state.test(value, at)
@@ -130,8 +124,7 @@ pub(crate) fn eval(
     names: &Names,
     e: &TypedExpr,
 ) -> Result<Option<Value>, Stop>
-    ensures gives { IfOk result (λ v. eval.eval (calls_of run.now) (env_in run.now names.now) (expr_of e.now) (world_of state.old) ≡ Gives (option_of v) (world_of state.new)) }
-    ensures stops { IfErr result (Stops (eval.eval (calls_of run.now) (env_in run.now names.now) (expr_of e.now) (world_of state.old)) state.new.outs.items) }
+    ensures { ComesTo option_of (eval.eval (calls_of run.now) (env_in run.now names.now) (expr_of e.now) (world_of state.old)) state.new result }
 {
     let at = e.at;
     let kind = e.kind;
@@ -170,8 +163,7 @@ fn loaded(
     kind: Option<ScalarType>,
     at: u32,
 ) -> Result<Option<Value>, Stop>
-    ensures gives { IfOk result (λ v. eval.eval_form (calls_of run.now) (env_in run.now names.now) (tree.Load (expr_of pointer.now)) kind at (world_of state.old) ≡ Gives (option_of v) (world_of state.new)) }
-    ensures stops { IfErr result (Stops (eval.eval_form (calls_of run.now) (env_in run.now names.now) (tree.Load (expr_of pointer.now)) kind at (world_of state.old)) state.new.outs.items) }
+    ensures { ComesTo option_of (eval.eval_form (calls_of run.now) (env_in run.now names.now) (tree.Load (expr_of pointer.now)) kind at (world_of state.old)) state.new result }
 {
     let pointer = used(state, run, names, pointer)?;
     let spot = state.spot_of(pointer, at)?;
@@ -189,8 +181,7 @@ fn unary(
     kind: Option<ScalarType>,
     at: u32,
 ) -> Result<Option<Value>, Stop>
-    ensures gives { IfOk result (λ v. eval.eval_form (calls_of run.now) (env_in run.now names.now) (tree.Unary op (expr_of value.now)) kind at (world_of state.old) ≡ Gives (option_of v) (world_of state.new)) }
-    ensures stops { IfErr result (Stops (eval.eval_form (calls_of run.now) (env_in run.now names.now) (tree.Unary op (expr_of value.now)) kind at (world_of state.old)) state.new.outs.items) }
+    ensures { ComesTo option_of (eval.eval_form (calls_of run.now) (env_in run.now names.now) (tree.Unary op (expr_of value.now)) kind at (world_of state.old)) state.new result }
 {
     let value = used(state, run, names, value)?;
     Ok(Some(state.of_one(op, kind, value, at)?))
@@ -207,8 +198,7 @@ fn binary(
     right: &TypedExpr,
     at: u32,
 ) -> Result<Option<Value>, Stop>
-    ensures gives { IfOk result (λ v. eval.eval_form (calls_of run.now) (env_in run.now names.now) (tree.Binary op (expr_of left.now) (expr_of right.now)) None at (world_of state.old) ≡ Gives (option_of v) (world_of state.new)) }
-    ensures stops { IfErr result (Stops (eval.eval_form (calls_of run.now) (env_in run.now names.now) (tree.Binary op (expr_of left.now) (expr_of right.now)) None at (world_of state.old)) state.new.outs.items) }
+    ensures { ComesTo option_of (eval.eval_form (calls_of run.now) (env_in run.now names.now) (tree.Binary op (expr_of left.now) (expr_of right.now)) None at (world_of state.old)) state.new result }
 {
     let a = Operand {
         kind: left.kind,
@@ -231,8 +221,7 @@ fn both(
     right: &TypedExpr,
     at: u32,
 ) -> Result<Option<Value>, Stop>
-    ensures gives { IfOk result (λ v. eval.eval_form (calls_of run.now) (env_in run.now names.now) (tree.And (expr_of left.now) (expr_of right.now)) None at (world_of state.old) ≡ Gives (option_of v) (world_of state.new)) }
-    ensures stops { IfErr result (Stops (eval.eval_form (calls_of run.now) (env_in run.now names.now) (tree.And (expr_of left.now) (expr_of right.now)) None at (world_of state.old)) state.new.outs.items) }
+    ensures { ComesTo option_of (eval.eval_form (calls_of run.now) (env_in run.now names.now) (tree.And (expr_of left.now) (expr_of right.now)) None at (world_of state.old)) state.new result }
 {
     if !holds(state, run, names, left, at)? {
         return Ok(Some(Value::Word(0)));
@@ -251,8 +240,7 @@ fn either(
     right: &TypedExpr,
     at: u32,
 ) -> Result<Option<Value>, Stop>
-    ensures gives { IfOk result (λ v. eval.eval_form (calls_of run.now) (env_in run.now names.now) (tree.Or (expr_of left.now) (expr_of right.now)) None at (world_of state.old) ≡ Gives (option_of v) (world_of state.new)) }
-    ensures stops { IfErr result (Stops (eval.eval_form (calls_of run.now) (env_in run.now names.now) (tree.Or (expr_of left.now) (expr_of right.now)) None at (world_of state.old)) state.new.outs.items) }
+    ensures { ComesTo option_of (eval.eval_form (calls_of run.now) (env_in run.now names.now) (tree.Or (expr_of left.now) (expr_of right.now)) None at (world_of state.old)) state.new result }
 {
     if holds(state, run, names, left, at)? {
         return Ok(Some(Value::Word(1)));
@@ -270,8 +258,7 @@ fn negation(
     value: &TypedExpr,
     at: u32,
 ) -> Result<Option<Value>, Stop>
-    ensures gives { IfOk result (λ v. eval.eval_form (calls_of run.now) (env_in run.now names.now) (tree.Not (expr_of value.now)) None at (world_of state.old) ≡ Gives (option_of v) (world_of state.new)) }
-    ensures stops { IfErr result (Stops (eval.eval_form (calls_of run.now) (env_in run.now names.now) (tree.Not (expr_of value.now)) None at (world_of state.old)) state.new.outs.items) }
+    ensures { ComesTo option_of (eval.eval_form (calls_of run.now) (env_in run.now names.now) (tree.Not (expr_of value.now)) None at (world_of state.old)) state.new result }
 {
     let holds = holds(state, run, names, value, at)?;
     Ok(Some(Value::Word(truth(!holds))))
@@ -288,8 +275,7 @@ fn picked(
     no: &TypedExpr,
     at: u32,
 ) -> Result<Option<Value>, Stop>
-    ensures gives { IfOk result (λ v. eval.eval_form (calls_of run.now) (env_in run.now names.now) (tree.Pick (expr_of test.now) (expr_of yes.now) (expr_of no.now)) None at (world_of state.old) ≡ Gives (option_of v) (world_of state.new)) }
-    ensures stops { IfErr result (Stops (eval.eval_form (calls_of run.now) (env_in run.now names.now) (tree.Pick (expr_of test.now) (expr_of yes.now) (expr_of no.now)) None at (world_of state.old)) state.new.outs.items) }
+    ensures { ComesTo option_of (eval.eval_form (calls_of run.now) (env_in run.now names.now) (tree.Pick (expr_of test.now) (expr_of yes.now) (expr_of no.now)) None at (world_of state.old)) state.new result }
 {
     if holds(state, run, names, test, at)? {
         eval(state, run, names, yes)
@@ -308,8 +294,7 @@ fn assign(
     value: &TypedExpr,
     kind: Option<ScalarType>,
 ) -> Result<Option<Value>, Stop>
-    ensures gives { IfOk result (λ v. eval.eval_form (calls_of run.now) (env_in run.now names.now) (tree.Assign (lvalue_of to.now.form to.now.at) (expr_of value.now)) kind 0 (world_of state.old) ≡ Gives (option_of v) (world_of state.new)) }
-    ensures stops { IfErr result (Stops (eval.eval_form (calls_of run.now) (env_in run.now names.now) (tree.Assign (lvalue_of to.now.form to.now.at) (expr_of value.now)) kind 0 (world_of state.old)) state.new.outs.items) }
+    ensures { ComesTo option_of (eval.eval_form (calls_of run.now) (env_in run.now names.now) (tree.Assign (lvalue_of to.now.form to.now.at) (expr_of value.now)) kind 0 (world_of state.old)) state.new result }
 {
     match &to.form {
         TargetForm::Named(reference) => assign_named(
@@ -330,8 +315,7 @@ fn assign_named(
     value: &TypedExpr,
     kind: Option<ScalarType>,
 ) -> Result<Option<Value>, Stop>
-    ensures gives { IfOk result (λ v. eval.eval_form (calls_of run.now) (env_in run.now names.now) (tree.Assign (tree.Named reference place) (expr_of value.now)) kind 0 (world_of state.old) ≡ Gives (option_of v) (world_of state.new)) }
-    ensures stops { IfErr result (Stops (eval.eval_form (calls_of run.now) (env_in run.now names.now) (tree.Assign (tree.Named reference place) (expr_of value.now)) kind 0 (world_of state.old)) state.new.outs.items) }
+    ensures { ComesTo option_of (eval.eval_form (calls_of run.now) (env_in run.now names.now) (tree.Assign (tree.Named reference place) (expr_of value.now)) kind 0 (world_of state.old)) state.new result }
 {
     let value = used(state, run, names, value)?;
     let spot = named(run, names, reference);
@@ -349,8 +333,7 @@ fn assign_through(
     value: &TypedExpr,
     kind: Option<ScalarType>,
 ) -> Result<Option<Value>, Stop>
-    ensures gives { IfOk result (λ v. eval.eval_form (calls_of run.now) (env_in run.now names.now) (tree.Assign (tree.At (expr_of pointer.now) place) (expr_of value.now)) kind 0 (world_of state.old) ≡ Gives (option_of v) (world_of state.new)) }
-    ensures stops { IfErr result (Stops (eval.eval_form (calls_of run.now) (env_in run.now names.now) (tree.Assign (tree.At (expr_of pointer.now) place) (expr_of value.now)) kind 0 (world_of state.old)) state.new.outs.items) }
+    ensures { ComesTo option_of (eval.eval_form (calls_of run.now) (env_in run.now names.now) (tree.Assign (tree.At (expr_of pointer.now) place) (expr_of value.now)) kind 0 (world_of state.old)) state.new result }
 {
     let pointer = used(state, run, names, pointer)?;
     let value = used(state, run, names, value)?;
@@ -370,8 +353,7 @@ fn assign_by(
     kind: Option<ScalarType>,
     at: u32,
 ) -> Result<Option<Value>, Stop>
-    ensures gives { IfOk result (λ v. eval.eval_form (calls_of run.now) (env_in run.now names.now) (tree.AssignOp op (lvalue_of to.now.form to.now.at) (expr_of value.now)) kind at (world_of state.old) ≡ Gives (option_of v) (world_of state.new)) }
-    ensures stops { IfErr result (Stops (eval.eval_form (calls_of run.now) (env_in run.now names.now) (tree.AssignOp op (lvalue_of to.now.form to.now.at) (expr_of value.now)) kind at (world_of state.old)) state.new.outs.items) }
+    ensures { ComesTo option_of (eval.eval_form (calls_of run.now) (env_in run.now names.now) (tree.AssignOp op (lvalue_of to.now.form to.now.at) (expr_of value.now)) kind at (world_of state.old)) state.new result }
 {
     let spot = spot(state, run, names, to)?;
     let old = Operand {
@@ -397,8 +379,7 @@ fn step_before(
     kind: Option<ScalarType>,
     at: u32,
 ) -> Result<Option<Value>, Stop>
-    ensures gives { IfOk result (λ v. eval.eval_form (calls_of run.now) (env_in run.now names.now) (tree.StepBefore up (lvalue_of to.now.form to.now.at)) kind at (world_of state.old) ≡ Gives (option_of v) (world_of state.new)) }
-    ensures stops { IfErr result (Stops (eval.eval_form (calls_of run.now) (env_in run.now names.now) (tree.StepBefore up (lvalue_of to.now.form to.now.at)) kind at (world_of state.old)) state.new.outs.items) }
+    ensures { ComesTo option_of (eval.eval_form (calls_of run.now) (env_in run.now names.now) (tree.StepBefore up (lvalue_of to.now.form to.now.at)) kind at (world_of state.old)) state.new result }
 {
     let spot = spot(state, run, names, to)?;
     let old = state.load(spot, kind, to.at)?;
@@ -417,8 +398,7 @@ fn step_after(
     kind: Option<ScalarType>,
     at: u32,
 ) -> Result<Option<Value>, Stop>
-    ensures gives { IfOk result (λ v. eval.eval_form (calls_of run.now) (env_in run.now names.now) (tree.StepAfter up (lvalue_of to.now.form to.now.at)) kind at (world_of state.old) ≡ Gives (option_of v) (world_of state.new)) }
-    ensures stops { IfErr result (Stops (eval.eval_form (calls_of run.now) (env_in run.now names.now) (tree.StepAfter up (lvalue_of to.now.form to.now.at)) kind at (world_of state.old)) state.new.outs.items) }
+    ensures { ComesTo option_of (eval.eval_form (calls_of run.now) (env_in run.now names.now) (tree.StepAfter up (lvalue_of to.now.form to.now.at)) kind at (world_of state.old)) state.new result }
 {
     let spot = spot(state, run, names, to)?;
     let old = state.load(spot, kind, to.at)?;
@@ -436,8 +416,7 @@ fn call(
     function: u16,
     args: &[TypedExpr],
 ) -> Result<Option<Value>, Stop>
-    ensures gives { IfOk result (λ v. eval.eval_form (calls_of run.now) (env_in run.now names.now) (tree.Call function (argument_list args.now)) None 0 (world_of state.old) ≡ Gives (option_of v) (world_of state.new)) }
-    ensures stops { IfErr result (Stops (eval.eval_form (calls_of run.now) (env_in run.now names.now) (tree.Call function (argument_list args.now)) None 0 (world_of state.old)) state.new.outs.items) }
+    ensures { ComesTo option_of (eval.eval_form (calls_of run.now) (env_in run.now names.now) (tree.Call function (argument_list args.now)) None 0 (world_of state.old)) state.new result }
 {
     let arguments = arguments(state, run, names, args)?;
     called(state, run, function, &arguments)
@@ -453,8 +432,7 @@ fn output(
     value: &TypedExpr,
     at: u32,
 ) -> Result<Option<Value>, Stop>
-    ensures gives { IfOk result (λ v. eval.eval_form (calls_of run.now) (env_in run.now names.now) (tree.Out port (expr_of value.now)) None at (world_of state.old) ≡ Gives (option_of v) (world_of state.new)) }
-    ensures stops { IfErr result (Stops (eval.eval_form (calls_of run.now) (env_in run.now names.now) (tree.Out port (expr_of value.now)) None at (world_of state.old)) state.new.outs.items) }
+    ensures { ComesTo option_of (eval.eval_form (calls_of run.now) (env_in run.now names.now) (tree.Out port (expr_of value.now)) None at (world_of state.old)) state.new result }
 {
     let value = used(state, run, names, value)?;
     state.emit(port, value, at)?;
@@ -470,8 +448,7 @@ fn behind(
     left: &TypedExpr,
     right: &TypedExpr,
 ) -> Result<Option<Value>, Stop>
-    ensures gives { IfOk result (λ v. eval.eval_form (calls_of run.now) (env_in run.now names.now) (tree.Comma (expr_of left.now) (expr_of right.now)) None 0 (world_of state.old) ≡ Gives (option_of v) (world_of state.new)) }
-    ensures stops { IfErr result (Stops (eval.eval_form (calls_of run.now) (env_in run.now names.now) (tree.Comma (expr_of left.now) (expr_of right.now)) None 0 (world_of state.old)) state.new.outs.items) }
+    ensures { ComesTo option_of (eval.eval_form (calls_of run.now) (env_in run.now names.now) (tree.Comma (expr_of left.now) (expr_of right.now)) None 0 (world_of state.old)) state.new result }
 {
     eval(state, run, names, left)?;
     eval(state, run, names, right)
@@ -486,8 +463,7 @@ fn converted(
     value: &TypedExpr,
     kind: Option<ScalarType>,
 ) -> Result<Option<Value>, Stop>
-    ensures gives { IfOk result (λ v. eval.eval_form (calls_of run.now) (env_in run.now names.now) (tree.Convert (expr_of value.now)) kind 0 (world_of state.old) ≡ Gives (option_of v) (world_of state.new)) }
-    ensures stops { IfErr result (Stops (eval.eval_form (calls_of run.now) (env_in run.now names.now) (tree.Convert (expr_of value.now)) kind 0 (world_of state.old)) state.new.outs.items) }
+    ensures { ComesTo option_of (eval.eval_form (calls_of run.now) (env_in run.now names.now) (tree.Convert (expr_of value.now)) kind 0 (world_of state.old)) state.new result }
 {
     if kind.is_none() {
         eval(state, run, names, value)?;
@@ -499,8 +475,7 @@ fn converted(
 // Where an lvalue lies.
 #[cycle(run)]
 fn spot(state: &mut State, run: &Run, names: &Names, to: &Target) -> Result<Spot, Stop>
-    ensures gives { IfOk result (λ v. eval.spot (calls_of run.now) (env_in run.now names.now) (lvalue_of to.now.form to.now.at) (world_of state.old) ≡ Gives (v.object.number, v.index) (world_of state.new)) }
-    ensures stops { IfErr result (Stops (eval.spot (calls_of run.now) (env_in run.now names.now) (lvalue_of to.now.form to.now.at) (world_of state.old)) state.new.outs.items) }
+    ensures { ComesTo (λ v. (v.object.number, v.index)) (eval.spot (calls_of run.now) (env_in run.now names.now) (lvalue_of to.now.form to.now.at) (world_of state.old)) state.new result }
 {
     match &to.form {
         TargetForm::Named(reference) => Ok(named(run, names, *reference)),
@@ -516,8 +491,7 @@ fn spot_through(
     pointer: &TypedExpr,
     place: u32,
 ) -> Result<Spot, Stop>
-    ensures gives { IfOk result (λ v. eval.spot (calls_of run.now) (env_in run.now names.now) (tree.At (expr_of pointer.now) place) (world_of state.old) ≡ Gives (v.object.number, v.index) (world_of state.new)) }
-    ensures stops { IfErr result (Stops (eval.spot (calls_of run.now) (env_in run.now names.now) (tree.At (expr_of pointer.now) place) (world_of state.old)) state.new.outs.items) }
+    ensures { ComesTo (λ v. (v.object.number, v.index)) (eval.spot (calls_of run.now) (env_in run.now names.now) (tree.At (expr_of pointer.now) place) (world_of state.old)) state.new result }
 {
     let pointer = used(state, run, names, pointer)?;
     state.spot_of(pointer, place)
@@ -531,8 +505,7 @@ fn arguments(
     names: &Names,
     list: &[TypedExpr],
 ) -> Result<Vec<Value>, Stop>
-    ensures gives { IfOk result (λ v. eval.values (calls_of run.now) (env_in run.now names.now) (argument_list list.now) (world_of state.old) ≡ Gives (map value_of v.items) (world_of state.new)) }
-    ensures stops { IfErr result (Stops (eval.values (calls_of run.now) (env_in run.now names.now) (argument_list list.now) (world_of state.old)) state.new.outs.items) }
+    ensures { ComesTo (λ v. (map value_of v.items)) (eval.values (calls_of run.now) (env_in run.now names.now) (argument_list list.now) (world_of state.old)) state.new result }
 {
     let mut values = Vec::new(run.alloc);
     for e in list {
@@ -550,8 +523,7 @@ fn called(
     function: u16,
     arguments: &[Value],
 ) -> Result<Option<Value>, Stop>
-    ensures gives { IfOk result (λ v. calls_of run.now function (map value_of arguments.now) (world_of state.old) ≡ Gives (option_of v) (world_of state.new)) }
-    ensures stops { IfErr result (Stops (calls_of run.now function (map value_of arguments.now) (world_of state.old)) state.new.outs.items) }
+    ensures { ComesTo option_of (calls_of run.now function (map value_of arguments.now) (world_of state.old)) state.new result }
 {
     let Some(depth) = run.depth.checked_sub(1) else {
         return Err(Stop::More);

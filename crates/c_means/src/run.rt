@@ -1,16 +1,15 @@
 //! The run of a program: ISO 9899:1990 5.1.2.1.
-ghost use Rattle.std.specs.Prelude.{◌≡◌, IfOk, IfErr, map, option_map};
+ghost use Rattle.std.specs.Prelude.{◌≡◌, IfOk, map, option_map};
 ghost use Rattle.std.specs.Str.{bytes_eq};
 ghost use Rattle.word_base.specs.Ports.{input_of};
 ghost use Rattle.c_tree.specs.ProgramView.{program_of};
 ghost use Rattle.c_tree.specs.View.{function_of, object_of};
-ghost use Rattle.c_tree.specs.Store.{Gives};
 ghost use Rattle.c_tree.specs.SourceRun as calls;
 ghost use Rattle.c_tree.specs.SourceRun.{source_run};
 ghost use Rattle.c_means.specs.Runs.{IsOutcome, main_run, statics_of};
 ghost use Rattle.c_state.specs.Stores.{store_of};
 ghost use Rattle.c_state.specs.Values.{option_of};
-ghost use Rattle.c_state.specs.Worlds.{world_of, Stops};
+ghost use Rattle.c_state.specs.Worlds.{world_of, ComesTo};
 
 use crate::frame::Run;
 use crate::statements::body;
@@ -65,8 +64,7 @@ fn run_main(
     turns: u32,
     state: &mut State,
 ) -> Result<Option<Value>, Stop>
-    ensures gives { IfOk result (λ v. main_run (program_of program.now) turns (world_of state.old) ≡ Gives (option_of v) (world_of state.new)) }
-    ensures stops { IfErr result (Stops (main_run (program_of program.now) turns (world_of state.old)) state.new.outs.items) }
+    ensures { ComesTo option_of (main_run (program_of program.now) turns (world_of state.old)) state.new result }
 {
     let functions = program.functions.as_slice();
     let Some(function) = main_of(functions) else {

@@ -1,16 +1,16 @@
 //! What statements do: ISO 9899:1990 6.6.
-ghost use Rattle.std.specs.Prelude.{◌≡◌, IfOk, IfErr, OnOk, map, Some, drop};
+ghost use Rattle.std.specs.Prelude.{◌≡◌, OnOk, map, Some, drop};
 ghost use Rattle.c_tree.specs.Eval as eval;
 ghost use Rattle.c_tree.specs.Exec as exec;
 ghost use Rattle.c_tree.specs.SourceRun as calls;
-ghost use Rattle.c_tree.specs.Store.{Gives, give};
+ghost use Rattle.c_tree.specs.Store.{give};
 ghost use Rattle.c_tree.specs.TypedTree as tree;
 ghost use Rattle.c_tree.specs.View.{choice_list, expr_of, function_of, option_expr_of, statement_list, stmt_of};
 ghost use Rattle.c_means.specs.Blocks.{flow_of, option_flow_of};
 ghost use Rattle.c_means.specs.Frames.{calls_of, env_in};
 ghost use Rattle.c_means.specs.Turns as turns;
 ghost use Rattle.c_state.specs.Values.{option_of, value_of};
-ghost use Rattle.c_state.specs.Worlds.{world_of, Stops};
+ghost use Rattle.c_state.specs.Worlds.{world_of, ComesTo};
 
 use crate::blocks::{Flow, enter, fill, leave, pass, restore};
 use crate::expressions::{eval, holds, used};
@@ -22,8 +22,7 @@ use c_tree::{Choice, TypedExpr, TypedStmt, VarRef};
 /// A call: the parameters live as long as the body runs. 6.3.2.2.
 #[cycle(run)]
 pub(crate) fn body(state: &mut State, run: &Run, arguments: &[Value]) -> Result<Option<Value>, Stop>
-    ensures gives { IfOk result (λ v. calls.call_function (calls_of run.now) run.now.turns (Some (function_of run.now.function.now)) (map value_of arguments.now) (world_of state.old) ≡ Gives (option_of v) (world_of state.new)) }
-    ensures stops { IfErr result (Stops (calls.call_function (calls_of run.now) run.now.turns (Some (function_of run.now.function.now)) (map value_of arguments.now) (world_of state.old)) state.new.outs.items) }
+    ensures { ComesTo option_of (calls.call_function (calls_of run.now) run.now.turns (Some (function_of run.now.function.now)) (map value_of arguments.now) (world_of state.old)) state.new result }
 {
     let f = run.function;
     let mut names = Names::new(run.alloc);
@@ -36,8 +35,7 @@ pub(crate) fn body(state: &mut State, run: &Run, arguments: &[Value]) -> Result<
 
 #[cycle(run)]
 fn statement(state: &mut State, run: &Run, names: &mut Names, s: &TypedStmt) -> Result<Flow, Stop>
-    ensures gives { IfOk result (λ v. exec.exec (calls_of run.now) run.now.turns (stmt_of s.now) (env_in run.now names.old) (world_of state.old) ≡ Gives (flow_of v) (world_of state.new)) }
-    ensures stops { IfErr result (Stops (exec.exec (calls_of run.now) run.now.turns (stmt_of s.now) (env_in run.now names.old) (world_of state.old)) state.new.outs.items) }
+    ensures comes { ComesTo flow_of (exec.exec (calls_of run.now) run.now.turns (stmt_of s.now) (env_in run.now names.old) (world_of state.old)) state.new result }
     ensures names { OnOk result (env_in run.now names.new ≡ env_in run.now names.old) }
 {
     match s {
@@ -78,8 +76,7 @@ fn statement(state: &mut State, run: &Run, names: &mut Names, s: &TypedStmt) -> 
 // The test of a statement, at the place of its expression.
 #[cycle(run)]
 fn condition(state: &mut State, run: &Run, names: &Names, e: &TypedExpr) -> Result<bool, Stop>
-    ensures gives { IfOk result (λ v. eval.condition (calls_of run.now) (env_in run.now names.now) (expr_of e.now) (world_of state.old) ≡ Gives (v) (world_of state.new)) }
-    ensures stops { IfErr result (Stops (eval.condition (calls_of run.now) (env_in run.now names.now) (expr_of e.now) (world_of state.old)) state.new.outs.items) }
+    ensures { ComesTo (λ v. v) (eval.condition (calls_of run.now) (env_in run.now names.now) (expr_of e.now) (world_of state.old)) state.new result }
 {
     holds(state, run, names, e, e.at)
 }
@@ -93,8 +90,7 @@ fn block(
     declared: &[VarRef],
     body: &[TypedStmt],
 ) -> Result<Flow, Stop>
-    ensures gives { IfOk result (λ v. exec.exec (calls_of run.now) run.now.turns (tree.Block declared.now (statement_list body.now)) (env_in run.now names.old) (world_of state.old) ≡ Gives (flow_of v) (world_of state.new)) }
-    ensures stops { IfErr result (Stops (exec.exec (calls_of run.now) run.now.turns (tree.Block declared.now (statement_list body.now)) (env_in run.now names.old) (world_of state.old)) state.new.outs.items) }
+    ensures comes { ComesTo flow_of (exec.exec (calls_of run.now) run.now.turns (tree.Block declared.now (statement_list body.now)) (env_in run.now names.old) (world_of state.old)) state.new result }
     ensures names { OnOk result (env_in run.now names.new ≡ env_in run.now names.old) }
 {
     let opened = enter(state, run, names, declared)?;
@@ -112,8 +108,7 @@ fn statements(
     names: &mut Names,
     list: &[TypedStmt],
 ) -> Result<Flow, Stop>
-    ensures gives { IfOk result (λ v. exec.exec_all (calls_of run.now) run.now.turns (statement_list list.now) (env_in run.now names.old) (world_of state.old) ≡ Gives (flow_of v) (world_of state.new)) }
-    ensures stops { IfErr result (Stops (exec.exec_all (calls_of run.now) run.now.turns (statement_list list.now) (env_in run.now names.old) (world_of state.old)) state.new.outs.items) }
+    ensures comes { ComesTo flow_of (exec.exec_all (calls_of run.now) run.now.turns (statement_list list.now) (env_in run.now names.old) (world_of state.old)) state.new result }
     ensures names { OnOk result (env_in run.now names.new ≡ env_in run.now names.old) }
 {
     for s in list {
@@ -134,8 +129,7 @@ fn while_loop(
     test: &TypedExpr,
     body: &TypedStmt,
 ) -> Result<Flow, Stop>
-    ensures gives { IfOk result (λ v. exec.exec (calls_of run.now) run.now.turns (tree.While (expr_of test.now) (stmt_of body.now)) (env_in run.now names.old) (world_of state.old) ≡ Gives (flow_of v) (world_of state.new)) }
-    ensures stops { IfErr result (Stops (exec.exec (calls_of run.now) run.now.turns (tree.While (expr_of test.now) (stmt_of body.now)) (env_in run.now names.old) (world_of state.old)) state.new.outs.items) }
+    ensures comes { ComesTo flow_of (exec.exec (calls_of run.now) run.now.turns (tree.While (expr_of test.now) (stmt_of body.now)) (env_in run.now names.old) (world_of state.old)) state.new result }
     ensures names { OnOk result (env_in run.now names.new ≡ env_in run.now names.old) }
 {
     for _ in 0..run.turns {
@@ -157,8 +151,7 @@ fn while_turn(
     test: &TypedExpr,
     body: &TypedStmt,
 ) -> Result<Option<Flow>, Stop>
-    ensures gives { IfOk result (λ v. turns.turn (eval.condition (calls_of run.now) (env_in run.now names.old) (expr_of test.now)) (exec.exec (calls_of run.now) run.now.turns (stmt_of body.now) (env_in run.now names.old)) (give (tt {0})) (world_of state.old) ≡ Gives (option_flow_of v) (world_of state.new)) }
-    ensures stops { IfErr result (Stops (turns.turn (eval.condition (calls_of run.now) (env_in run.now names.old) (expr_of test.now)) (exec.exec (calls_of run.now) run.now.turns (stmt_of body.now) (env_in run.now names.old)) (give (tt {0})) (world_of state.old)) state.new.outs.items) }
+    ensures comes { ComesTo option_flow_of (turns.turn (eval.condition (calls_of run.now) (env_in run.now names.old) (expr_of test.now)) (exec.exec (calls_of run.now) run.now.turns (stmt_of body.now) (env_in run.now names.old)) (give (tt {0})) (world_of state.old)) state.new result }
     ensures names { OnOk result (env_in run.now names.new ≡ env_in run.now names.old) }
 {
     if !condition(state, run, names, test)? {
@@ -177,8 +170,7 @@ fn do_loop(
     body: &TypedStmt,
     test: &TypedExpr,
 ) -> Result<Flow, Stop>
-    ensures gives { IfOk result (λ v. exec.exec (calls_of run.now) run.now.turns (tree.Do_while (stmt_of body.now) (expr_of test.now)) (env_in run.now names.old) (world_of state.old) ≡ Gives (flow_of v) (world_of state.new)) }
-    ensures stops { IfErr result (Stops (exec.exec (calls_of run.now) run.now.turns (tree.Do_while (stmt_of body.now) (expr_of test.now)) (env_in run.now names.old) (world_of state.old)) state.new.outs.items) }
+    ensures comes { ComesTo flow_of (exec.exec (calls_of run.now) run.now.turns (tree.Do_while (stmt_of body.now) (expr_of test.now)) (env_in run.now names.old) (world_of state.old)) state.new result }
     ensures names { OnOk result (env_in run.now names.new ≡ env_in run.now names.old) }
 {
     for _ in 0..run.turns {
@@ -197,8 +189,7 @@ fn do_turn(
     body: &TypedStmt,
     test: &TypedExpr,
 ) -> Result<Option<Flow>, Stop>
-    ensures gives { IfOk result (λ v. turns.turn_first (exec.exec (calls_of run.now) run.now.turns (stmt_of body.now) (env_in run.now names.old)) (eval.condition (calls_of run.now) (env_in run.now names.old) (expr_of test.now)) (world_of state.old) ≡ Gives (option_flow_of v) (world_of state.new)) }
-    ensures stops { IfErr result (Stops (turns.turn_first (exec.exec (calls_of run.now) run.now.turns (stmt_of body.now) (env_in run.now names.old)) (eval.condition (calls_of run.now) (env_in run.now names.old) (expr_of test.now)) (world_of state.old)) state.new.outs.items) }
+    ensures comes { ComesTo option_flow_of (turns.turn_first (exec.exec (calls_of run.now) run.now.turns (stmt_of body.now) (env_in run.now names.old)) (eval.condition (calls_of run.now) (env_in run.now names.old) (expr_of test.now)) (world_of state.old)) state.new result }
     ensures names { OnOk result (env_in run.now names.new ≡ env_in run.now names.old) }
 {
     let flow = statement(state, run, names, body)?;
@@ -222,8 +213,7 @@ fn for_loop(
     third: &Option<TypedExpr>,
     body: &TypedStmt,
 ) -> Result<Flow, Stop>
-    ensures gives { IfOk result (λ v. exec.exec (calls_of run.now) run.now.turns (tree.For (option_expr_of first.now) (option_expr_of test.now) (option_expr_of third.now) (stmt_of body.now)) (env_in run.now names.old) (world_of state.old) ≡ Gives (flow_of v) (world_of state.new)) }
-    ensures stops { IfErr result (Stops (exec.exec (calls_of run.now) run.now.turns (tree.For (option_expr_of first.now) (option_expr_of test.now) (option_expr_of third.now) (stmt_of body.now)) (env_in run.now names.old) (world_of state.old)) state.new.outs.items) }
+    ensures comes { ComesTo flow_of (exec.exec (calls_of run.now) run.now.turns (tree.For (option_expr_of first.now) (option_expr_of test.now) (option_expr_of third.now) (stmt_of body.now)) (env_in run.now names.old) (world_of state.old)) state.new result }
     ensures names { OnOk result (env_in run.now names.new ≡ env_in run.now names.old) }
 {
     part(state, run, names, first)?;
@@ -233,8 +223,7 @@ fn for_loop(
 // The first or third part of a for, where there is one.
 #[cycle(run)]
 fn part(state: &mut State, run: &Run, names: &Names, e: &Option<TypedExpr>) -> Result<(), Stop>
-    ensures gives { IfOk result (λ v. exec.third_of (calls_of run.now) (env_in run.now names.now) (option_expr_of e.now) (world_of state.old) ≡ Gives (tt {0}) (world_of state.new)) }
-    ensures stops { IfErr result (Stops (exec.third_of (calls_of run.now) (env_in run.now names.now) (option_expr_of e.now) (world_of state.old)) state.new.outs.items) }
+    ensures { ComesTo (λ v. (tt {0})) (exec.third_of (calls_of run.now) (env_in run.now names.now) (option_expr_of e.now) (world_of state.old)) state.new result }
 {
     if let Some(e) = e {
         eval(state, run, names, e)?;
@@ -250,8 +239,7 @@ fn goes_on(
     names: &Names,
     test: &Option<TypedExpr>,
 ) -> Result<bool, Stop>
-    ensures gives { IfOk result (λ v. exec.test_or_true (calls_of run.now) (env_in run.now names.now) (option_expr_of test.now) (world_of state.old) ≡ Gives (v) (world_of state.new)) }
-    ensures stops { IfErr result (Stops (exec.test_or_true (calls_of run.now) (env_in run.now names.now) (option_expr_of test.now) (world_of state.old)) state.new.outs.items) }
+    ensures { ComesTo (λ v. v) (exec.test_or_true (calls_of run.now) (env_in run.now names.now) (option_expr_of test.now) (world_of state.old)) state.new result }
 {
     match test {
         Some(test) => condition(state, run, names, test),
@@ -268,8 +256,7 @@ fn for_turns(
     third: &Option<TypedExpr>,
     body: &TypedStmt,
 ) -> Result<Flow, Stop>
-    ensures gives { IfOk result (λ v. exec.turns run.now.turns (exec.test_or_true (calls_of run.now) (env_in run.now names.old) (option_expr_of test.now)) (exec.exec (calls_of run.now) run.now.turns (stmt_of body.now) (env_in run.now names.old)) (exec.third_of (calls_of run.now) (env_in run.now names.old) (option_expr_of third.now)) (world_of state.old) ≡ Gives (flow_of v) (world_of state.new)) }
-    ensures stops { IfErr result (Stops (exec.turns run.now.turns (exec.test_or_true (calls_of run.now) (env_in run.now names.old) (option_expr_of test.now)) (exec.exec (calls_of run.now) run.now.turns (stmt_of body.now) (env_in run.now names.old)) (exec.third_of (calls_of run.now) (env_in run.now names.old) (option_expr_of third.now)) (world_of state.old)) state.new.outs.items) }
+    ensures comes { ComesTo flow_of (exec.turns run.now.turns (exec.test_or_true (calls_of run.now) (env_in run.now names.old) (option_expr_of test.now)) (exec.exec (calls_of run.now) run.now.turns (stmt_of body.now) (env_in run.now names.old)) (exec.third_of (calls_of run.now) (env_in run.now names.old) (option_expr_of third.now)) (world_of state.old)) state.new result }
     ensures names { OnOk result (env_in run.now names.new ≡ env_in run.now names.old) }
 {
     for _ in 0..run.turns {
@@ -293,8 +280,7 @@ fn for_turn(
     third: &Option<TypedExpr>,
     body: &TypedStmt,
 ) -> Result<Option<Flow>, Stop>
-    ensures gives { IfOk result (λ v. turns.turn (exec.test_or_true (calls_of run.now) (env_in run.now names.old) (option_expr_of test.now)) (exec.exec (calls_of run.now) run.now.turns (stmt_of body.now) (env_in run.now names.old)) (exec.third_of (calls_of run.now) (env_in run.now names.old) (option_expr_of third.now)) (world_of state.old) ≡ Gives (option_flow_of v) (world_of state.new)) }
-    ensures stops { IfErr result (Stops (turns.turn (exec.test_or_true (calls_of run.now) (env_in run.now names.old) (option_expr_of test.now)) (exec.exec (calls_of run.now) run.now.turns (stmt_of body.now) (env_in run.now names.old)) (exec.third_of (calls_of run.now) (env_in run.now names.old) (option_expr_of third.now)) (world_of state.old)) state.new.outs.items) }
+    ensures comes { ComesTo option_flow_of (turns.turn (exec.test_or_true (calls_of run.now) (env_in run.now names.old) (option_expr_of test.now)) (exec.exec (calls_of run.now) run.now.turns (stmt_of body.now) (env_in run.now names.old)) (exec.third_of (calls_of run.now) (env_in run.now names.old) (option_expr_of third.now)) (world_of state.old)) state.new result }
     ensures names { OnOk result (env_in run.now names.new ≡ env_in run.now names.old) }
 {
     if !goes_on(state, run, names, test)? {
@@ -317,8 +303,7 @@ fn switch(
     value: &TypedExpr,
     list: &[Choice],
 ) -> Result<Flow, Stop>
-    ensures gives { IfOk result (λ v. exec.exec (calls_of run.now) run.now.turns (tree.Switch (expr_of value.now) (choice_list list.now)) (env_in run.now names.old) (world_of state.old) ≡ Gives (flow_of v) (world_of state.new)) }
-    ensures stops { IfErr result (Stops (exec.exec (calls_of run.now) run.now.turns (tree.Switch (expr_of value.now) (choice_list list.now)) (env_in run.now names.old) (world_of state.old)) state.new.outs.items) }
+    ensures comes { ComesTo flow_of (exec.exec (calls_of run.now) run.now.turns (tree.Switch (expr_of value.now) (choice_list list.now)) (env_in run.now names.old) (world_of state.old)) state.new result }
     ensures names { OnOk result (env_in run.now names.new ≡ env_in run.now names.old) }
 {
     let value = used(state, run, names, value)?;
@@ -336,8 +321,7 @@ fn choices(
     list: &[Choice],
     start: usize,
 ) -> Result<Flow, Stop>
-    ensures gives { IfOk result (λ v. exec.run_choices (calls_of run.now) run.now.turns (choice_list (drop start list.now)) (env_in run.now names.old) (world_of state.old) ≡ Gives (flow_of v) (world_of state.new)) }
-    ensures stops { IfErr result (Stops (exec.run_choices (calls_of run.now) run.now.turns (choice_list (drop start list.now)) (env_in run.now names.old) (world_of state.old)) state.new.outs.items) }
+    ensures comes { ComesTo flow_of (exec.run_choices (calls_of run.now) run.now.turns (choice_list (drop start list.now)) (env_in run.now names.old) (world_of state.old)) state.new result }
     ensures names { OnOk result (env_in run.now names.new ≡ env_in run.now names.old) }
 {
     for n in start..list.len() {
