@@ -1,16 +1,15 @@
 -- Steps, and runs of them.
-use Rattle.std.proofs.Common.{◌≡◌, ◌≢◌, ◌<◌, ◌+◌, ◌-◌, ℕ, zero, suc, Bool, true, false, List, [], ◌∷◌, ◌++◌, length, Option, None, Some, refl, sym, ap, ◌∙◌, arith, IsTrue, cond}
+use Rattle.std.proofs.Common.{◌≡◌, ◌≢◌, ◌<◌, ◌+◌, ◌-◌, ℕ, zero, suc, Bool, true, false, length, Option, None, refl, sym, ap, ◌∙◌, arith}
 use Rattle.std.specs.Prelude.{◌==◌, ◌&&◌}
 use Rattle.std.proofs.lemmas.Bool.{eq-eqb, false≢true}
 use Rattle.word_base.specs.Ports.{Outputs}
-use Rattle.word_base.specs.declared.outcome.Ending.{Ending}
 use Rattle.c25_isa.specs.declared.trap.TrapKind.{TrapKind}
 use Rattle.c25_isa.specs.declared.instruction.Instr.{Instr}
 use Rattle.c25_isa.specs.declared.event as types
 use Rattle.c25_isa.specs.declared.event.Event.TheVariants as code
 use Rattle.c25_isa.specs.State.{State}
-use Rattle.c25_isa.specs.Step.{Event, Ran, Put, Over, Trapped, step, trap_of, trap_where, pushes}
-use Rattle.c25_isa.specs.MachineRun.{Reached, Ended, Stopped, go_on, run_from}
+use Rattle.c25_isa.specs.Step.{Event, step, trap_of, trap_where, pushes}
+use Rattle.c25_isa.specs.MachineRun.{Reached, go_on, run_from}
 use Rattle.c25_sim.specs.Answers.{event_of, behind, state_after}
 
 -- two changes behind one event

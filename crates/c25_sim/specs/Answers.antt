@@ -1,5 +1,5 @@
 -- What the simulator's answers say of the machine: its steps and runs as docs/MACHINE.md has them.
-use Rattle.std.specs.Prelude.{ℕ, zero, suc, Bool, true, false}
+use Rattle.std.specs.Prelude.{ℕ, zero, suc}
 use Rattle.word_base.specs.Ports.{Outputs}
 use Rattle.c25_isa.specs.declared.event as types
 use Rattle.c25_isa.specs.declared.event.Event.TheVariants as code

@@ -1,5 +1,5 @@
 //! What instructions compute.
-ghost use Rattle.std.specs.Prelude.{◌≡◌, ◌<◌, ◌*◌, ◌^◌, ◌≤ℤ◌, pos, negsuc};
+ghost use Rattle.std.specs.Prelude.{◌≡◌, ◌<◌, ◌*◌, ◌^◌};
 ghost use Rattle.c25_isa.specs.Step as spec;
 
 use c25_isa::Change;
@@ -45,13 +45,11 @@ pub fn low_32(value: i64) -> u32
     value.rem_euclid(0x1_0000_0000) as u32
 }
 
-/// A signed word times a signed number of 16 bits.
+/// A signed word times a number.
 pub fn product(word: u16, factor: i32) -> u32
-    requires low { negsuc 32767 ≤ℤ factor }
-    requires high { factor ≤ℤ pos 32767 }
     ensures { result ≡ spec.product word factor }
 {
-    low_32(i64::from(signed(word) * factor))
+    low_32(i64::from(signed(word)) * i64::from(factor))
 }
 
 /// One step of a division of a number by a word.

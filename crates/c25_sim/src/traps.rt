@@ -1,5 +1,5 @@
 //! When a word can't be run.
-ghost use Rattle.std.specs.Prelude.{◌≡◌, IfSome};
+ghost use Rattle.std.specs.Prelude.{◌≡◌, ◌==◌, ◌&&◌, ◌||◌, not, length, IfSome};
 ghost use Rattle.c25_isa.specs.Table.{IsInstr, IsOperand};
 ghost use Rattle.c25_isa.specs.Step as spec;
 
@@ -17,19 +17,19 @@ impl Machine {
         requires { IsInstr instr.now }
         ensures { result ≡ spec.trap_of (state_of self.now) instr.now }
     {
-        if pushes(instr) && self.stack.is_full() {
+        if self.overflows(instr) {
             return Some(TrapKind::StackFull);
         }
-        if pops(instr) && self.stack.is_empty() {
+        if self.underflows(instr) {
             return Some(TrapKind::StackEmpty);
         }
-        if sums(instr) && self.ovm || takes_product(instr) && self.pm != 0 {
+        if self.meets_mode(instr) {
             return Some(TrapKind::Mode);
         }
         if self.divides_badly(instr) {
             return Some(TrapKind::Divide);
         }
-        if self.repeats.is_some() && !can_repeat(instr) {
+        if self.repeats_badly(instr) {
             return Some(TrapKind::Repeat);
         }
         if self.changes_its_own(instr) {
@@ -39,6 +39,31 @@ impl Machine {
             return Some(TrapKind::NoRam);
         }
         None
+    }
+
+    fn overflows(&self, instr: &Instr) -> bool
+        ensures { result ≡ (spec.pushes instr.now && (length (state_of self.now).stack == 8)) }
+    {
+        pushes(instr) && self.stack.is_full()
+    }
+
+    fn underflows(&self, instr: &Instr) -> bool
+        ensures { result ≡ (spec.pops instr.now && (length (state_of self.now).stack == 0)) }
+    {
+        pops(instr) && self.stack.is_empty()
+    }
+
+    // Whether a sum meets OVM, or a product a shift.
+    fn meets_mode(&self, instr: &Instr) -> bool
+        ensures { result ≡ ((spec.sums instr.now && (state_of self.now).ovm) || (spec.takes_product instr.now && not ((state_of self.now).pm == 0))) }
+    {
+        sums(instr) && self.ovm || takes_product(instr) && self.pm != 0
+    }
+
+    fn repeats_badly(&self, instr: &Instr) -> bool
+        ensures { result ≡ spec.repeats_badly (state_of self.now).repeats (spec.can_repeat instr.now) }
+    {
+        self.repeats.is_some() && !can_repeat(instr)
     }
 
     fn divides_badly(&self, instr: &Instr) -> bool

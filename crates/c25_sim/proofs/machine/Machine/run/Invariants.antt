@@ -1,4 +1,4 @@
-use Rattle.std.proofs.Common.{◌≡◌, ◌-◌, ◌≤◌, []}
+use Rattle.std.proofs.Common.{◌≡◌, ◌-◌, []}
 use Rattle.c25_isa.specs.MachineRun.{run_from}
 use Rattle.c25_sim.specs.Answers.{state_after}
 use Rattle.c25_sim.specs.MachineView.{state_of}
