@@ -1,12 +1,12 @@
 -- The items of blocks: functions and objects.
-use Rattle.std.proofs.Common.{◌≡◌, ℕ, false, is_some, List, length, Option, Some, None, refl, ap, subst, sym, ◌∙◌}
+use Rattle.std.proofs.Common.{◌≡◌, ℕ, ◌+◌, ◌<◌, ◌≤◌, false, is_some, List, [], ◌∷◌, ◌++◌, map, drop, get_or, length, Option, Some, None, refl, ap, subst, sym, ◌∙◌}
 use Rattle.c_tree.specs.declared.program.Base.{Base}
 use Rattle.c_tree.specs.declared.program.VarRef.{VarRef}
 use Rattle.c_tree.specs.declared.program.VarRef.TheVariants as refs
 use Rattle.c_syntax.specs.declared.decl.Init.{Init}
 use Rattle.c_syntax.specs.declared.decl.Init.TheVariants as init
 use Rattle.c_syntax.specs.declared.decl.Item.{Item}
-use Rattle.c_syntax.specs.SyntaxView.{item_form_of, initial_of, item_of}
+use Rattle.c_syntax.specs.SyntaxView.{declaration_of, item_form_of, initial_of, item_of, specs_of}
 use Rattle.c_rules.specs.declared.meaning.Declared.{Declared}
 use Rattle.c_rules.specs.declared.meaning.Declared.TheVariants as declares
 use Rattle.c_rules.specs.declared.fault.Rule.TheVariants.{Mismatch, Misplaced}
@@ -14,10 +14,19 @@ use Rattle.c_rules.specs.declared.fault.Refusal.{Refusal}
 use Rattle.c_rules.specs.declared.meaning.FunctionType.{FunctionType}
 use Rattle.c_rules.specs.declared.meaning.ObjectType.{ObjectType}
 use Rattle.c_rules.specs.Answers.{Refuses}
-use Rattle.c_rules.specs.Outcome.{Outcome, Is, Broken, breaks}
+use Rattle.c_rules.specs.Outcome.{Outcome, Is, Broken, ◌>>=◌, breaks}
 use Rattle.c_rules.specs.Scopes.{Scope, is_taken}
 use Rattle.c_rules.specs.Declarations.{declarator}
-use Rattle.c_rules.specs.Statements.{Opened, Initialiser, initialiser, is_array, with_named_object, declared_as, block_item}
+use Rattle.std.proofs.lemmas.List.{map-append}
+use Rattle.std.proofs.Math.ListN.{drop_of_length-le}
+use Rattle.c_rules.proofs.Turns.{first_left}
+use Rattle.c_syntax.specs.declared.decl.Decl.{Decl}
+use Rattle.c_rules.specs.declared.fault.Refusal.TheVariants as refusals
+use Rattle.c_rules.specs.Typing.{plain}
+use Rattle.c_syntax.specs.SyntaxTree.{ItemTree}
+use Rattle.c_rules.specs.declared.local.Local.{Local}
+use Rattle.c_rules.specs.LocalView.{local_tree_of}
+use Rattle.c_rules.specs.Statements.{Opened, Initialiser, ObjectStart, initialiser, is_array, with_named_object, declared_as, block_item, block_items, declarations, placed, started}
 
 initial_given : (i : Option Init) → is_some (initial_of i) ≡ is_some i
 initial_given None = refl
@@ -49,3 +58,57 @@ object_same o b item s t n name d type i declared object same seen typed named u
     let declared_here : declarator o.scope b (item_form_of item.kind) item.stars (initial_of item.init) ≡ Is (declares.Object type) = declared ∙ ap Is object in
     let whole : declared_as o within r (declares.Object type) (item_of item) i ≡ block_item o b (item_of item) = rw (declared_here, typed_here, untaken_here) in
     (λ j. declared_as o (here j) (refs.Local (count j)) (declares.Object type) (item_of item) i) ∙ whole
+
+-- the objects of a function, with one more
+pub one_more : (ls : List Local) (l : Local) → map local_tree_of (ls ++ l ∷ []) ≡ map local_tree_of ls ++ local_tree_of l ∷ []
+one_more ls l = map-append local_tree_of ls (l ∷ [])
+
+-- an object that is declared, with its start
+pub object_placed : (o p : Opened) (s : Scope) (r : VarRef) (type : ObjectType) (item : ItemTree) (i : Initialiser) (start : ObjectStart)
+    → started r type item.at i ≡ Is start → p ≡ placed o s item.name r type start → declared_as o s r (declares.Object type) item i ≡ Is p
+object_placed o p s r type item i start begun same = ap (λ x. x >>= λ start. Is (placed o s item.name r type start)) begun ∙ ap Is (sym same)
+
+-- a turn over the items of a declaration
+module _ (o : Opened) (b : Base) (whole : Outcome Opened) (list : List Item) (i : ℕ) (item : Item) (is : item ≡ get_or list i item) (within : i < length list) (so_far : whole ≡ block_items o b (map item_of (drop i list))) where
+  pub item_typed : (p : Opened) → block_item o b (item_of item) ≡ Is p → whole ≡ block_items p b (map item_of (drop (i + 1) list))
+  item_typed p h =
+      so_far
+      ∙ ap (λ l. block_items o b (map item_of l)) (first_left list i item is within)
+      ∙ ap (λ x. x >>= λ p. block_items p b (map item_of (drop (i + 1) list))) h
+
+  pub item_refused : (f : Refusal) → Refuses (block_item o b (item_of item)) f → Refuses whole f
+  item_refused refusals.NoMemory h = tt {0}
+  item_refused (refusals.Broken rule at) h =
+      so_far
+      ∙ ap (λ l. block_items o b (map item_of l)) (first_left list i item is within)
+      ∙ ap (λ x. x >>= λ p. block_items p b (map item_of (drop (i + 1) list))) h
+
+pub items_ended : (o : Opened) (b : Base) (list : List Item) (i : ℕ) → length list ≤ i → block_items o b (map item_of (drop i list)) ≡ Is o
+items_ended o b list i above = ap (λ l. block_items o b (map item_of l)) (drop_of_length-le list above)
+
+-- a turn over the declarations of a block
+module _ (o : Opened) (whole : Outcome Opened) (list : List Decl) (i : ℕ) (d : Decl) (is : d ≡ get_or list i d) (within : i < length list) (so_far : whole ≡ declarations o (map declaration_of (drop i list))) where
+  abbrev after : Outcome Base → List Item → Outcome Opened
+  after base items = base >>= λ b. block_items o b (map item_of items) >>= λ p. declarations p (map declaration_of (drop (i + 1) list))
+
+  here : whole ≡ after (plain (specs_of d.specs)) d.items
+  here = so_far ∙ ap (λ l. declarations o (map declaration_of l)) (first_left list i d is within)
+
+  pub specs_refused : (f : Refusal) → Refuses (plain (specs_of d.specs)) f → Refuses whole f
+  specs_refused refusals.NoMemory h = tt {0}
+  specs_refused (refusals.Broken rule at) h = here ∙ ap (λ x. after x d.items) h
+
+  module _ (b : Base) (items : List Item) (spelled : plain (specs_of d.specs) ≡ Is b) (same : items ≡ d.items) where
+    pub declaration_typed : (p : Opened) → block_items o b (map item_of items) ≡ Is p → whole ≡ declarations p (map declaration_of (drop (i + 1) list))
+    declaration_typed p h =
+        here ∙ ap (λ x. after x d.items) spelled ∙ ap (after (Is b)) (sym same)
+        ∙ ap (λ x. x >>= λ p. declarations p (map declaration_of (drop (i + 1) list))) h
+
+    pub declaration_refused : (f : Refusal) → Refuses (block_items o b (map item_of items)) f → Refuses whole f
+    declaration_refused refusals.NoMemory h = tt {0}
+    declaration_refused (refusals.Broken rule at) h =
+        here ∙ ap (λ x. after x d.items) spelled ∙ ap (after (Is b)) (sym same)
+        ∙ ap (λ x. x >>= λ p. declarations p (map declaration_of (drop (i + 1) list))) h
+
+pub declarations_ended : (o : Opened) (list : List Decl) (i : ℕ) → length list ≤ i → declarations o (map declaration_of (drop i list)) ≡ Is o
+declarations_ended o list i above = ap (λ l. declarations o (map declaration_of l)) (drop_of_length-le list above)

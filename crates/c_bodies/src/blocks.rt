@@ -1,16 +1,17 @@
 //! The declarations of blocks: ISO 9899:1990 6.5.4 and 6.6.2. The objects of a function are numbered in order of declaration.
-ghost use Rattle.std.specs.Prelude.{◌≡◌, OnOk, map, is_some};
+ghost use Rattle.std.specs.Prelude.{◌≡◌, ◌++◌, ◌∷◌, [], IfErr, OnOk, map, is_some};
 ghost use Rattle.c_syntax.specs.SyntaxView.{declaration_of, initial_of, item_form_of, item_of};
+ghost use Rattle.c_rules.specs.declared.fault.Refusal.TheVariants as refusals;
 ghost use Rattle.c_rules.specs.declared.fault.Rule.TheVariants as rule;
 ghost use Rattle.c_rules.specs.Answers.{Follows, Refuses};
 ghost use Rattle.c_rules.specs.Outcome.{Broken, breaks};
 ghost use Rattle.c_rules.specs.Statements as rules;
 ghost use Rattle.c_scopes.specs.Tables.{scope_of, around_of};
-ghost use Rattle.c_objects.specs.InitialiserView.{initialiser_of};
+ghost use Rattle.c_objects.specs.InitialiserView.{first_value, initialiser_of};
+ghost use Rattle.c_tree.specs.View.{stmt_of};
 ghost use Rattle.c_bodies.specs.BodyView.{opened_of};
 
-use crate::boxes::{add, boxed};
-use c_objects::{Initialiser, Start, plain, redeclared, started};
+use c_objects::{Initialiser, Start, add, boxed, plain, redeclared, started};
 use c_rules::{Declared, Local, ObjectType, Refusal, Rule, mismatch};
 use c_scopes::{Scopes, declarator, declare_object, initialiser};
 use c_syntax::{Decl, Item};
@@ -31,6 +32,21 @@ pub struct Body<'a> {
 pub(crate) struct Opening {
     pub(crate) declared: Vec<VarRef>,
     pub(crate) statements: Vec<TypedStmt>,
+}
+
+impl Opening {
+    // One more object, with the statement that gives it its first value, where there is one.
+    fn declare(&mut self, reference: VarRef, statement: Option<TypedStmt>) -> Result<(), Refusal>
+        ensures declared { OnOk result (self.new.declared.items ≡ self.old.declared.items ++ reference ∷ []) }
+        ensures statements { OnOk result (map stmt_of self.new.statements.items ≡ map stmt_of self.old.statements.items ++ first_value statement) }
+        ensures memory { IfErr result (λ f. f ≡ refusals.NoMemory) }
+    {
+        if let Some(statement) = statement {
+            add(&mut self.statements, statement)?;
+        }
+        self.declared.push(reference)?;
+        Ok(())
+    }
 }
 
 // A function can't be declared in a block, and has no initialiser anywhere.
@@ -103,14 +119,11 @@ impl<'a> Body<'a> {
         ensures returned { self.new.result ≡ self.old.result }
     {
         let alloc = self.scopes.alloc;
-        let name = Text::copy_of(alloc, item.name.as_str())?;
         let initialiser = Box::into_inner(initialiser);
         let start = started(alloc, reference, object_type, item.at, initialiser)?;
         let Start { values, statement } = start;
-        if let Some(statement) = statement {
-            add(&mut opening.statements, statement)?;
-        }
-        opening.declared.push(reference)?;
+        opening.declare(reference, statement)?;
+        let name = Text::copy_of(alloc, item.name.as_str())?;
         self.locals.push(Local {
             name,
             object_type,

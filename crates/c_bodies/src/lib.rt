@@ -4,7 +4,6 @@
 #![tactic(auto)]
 
 mod blocks;
-mod boxes;
 mod labels;
 mod statements;
 

@@ -20,8 +20,8 @@ ghost use Rattle.c_operands.specs.OperandView.{operand_of};
 ghost use Rattle.c_bodies.specs.BodyView.{locals_of, typed_in};
 
 use crate::blocks::{Body, Opening};
-use crate::boxes::boxed;
 use crate::labels::{Labelled, switched};
+use c_objects::{add, boxed};
 use c_operands::{Operand, given};
 use c_rules::{Refusal, Rule, mismatch};
 use c_scopes::{constant_tree, expression, operand, word_at};
@@ -97,7 +97,7 @@ impl<'a> Body<'a> {
         ensures returned { self.new.result ≡ self.old.result }
     {
         let typed = self.statement(s, enclosing)?;
-        Ok(Box::new(self.scopes.alloc, typed)?)
+        boxed(self.scopes.alloc, typed)
     }
 
     // A block, in a scope of its own: 6.6.2.
@@ -125,12 +125,13 @@ impl<'a> Body<'a> {
         &mut self,
         declarations: &'a [Decl],
         statements: &'a [Stmt],
-    ) -> Result<TypedStmt, Refusal>
-        ensures follows { Follows (λ t. typed_in self.new (stmt_of t)) (rules.typed_body self.old.result (scope_of self.old.scopes) (locals_of self.old) (map declaration_of declarations.now) (body_of statements.now)) result }
+    ) -> Result<Box<TypedStmt>, Refusal>
+        ensures follows { Follows (λ t. typed_in self.new (stmt_of t.value)) (rules.typed_body self.old.result (scope_of self.old.scopes) (locals_of self.old) (map declaration_of declarations.now) (body_of statements.now)) result }
         ensures around { OnOk result (around_of self.new.scopes ≡ around_of self.old.scopes) }
         ensures bodies { (scope_of self.new.scopes).bodies ≡ (scope_of self.old.scopes).bodies }
     {
-        self.block_here(declarations, statements, Enclosing::Body)
+        let block = self.block_here(declarations, statements, Enclosing::Body)?;
+        boxed(self.scopes.alloc, block)
     }
 
     // A block in the scope that is open.
@@ -174,7 +175,7 @@ impl<'a> Body<'a> {
         ensures returned { self.new.result ≡ self.old.result }
     {
         for s in list {
-            into.push(self.statement(s, enclosing)?)?;
+            add(into, self.statement(s, enclosing)?)?;
         }
         Ok(())
     }
@@ -329,8 +330,9 @@ impl<'a> Body<'a> {
         };
         for part in parts {
             let found = self.label_or_body(part, enclosing)?;
-            labelled.choices.push(found.choice)?;
-            labelled.pointer |= found.pointer;
+            let LabelOrBody { choice, pointer } = found;
+            add(&mut labelled.choices, choice)?;
+            labelled.pointer |= pointer;
         }
         Ok(labelled)
     }
@@ -541,6 +543,7 @@ fn returned(
     ensures { Follows expr_of (rules.typed_return kind at (operand_of value)) result }
 {
     let Some(kind) = kind else {
+        drop(value);
         return Err(mismatch(at));
     };
     given(alloc, kind, at, value)

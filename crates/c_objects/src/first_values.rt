@@ -7,6 +7,7 @@ ghost use Rattle.c_operands.specs.OperandView.{operand_of};
 ghost use Rattle.c_objects.specs.InitialiserView.{entry_of, initialiser_of, object_start_of, starts_of};
 ghost use Rattle.c_rules.specs.Units as units;
 
+use crate::boxes::boxed;
 use c_operands::{Operand, given};
 use c_rules::{ObjectType, Refusal, mismatch, number_in};
 use c_tree::{ExprForm, Initial, ScalarType, Target, TargetForm, TypedExpr, TypedStmt, VarRef};
@@ -63,8 +64,9 @@ fn cell_value(kind: ScalarType, initial: Initial) -> Initial
 fn cell(alloc: Global, kind: ScalarType, at: u32, entry: Entry) -> Result<Initial, Refusal>
     ensures { Follows (λ i. i) (rules.cell kind at (entry_of entry)) result }
 {
-    given(alloc, kind, at, entry.operand)?;
-    Ok(cell_value(kind, entry.initial))
+    let Entry { operand, initial } = entry;
+    drop(given(alloc, kind, at, operand)?);
+    Ok(cell_value(kind, initial))
 }
 
 // The values of cells of this type.
@@ -76,7 +78,7 @@ fn cells(
 ) -> Result<Vec<Initial>, Refusal>
     ensures { Follows (λ is. is.items) (rules.cells kind at (map entry_of entries.items)) result }
 {
-    let mut values = Vec::with_capacity(alloc, entries.len())?;
+    let mut values = Vec::new(alloc);
     for entry in entries {
         values.push(cell(alloc, kind, at, entry)?)?;
     }
@@ -104,19 +106,23 @@ fn listed(
 fn scalar_start(
     alloc: Global,
     reference: VarRef,
-    kind: ScalarType,
+    object_type: ObjectType,
     at: u32,
     value: Operand,
 ) -> Result<Start, Refusal>
-    ensures { Follows object_start_of (blocks.started reference (ObjectType.Single kind) at (blocks.Value (operand_of value))) result }
+    ensures { Follows object_start_of (blocks.started reference object_type at (blocks.Value (operand_of value))) result }
 {
-    let value = given(alloc, kind, at, value)?;
+    let ObjectType::Single(kind) = object_type else {
+        drop(value);
+        return Err(mismatch(at));
+    };
+    let value = boxed(alloc, given(alloc, kind, at, value)?)?;
     let form = ExprForm::Assign {
         to: Target {
             form: TargetForm::Named(reference),
             at,
         },
-        value: Box::new(alloc, value)?,
+        value,
     };
     Ok(Start {
         values: Items::new(Vec::new(alloc)),
@@ -132,13 +138,15 @@ fn scalar_start(
 fn array_start(
     alloc: Global,
     reference: VarRef,
-    kind: ScalarType,
-    length: u16,
+    object_type: ObjectType,
     at: u32,
     entries: Vec<Entry>,
 ) -> Result<Start, Refusal>
-    ensures { Follows object_start_of (blocks.started reference (ObjectType.Array kind length) at (blocks.Listed (map entry_of entries.items))) result }
+    ensures { Follows object_start_of (blocks.started reference object_type at (blocks.Listed (map entry_of entries.items))) result }
 {
+    let ObjectType::Array { kind, length } = object_type else {
+        return Err(mismatch(at));
+    };
     let values = listed(alloc, kind, length, at, entries)?;
     Ok(Start {
         values,
@@ -156,18 +164,14 @@ pub fn started(
 ) -> Result<Start, Refusal>
     ensures { Follows object_start_of (blocks.started reference object_type at (initialiser_of initialiser)) result }
 {
-    match (object_type, initialiser) {
-        (_, Initialiser::Absent) => Ok(Start {
+    match initialiser {
+        Initialiser::Absent => Ok(Start {
             values: Items::new(Vec::new(alloc)),
             statement: None,
         }),
-        (ObjectType::Single(kind), Initialiser::Value(value)) => {
-            scalar_start(alloc, reference, kind, at, value)
-        }
-        (ObjectType::Array { kind, length }, Initialiser::Listed(entries)) => {
-            array_start(alloc, reference, kind, length, at, entries)
-        }
-        _ => Err(mismatch(at)),
+        Initialiser::Value(value) => scalar_start(alloc, reference, object_type, at, value),
+        Initialiser::Listed(entries) => array_start(alloc, reference, object_type, at, entries),
+        Initialiser::Misbraced => Err(mismatch(at)),
     }
 }
 
@@ -179,6 +183,40 @@ pub enum Starts {
     Braced(Vec<Entry>),
 }
 
+// The list of a scalar of file scope, which has one cell.
+fn scalar_list(
+    alloc: Global,
+    object_type: ObjectType,
+    at: u32,
+    entry: Entry,
+) -> Result<Items<Initial>, Refusal>
+    ensures { Follows Some (units.static_list object_type at (units.One (entry_of entry))) result }
+{
+    let ObjectType::Single(kind) = object_type else {
+        drop(entry);
+        return Err(mismatch(at));
+    };
+    let value = cell(alloc, kind, at, entry)?;
+    let mut list = Vec::new(alloc);
+    list.push(value)?;
+    Ok(Items::new(list))
+}
+
+// The list of an array of file scope.
+fn braced_list(
+    alloc: Global,
+    object_type: ObjectType,
+    at: u32,
+    entries: Vec<Entry>,
+) -> Result<Items<Initial>, Refusal>
+    ensures { Follows Some (units.static_list object_type at (units.Braced (map entry_of entries.items))) result }
+{
+    let ObjectType::Array { kind, length } = object_type else {
+        return Err(mismatch(at));
+    };
+    listed(alloc, kind, length, at, entries)
+}
+
 /// The list of an object of file scope.
 pub fn static_list(
     alloc: Global,
@@ -188,16 +226,9 @@ pub fn static_list(
 ) -> Result<Option<Items<Initial>>, Refusal>
     ensures { Follows (λ list. list) (units.static_list object_type at (starts_of starts)) result }
 {
-    match (object_type, starts) {
-        (_, Starts::Absent) => Ok(None),
-        (ObjectType::Single(kind), Starts::One(entry)) => {
-            let mut list = Vec::new(alloc);
-            list.push(cell(alloc, kind, at, entry)?)?;
-            Ok(Some(Items::new(list)))
-        }
-        (ObjectType::Array { kind, length }, Starts::Braced(entries)) => {
-            Ok(Some(listed(alloc, kind, length, at, entries)?))
-        }
-        _ => Err(mismatch(at)),
+    match starts {
+        Starts::Absent => Ok(None),
+        Starts::One(entry) => Ok(Some(scalar_list(alloc, object_type, at, entry)?)),
+        Starts::Braced(entries) => Ok(Some(braced_list(alloc, object_type, at, entries)?)),
     }
 }

@@ -5,11 +5,13 @@
 #![tactic(auto)]
 
 mod agreement;
+mod boxes;
 mod declarators;
 mod first_values;
 mod type_words;
 
 pub use agreement::{agrees_function, agrees_object};
+pub use boxes::{add, boxed};
 pub use declarators::{
     array, lacks_name, length_within, listed_length, parameter_kind, redeclared, single,
 };

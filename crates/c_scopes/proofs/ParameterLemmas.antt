@@ -1,5 +1,5 @@
 -- A turn of the loop over parameters.
-use Rattle.std.proofs.Common.{◌≡◌, ℕ, ◌+◌, List, [], ◌∷◌, ◌++◌, map, refl, ap, sym, append_assoc}
+use Rattle.std.proofs.Common.{◌≡◌, ℕ, List, [], ◌∷◌, ◌++◌, map, refl, ap, sym, append_assoc}
 use Rattle.c_syntax.specs.declared.decl.Param.{Param}
 use Rattle.c_tree.specs.declared.program.ScalarType.{ScalarType}
 use Rattle.c_tree.specs.declared.program.VarRef.TheVariants as refs

@@ -105,7 +105,7 @@ pub(crate) fn parameter_types<'a>(
     ensures around { around_of scopes.new ≡ around_of scopes.old }
     ensures bodies { (scope_of scopes.new).bodies ≡ (scope_of scopes.old).bodies }
 {
-    let mut kinds = Vec::with_capacity(scopes.alloc, list.len())?;
+    let mut kinds = Vec::new(scopes.alloc);
     for parameter in list {
         let kind = parameter_type(scopes, naming, parameter)?;
         // Here the name is only taken: what it stands for is known with a body.

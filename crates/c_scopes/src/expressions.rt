@@ -1,12 +1,13 @@
 //! The typed tree of an expression: ISO 9899:1990 6.3, and of one that has to be constant: 6.4.
-ghost use Rattle.c_rules.specs.Answers.{Follows};
-ghost use Rattle.std.specs.Prelude.{◌≡◌, IfOk, Some, map};
+ghost use Rattle.c_rules.specs.Answers.{Follows, Refuses};
+ghost use Rattle.std.specs.Prelude.{◌≡◌, IfErr, IfOk, Some, map};
 ghost use Rattle.c_tree.specs.View.{expr_of};
 ghost use Rattle.c_tree.specs.TypedTree.{Node, Const};
 ghost use Rattle.c_syntax.specs.SyntaxTree as tree;
 ghost use Rattle.c_syntax.specs.SyntaxView.{expression_of, trees_of, type_of};
 ghost use Rattle.c_rules.specs.declared.fault.Rule.TheVariants as rule;
 ghost use Rattle.c_rules.specs.Outcome.{Is, breaks};
+ghost use Rattle.c_scopes.specs.Sides.{left_then};
 ghost use Rattle.c_rules.specs.Kinds.{int, is_void, unsigned};
 ghost use Rattle.c_operands.specs.OperandView.{operand_of};
 ghost use Rattle.c_scopes.specs.ArgumentView.{arguments_of};
@@ -16,7 +17,7 @@ ghost use Rattle.c_rules.specs.Typing as rules;
 use crate::call_arguments::{Arguments, call_of, constant_call_of, word_of};
 use crate::names::named;
 use crate::scopes::{Scopes, is_in, is_out};
-use c_objects::{is_null, type_named};
+use c_objects::{add, is_null, type_named};
 use c_operands::{
     INT, Operand, UNSIGNED, address, assigned, assigned_by, behind, both_true, class_of,
     either_true, indexed, loaded, negated, not_lvalue, number, picked, sized, stepped_after,
@@ -26,6 +27,13 @@ use c_rules::{Refusal, Rule};
 use c_syntax::{BinaryOp, Expr, ExprKind, PrefixOp, TypeName, UnaryOp};
 use c_tree::{ExprForm, ScalarType, TypedExpr};
 use std::alloc::Global;
+
+/// The typed sides of a form of two.
+#[derive(Drop)]
+struct TypedSides {
+    left: Box<TypedExpr>,
+    right: Box<TypedExpr>,
+}
 
 /// The typed tree of an expression.
 #[cycle(expressions)]
@@ -76,7 +84,19 @@ fn boxed(scopes: &Scopes<'_>, e: &Expr) -> Result<Box<TypedExpr>, Refusal>
     ensures { Follows (λ x. expr_of x.value) (rules.typing (scope_of scopes.now) (expression_of e.now)) result }
 {
     let typed = expression(scopes, e)?;
-    Ok(Box::new(scopes.alloc, typed)?)
+    c_objects::boxed(scopes.alloc, typed)
+}
+
+// Two expressions, from left to right.
+#[cycle(expressions)]
+fn sides(scopes: &Scopes<'_>, left: &Expr, right: &Expr) -> Result<TypedSides, Refusal>
+    ensures left { IfOk result (λ sides. rules.typing (scope_of scopes.now) (expression_of left.now) ≡ Is (expr_of sides.left.value)) }
+    ensures right { IfOk result (λ sides. rules.typing (scope_of scopes.now) (expression_of right.now) ≡ Is (expr_of sides.right.value)) }
+    ensures refused { IfErr result (Refuses (left_then (scope_of scopes.now) (expression_of left.now) (expression_of right.now))) }
+{
+    let left = boxed(scopes, left)?;
+    let right = boxed(scopes, right)?;
+    Ok(TypedSides { left, right })
 }
 
 #[cycle(expressions)]
@@ -88,9 +108,13 @@ fn subscript(
 ) -> Result<TypedExpr, Refusal>
     ensures { Follows expr_of (rules.typing_form (scope_of scopes.now) (tree.Index (expression_of operand.now) (expression_of index.now)) at) result }
 {
-    let left = boxed(scopes, operand)?;
-    let right = expression(scopes, index)?;
-    indexed(scopes.alloc, at, Box::into_inner(left), right)
+    let TypedSides { left, right } = sides(scopes, operand, index)?;
+    indexed(
+        scopes.alloc,
+        at,
+        Box::into_inner(left),
+        Box::into_inner(right),
+    )
 }
 
 #[cycle(expressions)]
@@ -148,27 +172,40 @@ fn binary(
 ) -> Result<TypedExpr, Refusal>
     ensures { Follows expr_of (rules.typing_form (scope_of scopes.now) (tree.Binary op (expression_of left.now) (expression_of right.now)) at) result }
 {
-    let value = boxed(scopes, left)?;
-    let right = operand(scopes, right)?;
-    c_operands::binary(scopes.alloc, op, at, unboxed(left, value), right)
+    let typed = sides(scopes, left, right)?;
+    c_operands::binary(
+        scopes.alloc,
+        op,
+        at,
+        unboxed(left, typed.left),
+        unboxed(right, typed.right),
+    )
 }
 
 #[cycle(expressions)]
 fn both(scopes: &Scopes<'_>, at: u32, left: &Expr, right: &Expr) -> Result<TypedExpr, Refusal>
     ensures { Follows expr_of (rules.typing_form (scope_of scopes.now) (tree.And (expression_of left.now) (expression_of right.now)) at) result }
 {
-    let left = boxed(scopes, left)?;
-    let right = expression(scopes, right)?;
-    both_true(scopes.alloc, at, Box::into_inner(left), right)
+    let TypedSides { left, right } = sides(scopes, left, right)?;
+    both_true(
+        scopes.alloc,
+        at,
+        Box::into_inner(left),
+        Box::into_inner(right),
+    )
 }
 
 #[cycle(expressions)]
 fn either(scopes: &Scopes<'_>, at: u32, left: &Expr, right: &Expr) -> Result<TypedExpr, Refusal>
     ensures { Follows expr_of (rules.typing_form (scope_of scopes.now) (tree.Or (expression_of left.now) (expression_of right.now)) at) result }
 {
-    let left = boxed(scopes, left)?;
-    let right = expression(scopes, right)?;
-    either_true(scopes.alloc, at, Box::into_inner(left), right)
+    let TypedSides { left, right } = sides(scopes, left, right)?;
+    either_true(
+        scopes.alloc,
+        at,
+        Box::into_inner(left),
+        Box::into_inner(right),
+    )
 }
 
 #[cycle(expressions)]
@@ -182,14 +219,13 @@ fn conditional(
     ensures { Follows expr_of (rules.typing_form (scope_of scopes.now) (tree.Conditional (expression_of test.now) (expression_of yes.now) (expression_of no.now)) at) result }
 {
     let test = boxed(scopes, test)?;
-    let value = boxed(scopes, yes)?;
-    let no = operand(scopes, no)?;
+    let arms = sides(scopes, yes, no)?;
     picked(
         scopes.alloc,
         at,
         Box::into_inner(test),
-        unboxed(yes, value),
-        no,
+        unboxed(yes, arms.left),
+        unboxed(no, arms.right),
     )
 }
 
@@ -197,9 +233,9 @@ fn conditional(
 fn assignment(scopes: &Scopes<'_>, at: u32, left: &Expr, right: &Expr) -> Result<TypedExpr, Refusal>
     ensures { Follows expr_of (rules.typing_form (scope_of scopes.now) (tree.Assign (expression_of left.now) (expression_of right.now)) at) result }
 {
-    let to = boxed(scopes, left)?;
-    let value = operand(scopes, right)?;
-    let written = assigned(scopes.alloc, at, Box::into_inner(to), value)?;
+    let typed = sides(scopes, left, right)?;
+    let to = Box::into_inner(typed.left);
+    let written = assigned(scopes.alloc, at, to, unboxed(right, typed.right))?;
     of_object(is_address(left), at, written)
 }
 
@@ -213,9 +249,10 @@ fn assignment_by(
 ) -> Result<TypedExpr, Refusal>
     ensures { Follows expr_of (rules.typing_form (scope_of scopes.now) (tree.AssignOp op (expression_of left.now) (expression_of right.now)) at) result }
 {
-    let to = boxed(scopes, left)?;
-    let value = expression(scopes, right)?;
-    let written = assigned_by(scopes.alloc, op, at, Box::into_inner(to), value)?;
+    let typed = sides(scopes, left, right)?;
+    let to = Box::into_inner(typed.left);
+    let value = Box::into_inner(typed.right);
+    let written = assigned_by(scopes.alloc, op, at, to, value)?;
     of_object(is_address(left), at, written)
 }
 
@@ -223,9 +260,13 @@ fn assignment_by(
 fn comma(scopes: &Scopes<'_>, at: u32, left: &Expr, right: &Expr) -> Result<TypedExpr, Refusal>
     ensures { Follows expr_of (rules.typing_form (scope_of scopes.now) (tree.Comma (expression_of left.now) (expression_of right.now)) at) result }
 {
-    let left = boxed(scopes, left)?;
-    let right = expression(scopes, right)?;
-    behind(scopes.alloc, at, Box::into_inner(left), right)
+    let TypedSides { left, right } = sides(scopes, left, right)?;
+    behind(
+        scopes.alloc,
+        at,
+        Box::into_inner(left),
+        Box::into_inner(right),
+    )
 }
 
 // The typed tree of a call.
@@ -273,7 +314,7 @@ fn operands(scopes: &Scopes<'_>, list: &[Expr]) -> Result<Vec<Operand>, Refusal>
 {
     let mut operands = Vec::new(scopes.alloc);
     for e in list {
-        operands.push(operand(scopes, e)?)?;
+        add(&mut operands, operand(scopes, e)?)?;
     }
     Ok(operands)
 }

@@ -10,7 +10,7 @@ ghost use Rattle.c_objects.specs.InitialiserView.{entry_of, initialiser_of};
 
 use crate::expressions::{constant_tree, expression, operand};
 use crate::scopes::Scopes;
-use c_objects::{Entry, Initialiser, initial_word, is_null};
+use c_objects::{Entry, Initialiser, add, initial_word, is_null};
 use c_operands::{Operand, constant};
 use c_rules::{Meaning, ObjectType, Refusal, Rule};
 use c_syntax::{BinaryOp, Expr, ExprKind, Init, ItemKind, PrefixOp};
@@ -136,9 +136,9 @@ pub(crate) fn entry(scopes: &Scopes<'_>, e: &Expr) -> Result<Entry, Refusal>
 pub(crate) fn entries(scopes: &Scopes<'_>, list: &[Expr]) -> Result<Vec<Entry>, Refusal>
     ensures { Follows (λ xs. map entry_of xs.items) (rules.entries (scope_of scopes.now) (map expression_of list.now)) result }
 {
-    let mut entries = Vec::with_capacity(scopes.alloc, list.len())?;
+    let mut entries = Vec::new(scopes.alloc);
     for e in list {
-        entries.push(entry(scopes, e)?)?;
+        add(&mut entries, entry(scopes, e)?)?;
     }
     Ok(entries)
 }

@@ -1,5 +1,5 @@
 -- Turns of the loops over the parts of a source: types, parameters, items and externals.
-use Rattle.std.proofs.Common.{◌≡◌, ◌≢◌, ℕ, ◌+◌, ◌<◌, ◌≤◌, ◌&&◌, ◌||◌, Bool, true, false, if◌then◌else◌, List, [], ◌∷◌, ◌++◌, map, set, drop, get_or, length, Option, Some, None, is_some, is_none, option_map, true≢false, not, Bor, subst, refl, ap, sym, ◌∙◌, append-nil}
+use Rattle.std.proofs.Common.{◌≡◌, ℕ, ◌+◌, ◌<◌, ◌≤◌, ◌&&◌, ◌||◌, Bool, true, false, if◌then◌else◌, List, [], ◌∷◌, ◌++◌, map, set, drop, get_or, length, Option, Some, None, is_some, is_none, option_map, true≢false, not, Bor, subst, refl, ap, sym, ◌∙◌, append-nil}
 use Rattle.std.specs.Str.{bytes_eq}
 use Rattle.std.specs.List.{list_any}
 use Rattle.std.specs.Prelude.{Result, slice_get, slice_set}

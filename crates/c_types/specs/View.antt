@@ -2,12 +2,14 @@
 use Rattle.std.specs.Prelude.{List, map, Vec}
 use Rattle.std.specs.Global.{Global}
 use Rattle.c_tree.specs.declared.program.VarRef.{VarRef}
-use Rattle.c_tree.specs.TypedTree.{ProgramTree}
-use Rattle.c_frames.specs.declared.functions.TypedFunction as functions
-use Rattle.c_objects.specs.declared.first_values.Initialiser.TheVariants as initial
+use Rattle.c_tree.specs.TypedTree.{ProgramTree, Stmt}
 use Rattle.c_types.specs.declared.units.Static as statics
 use Rattle.c_types.specs.declared.units.File as files
 use Rattle.c_types.specs.declared.units.Contents.{Contents}
+use Rattle.c_types.specs.declared.units.TypedBody as bodies
+use Rattle.c_tree.specs.View.{stmt_of}
+use Rattle.c_rules.specs.LocalView.{local_tree_of}
+use Rattle.c_rules.specs.Statements.{Typed}
 use Rattle.c_frames.specs.FunctionView.{frame_lists, typed_function_of}
 use Rattle.c_scopes.specs.Tables.{scope_of}
 use Rattle.c_rules.specs.Programs.{object_tree, functions_with}
@@ -22,6 +24,10 @@ file_of f = record {
   statics = map static_tree_of f.statics.items;
   functions = map typed_function_of f.functions.items;
 }
+
+-- a body, with the objects of its function
+abbrev pub body_of : bodies.TypedBody → Typed Stmt
+body_of b = record { tree = stmt_of b.tree.value; locals = map local_tree_of b.locals.items }
 
 -- the program of a file whose functions' objects stand for these
 abbrev pub made_of : List (Vec VarRef Global) → Contents → ProgramTree

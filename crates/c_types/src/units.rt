@@ -1,18 +1,20 @@
 //! Whole sources: ISO 9899:1990 6.7.
-ghost use Rattle.std.specs.Prelude.{◌≡◌, ◌||◌, map, IfOk, OnOk, unwrap_or, []};
-ghost use Rattle.c_syntax.specs.SyntaxView.{item_of, function_syntax_of, external_of, parameter_of, unit_of};
+ghost use Rattle.std.specs.Prelude.{◌≡◌, ◌||◌, List, ◌∷◌, map, IfOk, OnOk, unwrap_or, []};
+ghost use Rattle.c_syntax.specs.SyntaxView.{item_of, initial_of, function_syntax_of, external_of, parameter_of, unit_of};
 ghost use Rattle.c_rules.specs.Answers.{Follows, Refuses};
-ghost use Rattle.c_scopes.specs.Tables.{key_names};
+ghost use Rattle.c_scopes.specs.Tables.{Table, around_of, key_names, scope_of, tables_of};
+ghost use Rattle.c_objects.specs.InitialiserView.{starts_of};
 ghost use Rattle.c_rules.specs.Units as rules;
 ghost use Rattle.c_rules.specs.LocalView.{local_tree_of};
-ghost use Rattle.c_types.specs.View.{static_tree_of, file_of};
+ghost use Rattle.c_rules.specs.Statements as statements;
+ghost use Rattle.c_types.specs.View.{body_of, static_tree_of, file_of};
 ghost use Rattle.c_rules.specs.declared.meaning.Declared.TheVariants as declares;
 ghost use Rattle.c_rules.specs.declared.meaning.ObjectType.TheVariants as objects;
 ghost use Rattle.c_rules.specs.Declarations.{parameters};
 
 use c_bodies::Body;
 use c_frames::TypedFunction;
-use c_objects::{redeclared, spelled, static_list};
+use c_objects::{Starts, boxed, redeclared, spelled, static_list};
 use c_operands::starred;
 use c_rules::{Declared, FunctionType, Local, ObjectType, Refusal, mismatch};
 use c_scopes::{
@@ -20,7 +22,7 @@ use c_scopes::{
     starts, static_number, without_type,
 };
 use c_syntax::{External, FunctionDef, Item, Param};
-use c_tree::{Base, Initial, ScalarType};
+use c_tree::{Base, Initial, ScalarType, TypedStmt};
 use indexmap::IndexSet;
 use std::alloc::Global;
 use std::mem;
@@ -41,6 +43,13 @@ pub(crate) struct File<'a> {
     pub(crate) scopes: Scopes<'a>,
     pub(crate) statics: Vec<Static>,
     pub(crate) functions: Vec<TypedFunction>,
+}
+
+/// What stands between the braces of a function, with the objects of the function.
+#[derive(Drop)]
+struct TypedBody {
+    locals: Vec<Local>,
+    tree: Box<TypedStmt>,
 }
 
 /// The objects and functions of a file, without its names.
@@ -110,6 +119,34 @@ fn bodies_of<'a>(alloc: Global, externals: &'a [External]) -> Result<IndexSet<&'
     Ok(bodies)
 }
 
+// What stands between the braces of a function, in the scope of its parameters, which ends with it. It has the names of the file
+// while it is typed: where it is refused, nothing more is read of the file.
+fn typed_body<'a>(
+    scopes: &mut Scopes<'a>,
+    kind: Option<ScalarType>,
+    locals: Vec<Local>,
+    f: &'a FunctionDef,
+) -> Result<TypedBody, Refusal>
+    ensures follows { Follows body_of (statements.typed_body kind (scope_of scopes.old) (map local_tree_of locals.items) (function_syntax_of f.now).declarations (function_syntax_of f.now).statements) result }
+    ensures tables { (outer : Table) (rest : List Table) → around_of scopes.old ≡ outer ∷ rest → OnOk result (tables_of scopes.new ≡ outer ∷ rest) }
+    ensures bodies { OnOk result ((scope_of scopes.new).bodies ≡ (scope_of scopes.old).bodies) }
+{
+    let alloc = scopes.alloc;
+    let none = Scopes::new(alloc, IndexSet::new(alloc));
+    let mut body = Body {
+        scopes: mem::replace(scopes, none),
+        locals,
+        result: kind,
+    };
+    let tree = body.body(f.declarations.as_slice(), f.statements.as_slice())?;
+    body.scopes.close();
+    *scopes = body.scopes;
+    Ok(TypedBody {
+        locals: body.locals,
+        tree,
+    })
+}
+
 impl<'a> File<'a> {
     // Whether an item initialises an object that is initialised already.
     fn is_twice(&self, item: &Item) -> bool
@@ -142,10 +179,18 @@ impl<'a> File<'a> {
     fn untyped(&self, item: &Item) -> Refusal
         ensures { Refuses (rules.item_as (file_of self.now) declares.Untyped (item_of item.now)) result }
     {
-        if let Err(refusal) = starts(&self.scopes, &item.init) {
+        if let Err(refusal) = self.first_values(item) {
             return refusal;
         }
         without_type(&self.scopes, item)
+    }
+
+    // What gives an item its values, in a box while the rest is looked at.
+    fn first_values(&self, item: &Item) -> Result<Box<Starts>, Refusal>
+        ensures { Follows (λ s. starts_of s.value) (rules.starts (scope_of self.now.scopes) (initial_of item.now.init)) result }
+    {
+        let starts = starts(&self.scopes, &item.init)?;
+        boxed(self.scopes.alloc, starts)
     }
 
     fn object(&mut self, object_type: ObjectType, item: &'a Item) -> Result<(), Refusal>
@@ -156,10 +201,11 @@ impl<'a> File<'a> {
         let number = static_number(&self.scopes, name);
         let next = self.statics.len();
         let allowed = declare_static(&mut self.scopes, name, next, object_type)?;
-        let starts = starts(&self.scopes, &item.init)?;
+        let starts = self.first_values(item)?;
         if !allowed || is_twice {
             return Err(redeclared(item.at));
         }
+        let starts = Box::into_inner(starts);
         let list = static_list(self.scopes.alloc, object_type, item.at, starts)?;
         Ok(self.set_list(number, object_type, list, name)?)
     }
@@ -198,7 +244,7 @@ impl<'a> File<'a> {
     {
         let is_twice = self.is_twice(item);
         let allowed = declare_function(&mut self.scopes, item.name.as_str(), function)?;
-        starts(&self.scopes, &item.init)?;
+        drop(self.first_values(item)?);
         if !allowed || is_twice {
             return Err(redeclared(item.at));
         }
@@ -240,8 +286,7 @@ impl<'a> File<'a> {
         Ok(())
     }
 
-    // The body of a function behind its name, with parameters of these types. It has the names of the file while it is typed:
-    // where it is refused, nothing more is read of the file.
+    // The body of a function behind its name, with parameters of these types.
     fn body(
         &mut self,
         kind: Option<ScalarType>,
@@ -255,23 +300,14 @@ impl<'a> File<'a> {
         self.scopes.open()?;
         declare_parameters(&mut self.scopes, list, kinds)?;
         let locals = parameter_locals(alloc, list, kinds)?;
+        let typed = typed_body(&mut self.scopes, kind, locals, f)?;
         let name = Text::copy_of(alloc, f.name.as_str())?;
-        let none = Scopes::new(alloc, IndexSet::new(alloc));
-        let mut body = Body {
-            scopes: mem::replace(&mut self.scopes, none),
-            locals,
-            result: kind,
-        };
-        let tree = body.body(f.declarations.as_slice(), f.statements.as_slice())?;
-        let boxed = Box::new(alloc, tree)?;
-        body.scopes.close();
-        self.scopes = body.scopes;
         self.functions.push(TypedFunction {
             name,
             result: kind,
             parameters: kinds.len(),
-            locals: body.locals,
-            body: boxed,
+            locals: typed.locals,
+            body: typed.tree,
         })?;
         Ok(())
     }

@@ -15,8 +15,11 @@ decreases-operand l = 8 * size-ExprKind l.e.now.kind + 1
 abbrev pub decreases-boxed : goal.decreases-boxed
 decreases-boxed l = 8 * size-ExprKind l.e.now.kind + 1
 
+abbrev pub decreases-sides : goal.decreases-sides
+decreases-sides l = 8 * max (size-ExprKind l.left.now.kind) (size-ExprKind l.right.now.kind) + 2
+
 abbrev pub decreases-subscript : goal.decreases-subscript
-decreases-subscript l = 8 * max (size-ExprKind l.operand.now.kind) (size-ExprKind l.index.now.kind) + 2
+decreases-subscript l = 8 * max (size-ExprKind l.operand.now.kind) (size-ExprKind l.index.now.kind) + 3
 
 abbrev pub decreases-step_after : goal.decreases-step_after
 decreases-step_after l = 8 * size-ExprKind l.operand.now.kind + 2
@@ -34,25 +37,25 @@ abbrev pub decreases-cast : goal.decreases-cast
 decreases-cast l = 8 * size-ExprKind l.value.now.kind + 2
 
 abbrev pub decreases-binary : goal.decreases-binary
-decreases-binary l = 8 * max (size-ExprKind l.left.now.kind) (size-ExprKind l.right.now.kind) + 2
+decreases-binary l = 8 * max (size-ExprKind l.left.now.kind) (size-ExprKind l.right.now.kind) + 3
 
 abbrev pub decreases-both : goal.decreases-both
-decreases-both l = 8 * max (size-ExprKind l.left.now.kind) (size-ExprKind l.right.now.kind) + 2
+decreases-both l = 8 * max (size-ExprKind l.left.now.kind) (size-ExprKind l.right.now.kind) + 3
 
 abbrev pub decreases-either : goal.decreases-either
-decreases-either l = 8 * max (size-ExprKind l.left.now.kind) (size-ExprKind l.right.now.kind) + 2
+decreases-either l = 8 * max (size-ExprKind l.left.now.kind) (size-ExprKind l.right.now.kind) + 3
 
 abbrev pub decreases-conditional : goal.decreases-conditional
-decreases-conditional l = 8 * max (size-ExprKind l.test.now.kind) (max (size-ExprKind l.yes.now.kind) (size-ExprKind l.no.now.kind)) + 2
+decreases-conditional l = 8 * max (size-ExprKind l.test.now.kind) (max (size-ExprKind l.yes.now.kind) (size-ExprKind l.no.now.kind)) + 3
 
 abbrev pub decreases-assignment : goal.decreases-assignment
-decreases-assignment l = 8 * max (size-ExprKind l.left.now.kind) (size-ExprKind l.right.now.kind) + 2
+decreases-assignment l = 8 * max (size-ExprKind l.left.now.kind) (size-ExprKind l.right.now.kind) + 3
 
 abbrev pub decreases-assignment_by : goal.decreases-assignment_by
-decreases-assignment_by l = 8 * max (size-ExprKind l.left.now.kind) (size-ExprKind l.right.now.kind) + 2
+decreases-assignment_by l = 8 * max (size-ExprKind l.left.now.kind) (size-ExprKind l.right.now.kind) + 3
 
 abbrev pub decreases-comma : goal.decreases-comma
-decreases-comma l = 8 * max (size-ExprKind l.left.now.kind) (size-ExprKind l.right.now.kind) + 2
+decreases-comma l = 8 * max (size-ExprKind l.left.now.kind) (size-ExprKind l.right.now.kind) + 3
 
 abbrev pub decreases-operands : goal.decreases-operands
 decreases-operands l = 8 * goal.size-operands l + 2

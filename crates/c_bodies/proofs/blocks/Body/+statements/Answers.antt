@@ -24,7 +24,7 @@ statements-loop-s-preserved t c = record {
   typed = c.loop-s.invariant.typed
       ∙ turn c.loop-s.self c.statement.new.self c.in_ok-statement.ensures.tables c.in_ok-statement.ensures.bodies c.in_ok-statement.ensures.returned
       c.args.enclosing c.args.list.now c.loop-s.s-index c.s-item.result c.loop-s.into.items c.in_ok-statement.field-0 c.s-item.is c.loop-s-test.true c.in_ok-statement.ensures.follows
-      ∙ ap (λ l. behind l (statements_in c.statement.new.self c.args.enclosing (body_of (drop (c.loop-s.s-index + 1) c.args.list.now)))) (sym c.in_ok-push.ensures.items);
+      ∙ ap (λ l. behind l (statements_in c.statement.new.self c.args.enclosing (body_of (drop (c.loop-s.s-index + 1) c.args.list.now)))) (sym c.in_ok-add.ensures.items);
   tables = c.in_ok-statement.ensures.tables ∙ c.loop-s.invariant.tables;
   bodies = c.in_ok-statement.ensures.bodies ∙ c.loop-s.invariant.bodies;
   returned = c.in_ok-statement.ensures.returned ∙ c.loop-s.invariant.returned;
@@ -94,7 +94,7 @@ choices-loop-part-preserved t c = record {
   typed = c.loop-part.invariant.typed
       ∙ choice_turn c.loop-part.self c.label_or_body.new.self c.args.enclosing c.args.parts.now c.loop-part.part-index c.part-item.result c.loop-part.labelled.choices.items c.loop-part.labelled.pointer
       c.in_ok-found.found.choice c.in_ok-found.found.pointer c.part-item.is c.loop-part-test.true c.in_ok-found.ensures.typed
-      ∙ ap (λ l. behind_choices l (c.loop-part.labelled.pointer || c.in_ok-found.found.pointer) (choices_in c.label_or_body.new.self c.args.enclosing (parts_of (drop (c.loop-part.part-index + 1) c.args.parts.now)))) (sym c.in_ok-push.ensures.items);
+      ∙ ap (λ l. behind_choices l (c.loop-part.labelled.pointer || c.in_ok-found.found.pointer) (choices_in c.label_or_body.new.self c.args.enclosing (parts_of (drop (c.loop-part.part-index + 1) c.args.parts.now)))) (sym c.in_ok-add.ensures.items);
   tables = c.in_ok-found.ensures.tables ∙ c.loop-part.invariant.tables;
   bodies = c.in_ok-found.ensures.bodies ∙ c.loop-part.invariant.bodies;
   returned = c.in_ok-found.ensures.returned ∙ c.loop-part.invariant.returned;

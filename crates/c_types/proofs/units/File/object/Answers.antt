@@ -33,7 +33,7 @@ returns-then-not-allowed c =
     ] in
     redeclared_refused f (item_of c.args.item.now) (declares.Object c.args.object_type) (scope_of c.declare_static.new.scopes) c.as_str-name.result.now c.len-next.result allowed twice
     c.as_str-name.ensures (c.len-next.ensures ∙ c.args.self.now.statics.ok.0 ∙ sym (length-map c.args.self.now.statics.items static_tree_of)) c.in_ok-allowed.ensures.declared c.in_ok-allowed.ensures.allowed c.is_twice-is_twice.ensures
-    (starts_of c.in_ok-starts.starts) c.in_ok-starts.ensures c.redeclared.result broken c.redeclared.ensures
+    (starts_of c.in_ok-starts.starts.value) c.in_ok-starts.ensures c.redeclared.result broken c.redeclared.ensures
 
 pub returns-in_err-list : goal.returns-in_err-list
 returns-in_err-list c =
@@ -43,6 +43,6 @@ returns-in_err-list c =
     let h : Refuses (item_as f (declares.Object c.args.object_type) (item_of c.args.item.now)) c.in_err-list.field-0.0 =
     declared_refused f (item_of c.args.item.now) (declares.Object c.args.object_type) (scope_of c.declare_static.new.scopes) c.as_str-name.result.now c.len-next.result allowed twice
     c.as_str-name.ensures (c.len-next.ensures ∙ c.args.self.now.statics.ok.0 ∙ sym (length-map c.args.self.now.statics.items static_tree_of)) c.in_ok-allowed.ensures.declared c.in_ok-allowed.ensures.allowed c.is_twice-is_twice.ensures
-    (starts_of c.in_ok-starts.starts) c.in_ok-starts.ensures c.in_err-list.field-0.0 (allowed_once allowed twice c.if-not-allowed.false c.if-is_twice.false)
-    (refused_first (static_list c.args.object_type c.args.item.now.at (starts_of c.in_ok-starts.starts)) _ c.in_err-list.field-0.0 c.in_err-list.ensures) in
+    (starts_of c.in_ok-starts.starts.value) c.in_ok-starts.ensures c.in_err-list.field-0.0 (allowed_once allowed twice c.if-not-allowed.false c.if-is_twice.false)
+    (refused_first (static_list c.args.object_type c.args.item.now.at (starts_of c.in_ok-starts.starts.value)) _ c.in_err-list.field-0.0 (rw c.into_inner-starts.ensures at c.in_err-list.ensures)) in
     search (rules, h)

@@ -1,22 +1,25 @@
-use Rattle.std.proofs.Common.{◌≡◌, ◌+◌, ◌∷◌, ◌∙◌, drop, ap, sym, subst, rules}
-use Rattle.std.proofs.lemmas.List.{drop_more}
-use Rattle.c_syntax.specs.SyntaxView.{external_of, unit_of}
+use Rattle.std.proofs.Common.{◌∙◌, ap, rules}
+use Rattle.std.proofs.Math.ListN.{drop_of_length-le}
+use Rattle.c_syntax.specs.SyntaxView.{unit_of}
 use Rattle.c_rules.specs.Answers.{Refuses}
-use Rattle.c_rules.specs.Outcome.{Outcome}
-use Rattle.c_rules.specs.Units.{File, external, externals, typed_unit}
+use Rattle.c_rules.specs.Units.{externals, typed_unit}
 use Rattle.c_types.specs.View.{file_of}
-use Rattle.c_types.proofs.UnitLemmas.{refused_first}
+use Rattle.c_types.proofs.UnitLemmas.{external_typed, external_refused}
 use Rattle.c_types.proofs.units.File.of.Goals as goal
+
+pub loop-external-preserved : goal.loop-external-preserved
+loop-external-preserved c =
+    external_typed (file_of c.loop-external.file) (file_of c.external.new.self) (typed_unit (unit_of c.args.externals.now)) c.args.externals.now c.loop-external.external-index c.external-item.result
+    c.external-item.is c.loop-external-test.true c.loop-external.invariant c.in_ok-external.ensures
+
+pub returns : goal.returns
+returns c =
+    c.loop-external.invariant ∙ ap (λ l. externals (file_of c.loop-external.file) (unit_of l)) (drop_of_length-le c.args.externals.now c.loop-external-test.false)
 
 pub returns-in_err-external : goal.returns-in_err-external
 returns-in_err-external c =
-    let list = c.args.externals.now in
-    let n = c.loop-external.external-index in
-    let file = file_of c.loop-external.file in
-    let item = c.external-item.result in
-    let rest = λ (g : File). externals g (unit_of (drop (n + 1) list)) in
-    let here : typed_unit (unit_of list) ≡ externals file (unit_of (item ∷ drop (n + 1) list)) =
-    c.loop-external.invariant ∙ ap (λ l. externals file (unit_of l)) (drop_more list n item c.loop-external-test.true ∙ ap (λ x. x ∷ drop (n + 1) list) (sym c.external-item.is)) in
-    let P : Outcome File → Type 0 = λ o. Refuses o c.in_err-external.field-0.0 in
-    let h : P (typed_unit (unit_of list)) = subst P (sym here) (refused_first (external file (external_of item)) rest c.in_err-external.field-0.0 c.in_err-external.ensures) in
+    let whole = typed_unit (unit_of c.args.externals.now) in
+    let h : Refuses whole c.in_err-external.field-0.0 =
+    external_refused (file_of c.loop-external.file) whole c.args.externals.now c.loop-external.external-index c.external-item.result c.in_err-external.field-0.0
+    c.external-item.is c.loop-external-test.true c.loop-external.invariant c.in_err-external.ensures in
     search (rules, h)

@@ -12,13 +12,13 @@ use Rattle.c_types.proofs.UnitLemmas.{starts_refused, redeclared_refused, declar
 use Rattle.c_types.proofs.units.File.prototyped.Goals.{then-not-allowed-via-then-not-allowed, then-not-allowed-via-else-not-allowed+then-is_twice}
 use Rattle.c_types.proofs.units.File.prototyped.Goals as goal
 
-pub returns-in_err-starts : goal.returns-in_err-starts
-returns-in_err-starts c =
+pub returns-in_err-first_values : goal.returns-in_err-first_values
+returns-in_err-first_values c =
     let f = file_of c.args.self.now in
-    let h : Refuses (item_as f (declares.Function c.args.function) (item_of c.args.item.now)) c.in_err-starts.field-0.0 =
+    let h : Refuses (item_as f (declares.Function c.args.function) (item_of c.args.item.now)) c.in_err-first_values.field-0.0 =
     starts_refused f (item_of c.args.item.now) (declares.Function c.args.function) (scope_of c.declare_function.new.scopes) c.as_str.result.now (length f.statics) c.in_ok-allowed.allowed c.is_twice-is_twice.result
     c.as_str.ensures refl c.in_ok-allowed.ensures.declared c.in_ok-allowed.ensures.allowed c.is_twice-is_twice.ensures
-    c.in_err-starts.field-0.0 c.in_err-starts.ensures in
+    c.in_err-first_values.field-0.0 c.in_err-first_values.ensures in
     search (rules, h)
 
 pub returns-then-not-allowed : goal.returns-then-not-allowed
@@ -32,7 +32,7 @@ returns-then-not-allowed c =
     ] in
     redeclared_refused f (item_of c.args.item.now) (declares.Function c.args.function) (scope_of c.declare_function.new.scopes) c.as_str.result.now (length f.statics) allowed twice
     c.as_str.ensures refl c.in_ok-allowed.ensures.declared c.in_ok-allowed.ensures.allowed c.is_twice-is_twice.ensures
-    (starts_of c.in_ok-starts.field-0) c.in_ok-starts.ensures c.redeclared.result broken c.redeclared.ensures
+    (starts_of c.in_ok-first_values.field-0.value) c.in_ok-first_values.ensures c.redeclared.result broken c.redeclared.ensures
 
 pub returns-then-is_some : goal.returns-then-is_some
 returns-then-is_some c =
@@ -41,7 +41,7 @@ returns-then-is_some c =
     let twice = c.is_twice-is_twice.result in
     declared_refused f (item_of c.args.item.now) (declares.Function c.args.function) (scope_of c.declare_function.new.scopes) c.as_str.result.now (length f.statics) allowed twice
     c.as_str.ensures refl c.in_ok-allowed.ensures.declared c.in_ok-allowed.ensures.allowed c.is_twice-is_twice.ensures
-    (starts_of c.in_ok-starts.field-0) c.in_ok-starts.ensures c.mismatch.result (allowed_once allowed twice c.if-not-allowed.false c.if-is_twice.false)
+    (starts_of c.in_ok-first_values.field-0.value) c.in_ok-first_values.ensures c.mismatch.result (allowed_once allowed twice c.if-not-allowed.false c.if-is_twice.false)
     (breaks_mismatch _ _ _ _ (initial_given c.args.item.now.init c.is_some.result c.is_some.ensures ∙ c.if-is_some.true) c.mismatch.ensures)
 
 pub returns : goal.returns
@@ -51,5 +51,5 @@ returns c =
     let twice = c.is_twice-is_twice.result in
     declared_item f (item_of c.args.item.now) (declares.Function c.args.function) (scope_of c.declare_function.new.scopes) c.as_str.result.now (length f.statics) allowed twice
     c.as_str.ensures refl c.in_ok-allowed.ensures.declared c.in_ok-allowed.ensures.allowed c.is_twice-is_twice.ensures
-    (starts_of c.in_ok-starts.field-0) c.in_ok-starts.ensures (allowed_once allowed twice c.if-not-allowed.false c.if-is_twice.false)
+    (starts_of c.in_ok-first_values.field-0.value) c.in_ok-first_values.ensures (allowed_once allowed twice c.if-not-allowed.false c.if-is_twice.false)
     ∙ ap (λ b. breaks b Mismatch c.args.item.now.at (Is (file_of (record { scopes = c.declare_function.new.scopes; statics = c.args.self.now.statics; functions = c.args.self.now.functions })))) (initial_given c.args.item.now.init c.is_some.result c.is_some.ensures ∙ c.if-is_some.false)

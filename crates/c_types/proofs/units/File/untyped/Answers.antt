@@ -6,4 +6,4 @@ use Rattle.c_types.proofs.units.File.untyped.Goals as goal
 
 pub returns : goal.returns
 returns c =
-    untyped_refuses (file_of c.args.self.now) (item_of c.args.item.now) (starts_of c.in_default.field-0) c.without_type.result c.in_default.ensures c.without_type.ensures
+    untyped_refuses (file_of c.args.self.now) (item_of c.args.item.now) (starts_of c.in_default.field-0.value) c.without_type.result c.in_default.ensures c.without_type.ensures

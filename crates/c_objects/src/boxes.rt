@@ -6,7 +6,7 @@ use c_rules::Refusal;
 use std::alloc::Global;
 
 /// A tree in a box.
-pub(crate) fn boxed<T: Drop>(alloc: Global, tree: T) -> Result<Box<T>, Refusal>
+pub fn boxed<T: Drop>(alloc: Global, tree: T) -> Result<Box<T>, Refusal>
     ensures value { IfOk result (λ b. b.value ≡ tree) }
     ensures memory { IfErr result (λ f. f ≡ refusals.NoMemory) }
 {
@@ -14,7 +14,7 @@ pub(crate) fn boxed<T: Drop>(alloc: Global, tree: T) -> Result<Box<T>, Refusal>
 }
 
 /// Puts a tree behind others.
-pub(crate) fn add<T: Drop>(list: &mut Vec<T>, next: T) -> Result<(), Refusal>
+pub fn add<T: Drop>(list: &mut Vec<T>, next: T) -> Result<(), Refusal>
     ensures items { IfOk result (λ _. list.new.items ≡ list.old.items ++ next ∷ []) }
     ensures memory { IfErr result (λ f. f ≡ refusals.NoMemory) }
 {
