@@ -1,5 +1,5 @@
 -- Expressions without a word.
-use Rattle.std.proofs.Common.{◌≡◌, ◌≢◌, ℕ, None, refl}
+use Rattle.std.proofs.Common.{◌≡◌, ◌≢◌, ℕ, Option, Some, None, ap, sym, ◌∙◌, refl}
 use Rattle.std.specs.Prelude.{Box}
 use Rattle.std.specs.Global.{Global}
 use Rattle.c_syntax.specs.declared.operator.UnaryOp.{UnaryOp}
@@ -7,9 +7,10 @@ use Rattle.c_syntax.specs.declared.operator.BinaryOp.{BinaryOp}
 use Rattle.c_tree.specs.declared.typed_expression.TypedExpr.{TypedExpr}
 use Rattle.c_tree.specs.declared.typed_expression.ExprForm as form
 use Rattle.c_tree.specs.declared.typed_expression.ExprForm.{ExprForm}
-use Rattle.c_tree.specs.TypedTree.{Kind, Node}
-use Rattle.c_tree.specs.View.{form_of}
+use Rattle.c_tree.specs.TypedTree.{Expr, Kind, Node, Convert}
+use Rattle.c_tree.specs.View.{expr_of, form_of}
 use Rattle.c_rules.specs.Constants.{word_of}
+use Rattle.c_operands.specs.OperandView.{valued}
 
 abbrev Held : Type 0
 Held = Box TypedExpr Global
@@ -38,3 +39,22 @@ wordless (form.In port) kind at _ _ _ _ _ _ _ _ = refl
 wordless (form.Out' port p f m l) kind at _ _ _ _ _ _ _ _ = refl
 wordless (form.Comma' p f m l q g n i) kind at _ _ _ _ _ _ _ _ = refl
 wordless (form.Convert' p f m l) kind at _ _ _ _ _ _ _ not_convert = absurd (not_convert (record { ptr = p.ptr; alloc = p.alloc; value = record { form = f; kind = m; at = l } }) refl)
+
+-- the word of a form that is this one, and that of an expression that is this one
+pub of_shape : {f g : ExprForm} (kind : Kind) (at : ℕ) {word : Option ℕ} → f ≡ g → word ≡ word_of (Node (form_of g) kind at) → word ≡ word_of (Node (form_of f) kind at)
+of_shape kind at is found = found ∙ ap (λ shape. word_of (Node (form_of shape) kind at)) (sym is)
+
+pub held : {word : Option ℕ} {a b : TypedExpr} → word ≡ word_of (expr_of a) → a ≡ b → word ≡ word_of (expr_of b)
+held found is = found ∙ ap (λ e. word_of (expr_of e)) is
+
+-- a word by those of two and of three parts
+pub by_two : (f : Option ℕ → Option ℕ → Option ℕ) {a b c d : Option ℕ} → a ≡ c → b ≡ d → f a b ≡ f c d
+by_two f {b = b} {c = c} first second = ap (λ x. f x b) first ∙ ap (f c) second
+
+pub by_three : (f : Option ℕ → Option ℕ → Option ℕ → Option ℕ) {a b c x y z : Option ℕ} → a ≡ x → b ≡ y → c ≡ z → f a b c ≡ f x y z
+by_three f {c = c} {x = x} {y = y} first second third = by_two (λ p q. f p q c) first second ∙ ap (f x y) third
+
+-- that of a conversion
+pub of_conversion : (kind : Kind) (at : ℕ) (e : Expr) → valued kind (word_of e) ≡ word_of (Node (Convert e) kind at)
+of_conversion None at e = refl
+of_conversion (Some kind) at e = refl

@@ -1,5 +1,5 @@
 //! Types of values: ISO 9899:1990 6.1.2.5, 6.2.1.5 and 6.3.2.2.
-ghost use Rattle.std.specs.Prelude.{◌≡◌, ◌<◌, IfSome};
+ghost use Rattle.std.specs.Prelude.{◌≡◌, ◌<◌, ◌+◌, ◌^◌, SomeIff};
 ghost use Rattle.c_rules.specs.Kinds as kinds;
 
 use c_rules::Class;
@@ -79,7 +79,7 @@ pub(crate) fn common(a: ScalarType, b: ScalarType) -> ScalarType
 
 /// The type of a pointer to an object of this type, where its stars can be counted.
 pub fn pointer_to(kind: ScalarType) -> Option<ScalarType>
-    ensures { IfSome result (λ pointer. pointer ≡ kinds.pointer_to kind) }
+    ensures { SomeIff result (kind.stars + 1 < 2 ^ 32) (kinds.pointer_to kind) }
 {
     Some(ScalarType {
         base: kind.base,
