@@ -9,11 +9,12 @@ ghost use Rattle.c_syntax.specs.Measures.{greatest, expression_height, optional_
 ghost use Rattle.c_syntax.specs.SyntaxView.{expression_of, optional_of, declaration_of, body_of, part_before};
 ghost use Rattle.c_expressions.specs.declared.fault.Refusal.TheVariants as refusals;
 ghost use Rattle.c_expressions.specs.Front.{behind, mark_at, word_at};
-ghost use Rattle.c_expressions.specs.Fronts.{NoFront, OnlyTo};
+ghost use Rattle.c_expressions.specs.Fronts.{NoFront};
 ghost use Rattle.c_parser.specs.StatementFronts.{TestedFront, StatementFront, ReadsStatement, OptionalFront, DoTestFront, ForHeadFront, CaseFront, DefaultFront, PartFront, PartsFront, DeclarationsFront, BodyFront, holds_others, begins_statement};
 ghost use Rattle.c_expressions.specs.Refusals.{Refuses};
 ghost use Rattle.c_expressions.specs.Takes.{Takes, IsOne, Both};
 ghost use Rattle.c_parser.specs.StatementRows.{IsStatement, tree_of, parts_of, IsBody, IsDoEnd};
+ghost use Rattle.c_expressions.specs.Parts.{ReadsAny, ReadsPart, ReadsWhole};
 
 use crate::declarations::declaration;
 use crate::parts::{add, ended, kept};
@@ -73,11 +74,7 @@ pub(crate) fn statement(parser: &mut Parser<'_>, depth: u32) -> Result<Tall<Stmt
 #[cycle(statements)]
 fn inner(parser: &mut Parser<'_>, depth: u32) -> Result<Tall<Box<Stmt>>, Refusal>
     requires { depth ≤ greatest_height }
-    ensures tree { IfOk result (λ p. Takes (IsStatement (tree_of p.tree.value) parser.new.cursor) parser.old.cursor parser.new.cursor) }
-    ensures refused { IfErr result (Refuses (NoFront (StatementFront depth) parser.old.cursor)) }
-    ensures height { IfOk result (λ p. p.height ≡ statement_height (tree_of p.tree.value)) }
-    ensures room { IfOk result (λ p. depth + p.height ≤ greatest_height) }
-    ensures fewer { IfOk result (λ _. length parser.new.cursor < length parser.old.cursor) }
+    ensures { ReadsPart (λ t. IsStatement (tree_of t.value) parser.new.cursor) (StatementFront depth) (λ t. statement_height (tree_of t.value)) depth parser.old.cursor parser.new.cursor result }
 {
     let read = statement(parser, depth)?;
     boxed(parser.alloc, read)
@@ -181,11 +178,7 @@ fn optional(
 ) -> Result<Tall<Box<Option<Expr>>>, Refusal>
     requires low { depth ≤ greatest_height }
     requires ends { (end ≡ mark.Semicolon) ⊎ (end ≡ mark.CloseParen) }
-    ensures tree { IfOk result (λ p. Takes (Both (λ a. DerivesOptional ExpressionRow a (optional_of p.tree.value)) (IsOne (IsMark end))) parser.old.cursor parser.new.cursor) }
-    ensures refused { IfErr result (Refuses (NoFront (OptionalFront end depth) parser.old.cursor)) }
-    ensures height { IfOk result (λ p. p.height ≡ optional_height (optional_of p.tree.value)) }
-    ensures room { IfOk result (λ p. depth + p.height ≤ greatest_height) }
-    ensures fewer { IfOk result (λ _. length parser.new.cursor < length parser.old.cursor) }
+    ensures { ReadsPart (λ t. Both (λ a. DerivesOptional ExpressionRow a (optional_of t.value)) (IsOne (IsMark end))) (OptionalFront end depth) (λ t. optional_height (optional_of t.value)) depth parser.old.cursor parser.new.cursor result }
 {
     if parser.cursor.take(end) {
         let empty = kept(parser.alloc, None)?;
@@ -207,12 +200,7 @@ fn optional(
 // `(`, an expression and `)`. It is kept in its box while the rest of the statement is read.
 fn tested(parser: &mut Parser<'_>, depth: u32) -> Result<Tall<Box<Expr>>, Refusal>
     requires { depth ≤ greatest_height }
-    ensures tree { IfOk result (λ p. Takes (λ all. IsTested [] all (expression_of p.tree.value)) parser.old.cursor parser.new.cursor) }
-    ensures only { IfOk result (λ _. OnlyTo (TestedFront depth) parser.old.cursor parser.new.cursor) }
-    ensures refused { IfErr result (Refuses (NoFront (TestedFront depth) parser.old.cursor)) }
-    ensures height { IfOk result (λ p. p.height ≡ expression_height (expression_of p.tree.value)) }
-    ensures room { IfOk result (λ p. depth + p.height ≤ greatest_height) }
-    ensures fewer { IfOk result (λ _. length parser.new.cursor < length parser.old.cursor) }
+    ensures { ReadsWhole (λ t all. IsTested [] all (expression_of t.value)) (TestedFront depth) (λ t. expression_height (expression_of t.value)) depth parser.old.cursor parser.new.cursor result }
 {
     parser.cursor.expect(Punct::OpenParen)?;
     parser.allow(0, depth)?;
@@ -242,11 +230,7 @@ fn do_loop(parser: &mut Parser<'_>, depth: u32) -> Result<Tall<Stmt>, Refusal>
 // `while`, a test and `;` behind the body of a `do`.
 fn do_test(parser: &mut Parser<'_>, depth: u32) -> Result<Tall<Box<Expr>>, Refusal>
     requires { depth ≤ greatest_height }
-    ensures tree { IfOk result (λ p. Takes (IsDoEnd (expression_of p.tree.value)) parser.old.cursor parser.new.cursor) }
-    ensures refused { IfErr result (Refuses (NoFront (DoTestFront depth) parser.old.cursor)) }
-    ensures height { IfOk result (λ p. p.height ≡ expression_height (expression_of p.tree.value)) }
-    ensures room { IfOk result (λ p. depth + p.height ≤ greatest_height) }
-    ensures fewer { IfOk result (λ _. length parser.new.cursor < length parser.old.cursor) }
+    ensures { ReadsPart (λ t. IsDoEnd (expression_of t.value)) (DoTestFront depth) (λ t. expression_height (expression_of t.value)) depth parser.old.cursor parser.new.cursor result }
 {
     parser.cursor.expect_keyword(Keyword::While)?;
     let test = tested(parser, depth)?;
@@ -421,11 +405,7 @@ fn switch(parser: &mut Parser<'_>, depth: u32) -> Result<Tall<Stmt>, Refusal>
 #[cycle(statements)]
 fn switch_parts(parser: &mut Parser<'_>, depth: u32) -> Result<Tall<Vec<SwitchPart>>, Refusal>
     requires { depth < greatest_height }
-    ensures tree { IfOk result (λ p. Takes (Both (λ a. DerivesChoices a (parts_of p.tree.items)) (IsOne (IsMark mark.CloseBrace))) parser.old.cursor parser.new.cursor) }
-    ensures refused { IfErr result (Refuses (NoFront (PartsFront depth) parser.old.cursor)) }
-    ensures height { IfOk result (λ p. p.height ≡ 1 + choices_height (parts_of p.tree.items)) }
-    ensures room { IfOk result (λ p. depth + p.height ≤ greatest_height) }
-    ensures fewer { IfOk result (λ _. length parser.new.cursor < length parser.old.cursor) }
+    ensures { ReadsPart (λ t. Both (λ a. DerivesChoices a (parts_of t.items)) (IsOne (IsMark mark.CloseBrace))) (PartsFront depth) (λ t. 1 + choices_height (parts_of t.items)) depth parser.old.cursor parser.new.cursor result }
 {
     let mut parts = Vec::new(parser.alloc);
     let mut highest = 0u32;
@@ -444,12 +424,7 @@ fn switch_parts(parser: &mut Parser<'_>, depth: u32) -> Result<Tall<Vec<SwitchPa
 #[cycle(statements)]
 fn switch_part(parser: &mut Parser<'_>, depth: u32) -> Result<Tall<SwitchPart>, Refusal>
     requires { depth ≤ greatest_height }
-    ensures tree { IfOk result (λ p. Takes (λ a. DerivesChoices a (part_before p.tree no_choice)) parser.old.cursor parser.new.cursor) }
-    ensures only { IfOk result (λ _. OnlyTo (PartFront depth) parser.old.cursor parser.new.cursor) }
-    ensures refused { IfErr result (Refuses (NoFront (PartFront depth) parser.old.cursor)) }
-    ensures height { IfOk result (λ p. p.height ≡ choices_height (part_before p.tree no_choice)) }
-    ensures room { IfOk result (λ p. depth + p.height ≤ greatest_height) }
-    ensures fewer { IfOk result (λ _. length parser.new.cursor < length parser.old.cursor) }
+    ensures { ReadsWhole (λ t a. DerivesChoices a (part_before t no_choice)) (PartFront depth) (λ t. choices_height (part_before t no_choice)) depth parser.old.cursor parser.new.cursor result }
 {
     if parser.cursor.stands_word(Keyword::Default) {
         return default_label(parser, depth);
@@ -463,12 +438,7 @@ fn switch_part(parser: &mut Parser<'_>, depth: u32) -> Result<Tall<SwitchPart>, 
 
 fn default_label(parser: &mut Parser<'_>, depth: u32) -> Result<Tall<SwitchPart>, Refusal>
     requires { depth ≤ greatest_height }
-    ensures tree { IfOk result (λ p. Takes (λ a. DerivesChoices a (part_before p.tree no_choice)) parser.old.cursor parser.new.cursor) }
-    ensures only { IfOk result (λ _. OnlyTo DefaultFront parser.old.cursor parser.new.cursor) }
-    ensures refused { IfErr result (Refuses (NoFront DefaultFront parser.old.cursor)) }
-    ensures height { IfOk result (λ p. p.height ≡ choices_height (part_before p.tree no_choice)) }
-    ensures room { IfOk result (λ p. depth + p.height ≤ greatest_height) }
-    ensures fewer { IfOk result (λ _. length parser.new.cursor < length parser.old.cursor) }
+    ensures { ReadsWhole (λ t a. DerivesChoices a (part_before t no_choice)) DefaultFront (λ t. choices_height (part_before t no_choice)) depth parser.old.cursor parser.new.cursor result }
 {
     parser.cursor.expect_keyword(Keyword::Default)?;
     parser.cursor.expect(Punct::Colon)?;
@@ -480,12 +450,7 @@ fn default_label(parser: &mut Parser<'_>, depth: u32) -> Result<Tall<SwitchPart>
 
 fn case_label(parser: &mut Parser<'_>, depth: u32) -> Result<Tall<SwitchPart>, Refusal>
     requires { depth ≤ greatest_height }
-    ensures tree { IfOk result (λ p. Takes (λ a. DerivesChoices a (part_before p.tree no_choice)) parser.old.cursor parser.new.cursor) }
-    ensures only { IfOk result (λ _. OnlyTo (CaseFront depth) parser.old.cursor parser.new.cursor) }
-    ensures refused { IfErr result (Refuses (NoFront (CaseFront depth) parser.old.cursor)) }
-    ensures height { IfOk result (λ p. p.height ≡ choices_height (part_before p.tree no_choice)) }
-    ensures room { IfOk result (λ p. depth + p.height ≤ greatest_height) }
-    ensures fewer { IfOk result (λ _. length parser.new.cursor < length parser.old.cursor) }
+    ensures { ReadsWhole (λ t a. DerivesChoices a (part_before t no_choice)) (CaseFront depth) (λ t. choices_height (part_before t no_choice)) depth parser.old.cursor parser.new.cursor result }
 {
     parser.allow(0, depth)?;
     parser.cursor.expect_keyword(Keyword::Case)?;
@@ -538,12 +503,7 @@ pub(crate) fn body(parser: &mut Parser<'_>, depth: u32) -> Result<BlockBody, Ref
 // The declarations at the front of a block.
 fn declarations(parser: &mut Parser<'_>, depth: u32) -> Result<Tall<Vec<Decl>>, Refusal>
     requires { depth ≤ greatest_height }
-    ensures tree { IfOk result (λ p. Takes (λ all. DerivesDeclarations all (map declaration_of p.tree.items)) parser.old.cursor parser.new.cursor) }
-    ensures only { IfOk result (λ _. OnlyTo (DeclarationsFront depth) parser.old.cursor parser.new.cursor) }
-    ensures refused { IfErr result (Refuses (NoFront (DeclarationsFront depth) parser.old.cursor)) }
-    ensures height { IfOk result (λ p. p.height ≡ greatest (map declaration_height (map declaration_of p.tree.items))) }
-    ensures room { IfOk result (λ p. depth + p.height ≤ greatest_height) }
-    ensures no_more { IfOk result (λ _. length parser.new.cursor ≤ length parser.old.cursor) }
+    ensures { ReadsAny (λ t all. DerivesDeclarations all (map declaration_of t.items)) (DeclarationsFront depth) (λ t. greatest (map declaration_height (map declaration_of t.items))) depth parser.old.cursor parser.new.cursor result }
 {
     let mut declarations = Vec::new(parser.alloc);
     let mut highest = 0u32;

@@ -5,8 +5,8 @@ use Rattle.c_syntax.specs.Derives.{NoChoice}
 use Rattle.c_expressions.proofs.TakesLemmas.{nothing, joined, mark_taken, word_taken, took, took_word, not_there, kept, length_kept, ok_mapped}
 use Rattle.c_parser.proofs.StatementTaken.{same_taken, if_taken, if_else_taken, while_taken, for_taken, do_taken, switch_taken, block_taken, body_begun, body_ended, body_grown, body_height, parts_grown, parts_height, chosen_taken}
 use Rattle.c_parser.proofs.FrontLemmas.{first_fails, second_fails, second_never, fails_as, leads_as, one_leads, mark_fails, fails_kept, only_kept, leads_on, leads_from, leads_further, fails_on}
-use Rattle.c_expressions.proofs.Parts.{part_refused, part_unread}
-use Rattle.c_expressions.proofs.Refusals.{passed_on, goes_out}
+use Rattle.c_expressions.proofs.Parts.{part_refused, part_unread, whole_refused}
+use Rattle.c_expressions.proofs.Refusals.{passed_on, goes_out, memory_alone}
 use Rattle.c_parser.proofs.StatementWays.{while_ways, if_ways, else_fails, do_ways, for_ways, switch_ways, block_ways, tested_too_high, statement_too_high}
 use Rattle.c_parser.proofs.StatementLists.{body_ways, statements_ways, parts_ways, case_ways, default_ways, chosen_ways}
 use Rattle.c_parser.proofs.StatementOnly.{statement_only, for_head_only}
@@ -131,14 +131,33 @@ switch_parts-loop-parser-preserved t c =
       leads = leads_further c.loop-parser.invariant.leads (parts_ways c.args.depth _ (not_there c.take.ensures.taken c.loop-parser-test.true)) (only_kept k c.in_ok-part.ensures.only);
     }
 
-pub switch_parts-returns-clause-tree : goal.switch_parts-returns-clause-tree
-switch_parts-returns-clause-tree t c = joined c.loop-parser.invariant.tree (took c.take.ensures.taken c.take.ensures.left c.loop-parser-test.false)
+pub switch_parts-returns : goal.switch_parts-returns
+switch_parts-returns t c = record {
+  tree = joined c.loop-parser.invariant.tree (took c.take.ensures.taken c.take.ensures.left c.loop-parser-test.false);
+  refused = tt {0};
+  height = search rules;
+  room = search rules;
+  fewer = search rules;
+}
 
-pub inner-returns-clause-tree : goal.inner-returns-clause-tree
-inner-returns-clause-tree t c = ok_mapped c.boxed.result (λ p e. same_taken e c.in_ok-read.ensures.tree) c.boxed.ensures.tree
+pub inner-returns : goal.inner-returns
+inner-returns t c = record {
+  tree = ok_mapped c.boxed.result (λ p e. same_taken e c.in_ok-read.ensures.tree) c.boxed.ensures.tree;
+  refused = memory_alone _ c.boxed.result c.boxed.ensures.memory;
+  height = search rules;
+  room = search rules;
+  fewer = ok_mapped c.boxed.result (λ p e. c.in_ok-read.ensures.fewer) c.boxed.ensures.tree;
+}
 
-pub switch_part-returns-clause-tree : goal.switch_part-returns-clause-tree
-switch_part-returns-clause-tree t c = chosen_taken c.part_over.ensures.tree c.in_ok-statement.ensures.tree
+pub switch_part-returns : goal.switch_part-returns
+switch_part-returns t c = record {
+  tree = chosen_taken c.part_over.ensures.tree c.in_ok-statement.ensures.tree;
+  only = leads_as (chosen_ways c.args.depth _ (not_there c.stands_word-2.ensures c.if-stands_word-2.false) (not_there c.stands_word.ensures c.if-stands_word.false)) (statement_only c.in_ok-statement.ensures.tree);
+  refused = tt {0};
+  height = search rules;
+  room = search rules;
+  fewer = search rules;
+}
 
 pub choice-returns-in_err-allow : goal.choice-returns-in_err-allow
 choice-returns-in_err-allow t c = part_unread _ c.from_residual.result c.from_residual.ensures.1 (fails_as (if_ways c.args.depth _ c.requires.begun) (second_never (λ m. first_fails (tested_too_high (omega (arith, c.in_err-allow.ensures.refused))))))
@@ -230,27 +249,32 @@ body-returns-in_err-next-clause-refused t c =
     passed_on _ c.from_residual-in_err-next.result c.from_residual-in_err-next.ensures.1 c.in_err-next.ensures.refused
     (λ n. fails_on c.loop-parser.invariant.leads (fails_as (statements_ways (c.args.depth + 1) _ (not_there c.take.ensures.taken c.loop-parser-test.true)) (first_fails (fails_kept (kept c.take.ensures.left c.loop-parser-test.true) n))))
 
-pub switch_parts-returns-in_err-part-clause-refused : goal.switch_parts-returns-in_err-part-clause-refused
-switch_parts-returns-in_err-part-clause-refused t c =
-    passed_on _ c.from_residual.result c.from_residual.ensures.1 c.in_err-part.ensures.refused
+pub switch_parts-returns-in_err-part : goal.switch_parts-returns-in_err-part
+switch_parts-returns-in_err-part t c =
+    part_refused _ c.from_residual.result c.from_residual.ensures.1 c.in_err-part.ensures.refused
     (λ n. fails_on c.loop-parser.invariant.leads (fails_as (parts_ways c.args.depth _ (not_there c.take.ensures.taken c.loop-parser-test.true)) (first_fails (fails_kept (kept c.take.ensures.left c.loop-parser-test.true) n))))
 
-pub switch_part-returns-then-stands_word-clause-only : goal.switch_part-returns-then-stands_word-clause-only
-switch_part-returns-then-stands_word-clause-only t c = ok_mapped c.default_label.result (λ p o. leads_as (default_ways c.args.depth _ (c.stands_word.ensures.0 c.if-stands_word.true)) o) c.default_label.ensures.only
+pub switch_part-returns-then-stands_word : goal.switch_part-returns-then-stands_word
+switch_part-returns-then-stands_word t c = record {
+  tree = c.default_label.ensures.tree;
+  only = ok_mapped c.default_label.result (λ p o. leads_as (default_ways c.args.depth _ (c.stands_word.ensures.0 c.if-stands_word.true)) o) c.default_label.ensures.only;
+  refused = goes_out c.default_label.result (λ n. fails_as (default_ways c.args.depth _ (c.stands_word.ensures.0 c.if-stands_word.true)) n) c.default_label.ensures.refused;
+  height = c.default_label.ensures.height;
+  room = c.default_label.ensures.room;
+  fewer = c.default_label.ensures.fewer;
+}
 
-pub switch_part-returns-then-stands_word-clause-refused : goal.switch_part-returns-then-stands_word-clause-refused
-switch_part-returns-then-stands_word-clause-refused t c = goes_out c.default_label.result (λ n. fails_as (default_ways c.args.depth _ (c.stands_word.ensures.0 c.if-stands_word.true)) n) c.default_label.ensures.refused
+pub switch_part-returns-then-stands_word-2 : goal.switch_part-returns-then-stands_word-2
+switch_part-returns-then-stands_word-2 t c = record {
+  tree = c.case_label.ensures.tree;
+  only = ok_mapped c.case_label.result (λ p o. leads_as (case_ways c.args.depth _ (c.stands_word-2.ensures.0 c.if-stands_word-2.true)) o) c.case_label.ensures.only;
+  refused = goes_out c.case_label.result (λ n. fails_as (case_ways c.args.depth _ (c.stands_word-2.ensures.0 c.if-stands_word-2.true)) n) c.case_label.ensures.refused;
+  height = c.case_label.ensures.height;
+  room = c.case_label.ensures.room;
+  fewer = c.case_label.ensures.fewer;
+}
 
-pub switch_part-returns-then-stands_word-2-clause-only : goal.switch_part-returns-then-stands_word-2-clause-only
-switch_part-returns-then-stands_word-2-clause-only t c = ok_mapped c.case_label.result (λ p o. leads_as (case_ways c.args.depth _ (c.stands_word-2.ensures.0 c.if-stands_word-2.true)) o) c.case_label.ensures.only
-
-pub switch_part-returns-then-stands_word-2-clause-refused : goal.switch_part-returns-then-stands_word-2-clause-refused
-switch_part-returns-then-stands_word-2-clause-refused t c = goes_out c.case_label.result (λ n. fails_as (case_ways c.args.depth _ (c.stands_word-2.ensures.0 c.if-stands_word-2.true)) n) c.case_label.ensures.refused
-
-pub switch_part-returns-clause-only : goal.switch_part-returns-clause-only
-switch_part-returns-clause-only t c = leads_as (chosen_ways c.args.depth _ (not_there c.stands_word-2.ensures c.if-stands_word-2.false) (not_there c.stands_word.ensures c.if-stands_word.false)) (statement_only c.in_ok-statement.ensures.tree)
-
-pub switch_part-returns-in_err-statement-clause-refused : goal.switch_part-returns-in_err-statement-clause-refused
-switch_part-returns-in_err-statement-clause-refused t c =
-    passed_on _ c.from_residual.result c.from_residual.ensures.1 c.in_err-statement.ensures.refused
+pub switch_part-returns-in_err-statement : goal.switch_part-returns-in_err-statement
+switch_part-returns-in_err-statement t c =
+    whole_refused _ c.from_residual.result c.from_residual.ensures.1 c.in_err-statement.ensures.refused
     (λ n. fails_as (chosen_ways c.args.depth _ (not_there c.stands_word-2.ensures c.if-stands_word-2.false) (not_there c.stands_word.ensures c.if-stands_word.false)) n)
