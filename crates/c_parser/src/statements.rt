@@ -22,12 +22,11 @@ use c_expressions::{Parser, Refusal, Tall};
 use c_syntax::{Decl, Expr, Keyword, Punct, Stmt, StmtKind, SwitchPart};
 use std::alloc::Global;
 
-/// What stands between the braces of a block, with the height of the highest.
+/// What stands between the braces of a block.
 #[derive(Drop)]
 pub(crate) struct BlockBody {
     pub(crate) declarations: Vec<Decl>,
     pub(crate) statements: Vec<Stmt>,
-    pub(crate) highest: u32,
 }
 
 /// What stands between the parentheses of a `for`, with the height of the highest.
@@ -477,13 +476,9 @@ fn inner_block(parser: &mut Parser<'_>, depth: u32) -> Result<Tall<Stmt>, Refusa
 
 /// What stands behind the `{` of a block under so many nodes, and `}`.
 #[cycle(statements)]
-pub(crate) fn body(parser: &mut Parser<'_>, depth: u32) -> Result<BlockBody, Refusal>
+pub(crate) fn body(parser: &mut Parser<'_>, depth: u32) -> Result<Tall<BlockBody>, Refusal>
     requires { depth < greatest_height }
-    ensures tree { IfOk result (λ b. Takes (IsBody (map declaration_of b.declarations.items) (body_of b.statements.items)) parser.old.cursor parser.new.cursor) }
-    ensures refused { IfErr result (Refuses (NoFront (BodyFront depth) parser.old.cursor)) }
-    ensures height { IfOk result (λ b. b.highest ≡ max (greatest (map declaration_height (map declaration_of b.declarations.items))) (statements_height (body_of b.statements.items))) }
-    ensures room { IfOk result (λ b. depth + 1 + b.highest ≤ greatest_height) }
-    ensures fewer { IfOk result (λ _. length parser.new.cursor < length parser.old.cursor) }
+    ensures { ReadsPart (λ t. IsBody (map declaration_of t.declarations.items) (body_of t.statements.items)) (BodyFront depth) (λ t. 1 + max (greatest (map declaration_height (map declaration_of t.declarations.items))) (statements_height (body_of t.statements.items))) depth parser.old.cursor parser.new.cursor result }
 {
     let declarations = declarations(parser, depth + 1)?;
     let mut highest = declarations.height;
@@ -493,10 +488,12 @@ pub(crate) fn body(parser: &mut Parser<'_>, depth: u32) -> Result<BlockBody, Ref
         highest = highest.max(next.height);
         add(&mut statements, next.tree)?;
     }
-    Ok(BlockBody {
-        declarations: declarations.tree,
-        statements,
-        highest,
+    Ok(Tall {
+        tree: BlockBody {
+            declarations: declarations.tree,
+            statements,
+        },
+        height: highest + 1,
     })
 }
 
@@ -548,14 +545,16 @@ fn part_over(statement: Tall<Stmt>) -> Tall<SwitchPart>
     }
 }
 
-fn block_over(at: u32, body: BlockBody) -> Tall<Stmt>
-    requires { body.highest < greatest_height }
-    ensures tree { tree_of result.tree ≡ Block (map declaration_of body.declarations.items) (body_of body.statements.items) at }
-    ensures height { result.height ≡ 1 + body.highest }
+fn block_over(at: u32, body: Tall<BlockBody>) -> Tall<Stmt>
+    ensures tree { tree_of result.tree ≡ Block (map declaration_of body.tree.declarations.items) (body_of body.tree.statements.items) at }
+    ensures height { result.height ≡ body.height }
 {
     let kind = StmtKind::Block {
-        declarations: body.declarations,
-        statements: body.statements,
+        declarations: body.tree.declarations,
+        statements: body.tree.statements,
     };
-    over(kind, at, body.highest)
+    Tall {
+        tree: Stmt { kind, at },
+        height: body.height,
+    }
 }

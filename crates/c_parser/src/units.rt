@@ -93,15 +93,15 @@ fn function(
     let body_at = parser.cursor.place();
     parser.cursor.expect(Punct::OpenBrace)?;
     let body = body(parser, OVER_EXTERNAL + 1)?;
-    let parts = params.height.max(body.highest + 1);
+    let parts = params.height.max(body.height);
     Ok(Tall {
         tree: External::Function(FunctionDef {
             specs,
             stars,
             name,
             params: params.tree,
-            declarations: Items::new(body.declarations),
-            statements: Items::new(body.statements),
+            declarations: Items::new(body.tree.declarations),
+            statements: Items::new(body.tree.statements),
             body_at,
             at,
         }),

@@ -21,8 +21,8 @@ returns c = record {
     stars = c.args.stars;
     name = c.args.name;
     parameters = parameters_of c.args.params.tree;
-    declarations = map declaration_of c.in_ok-body.body.declarations.items;
-    statements = body_of c.in_ok-body.body.statements.items;
+    declarations = map declaration_of c.in_ok-body.body.tree.declarations.items;
+    statements = body_of c.in_ok-body.body.tree.statements.items;
     body_at = c.place-body_at.result;
     at = c.args.specs.at;
   } in
