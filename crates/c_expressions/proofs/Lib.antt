@@ -11,3 +11,4 @@ pub mod Insides
 pub mod OperandsRefuse
 pub mod WholeWays
 pub mod TakesLemmas
+pub mod Given

@@ -6,3 +6,4 @@ pub mod Parses
 pub mod Takes
 pub mod Fronts
 pub mod Parts
+pub mod Gives

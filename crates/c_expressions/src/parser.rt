@@ -164,7 +164,6 @@ impl<'a> Parser<'a> {
         all - self.cursor.left()
     }
 
-    #[tactic(auto, using(crate::proofs::Words::type_read))]
     pub(crate) fn type_name(&mut self) -> Result<TypeName, Refusal>
         ensures read { IfOk result (λ tree. ReadsType self.old.cursor (type_of tree) self.new.cursor) }
         ensures refused { IfErr result (Refuses (spec_of self.old.cursor ≡ None)) }

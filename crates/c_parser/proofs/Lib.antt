@@ -10,6 +10,7 @@ pub mod DeclarationWays
 pub mod ParameterWays
 pub mod StatementRows
 pub mod StatementTaken
+pub mod StatementHeights
 pub mod StatementOnly
 pub mod StatementWays
 pub mod StatementLists

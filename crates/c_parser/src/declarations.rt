@@ -12,6 +12,7 @@ ghost use Rattle.c_parser.specs.DeclarationFronts.{DeclarationFront, ItemFront, 
 ghost use Rattle.c_expressions.specs.Refusals.{Refuses};
 ghost use Rattle.c_expressions.specs.Takes.{Takes, IsOne, Both, Behind};
 ghost use Rattle.c_parser.specs.DeclarationRows.{IsItemFront, ListGoesOn};
+ghost use Rattle.c_expressions.specs.Parts.{ReadsAny, ReadsPart, ReadsWhole};
 
 use crate::parts::{add, both, ended, separated};
 use c_expressions::{Parser, Refusal, Tall};
@@ -24,11 +25,7 @@ const LEAF: u32 = 1;
 /// The row `declaration`, under so many nodes.
 pub(crate) fn declaration(parser: &mut Parser<'_>, depth: u32) -> Result<Tall<Decl>, Refusal>
     requires { depth + 2 < greatest_height }
-    ensures tree { IfOk result (λ p. Takes (λ all. DerivesDeclaration all (declaration_of p.tree)) parser.old.cursor parser.new.cursor) }
-    ensures height { IfOk result (λ p. p.height ≡ declaration_height (declaration_of p.tree)) }
-    ensures room { IfOk result (λ p. depth + p.height ≤ greatest_height) }
-    ensures fewer { IfOk result (λ _. length parser.new.cursor < length parser.old.cursor) }
-    ensures refused { IfErr result (Refuses (NoFront (DeclarationFront depth) parser.old.cursor)) }
+    ensures { ReadsPart (λ t all. DerivesDeclaration all (declaration_of t)) (DeclarationFront depth) (λ t. declaration_height (declaration_of t)) depth parser.old.cursor parser.new.cursor result }
 {
     let specs = parser.whole_specs()?;
     let first = item(parser, depth + 1)?;
@@ -45,11 +42,7 @@ pub(crate) fn declaration_from(
     requires low { depth + 2 < greatest_height }
     requires first_height { first.height ≡ item_height (item_of first.tree) }
     requires first_room { depth + 1 + first.height ≤ greatest_height }
-    ensures tree { IfOk result (λ p. Takes (Behind (Both (λ a. DerivesSpecs a (specs_of specs)) (λ a. DerivesItem a (item_of first.tree))) (λ all. DerivesDeclaration all (declaration_of p.tree))) parser.old.cursor parser.new.cursor) }
-    ensures height { IfOk result (λ p. p.height ≡ declaration_height (declaration_of p.tree)) }
-    ensures room { IfOk result (λ p. depth + p.height ≤ greatest_height) }
-    ensures fewer { IfOk result (λ _. length parser.new.cursor < length parser.old.cursor) }
-    ensures refused { IfErr result (Refuses (NoFront (Then (MoreItems (depth + 1)) (One (IsMark mark.Semicolon))) parser.old.cursor)) }
+    ensures { ReadsPart (λ t. Behind (Both (λ a. DerivesSpecs a (specs_of specs)) (λ a. DerivesItem a (item_of first.tree))) (λ all. DerivesDeclaration all (declaration_of t))) (Then (MoreItems (depth + 1)) (One (IsMark mark.Semicolon))) (λ t. declaration_height (declaration_of t)) depth parser.old.cursor parser.new.cursor result }
 {
     let at = specs.at;
     let items = items_from(parser, first, depth + 1)?;
@@ -98,12 +91,7 @@ fn items_from(
 // The row `item`.
 fn item(parser: &mut Parser<'_>, depth: u32) -> Result<Tall<Item>, Refusal>
     requires { depth + 1 < greatest_height }
-    ensures tree { IfOk result (λ p. Takes (λ all. DerivesItem all (item_of p.tree)) parser.old.cursor parser.new.cursor) }
-    ensures height { IfOk result (λ p. p.height ≡ item_height (item_of p.tree)) }
-    ensures room { IfOk result (λ p. depth + p.height ≤ greatest_height) }
-    ensures fewer { IfOk result (λ _. length parser.new.cursor < length parser.old.cursor) }
-    ensures only { IfOk result (λ _. OnlyTo (ItemFront depth) parser.old.cursor parser.new.cursor) }
-    ensures refused { IfErr result (Refuses (NoFront (ItemFront depth) parser.old.cursor)) }
+    ensures { ReadsWhole (λ t all. DerivesItem all (item_of t)) (ItemFront depth) (λ t. item_height (item_of t)) depth parser.old.cursor parser.new.cursor result }
 {
     let at = parser.cursor.place();
     let stars = parser.whole_stars();
@@ -136,12 +124,7 @@ pub(crate) fn item_from(
     requires low { depth + 1 < greatest_height }
     requires kind_height { kind.height ≡ item_form_height (item_form_of kind.tree) }
     requires kind_room { depth + 1 + kind.height ≤ greatest_height }
-    ensures tree { IfOk result (λ p. Takes (Behind (IsItemFront stars name (item_form_of kind.tree) at) (λ all. DerivesItem all (item_of p.tree))) parser.old.cursor parser.new.cursor) }
-    ensures height { IfOk result (λ p. p.height ≡ item_height (item_of p.tree)) }
-    ensures room { IfOk result (λ p. depth + p.height ≤ greatest_height) }
-    ensures no_more { IfOk result (λ _. length parser.new.cursor ≤ length parser.old.cursor) }
-    ensures only { IfOk result (λ _. OnlyTo (InitialiserFront (depth + 1)) parser.old.cursor parser.new.cursor) }
-    ensures refused { IfErr result (Refuses (NoFront (InitialiserFront (depth + 1)) parser.old.cursor)) }
+    ensures { ReadsAny (λ t. Behind (IsItemFront stars name (item_form_of kind.tree) at) (λ all. DerivesItem all (item_of t))) (InitialiserFront (depth + 1)) (λ t. item_height (item_of t)) depth parser.old.cursor parser.new.cursor result }
 {
     let init = initialiser(parser, depth + 1);
     let both = both(kind, init)?;
@@ -161,12 +144,7 @@ pub(crate) fn item_from(
 /// What stands behind the name of an item, if anything.
 pub(crate) fn item_kind(parser: &mut Parser<'_>, depth: u32) -> Result<Tall<ItemKind>, Refusal>
     requires { depth ≤ greatest_height }
-    ensures tree { IfOk result (λ p. Takes (λ all. DerivesForm all (item_form_of p.tree)) parser.old.cursor parser.new.cursor) }
-    ensures height { IfOk result (λ p. p.height ≡ item_form_height (item_form_of p.tree)) }
-    ensures room { IfOk result (λ p. depth + p.height ≤ greatest_height) }
-    ensures no_more { IfOk result (λ _. length parser.new.cursor ≤ length parser.old.cursor) }
-    ensures only { IfOk result (λ _. OnlyTo (FormFront depth) parser.old.cursor parser.new.cursor) }
-    ensures refused { IfErr result (Refuses (NoFront (FormFront depth) parser.old.cursor)) }
+    ensures { ReadsAny (λ t all. DerivesForm all (item_form_of t)) (FormFront depth) (λ t. item_form_height (item_form_of t)) depth parser.old.cursor parser.new.cursor result }
 {
     if parser.cursor.take(Punct::OpenParen) {
         let params = params(parser, depth)?;
@@ -192,12 +170,7 @@ pub(crate) fn item_kind(parser: &mut Parser<'_>, depth: u32) -> Result<Tall<Item
 // `[`, a length where there is one, and `]`.
 fn brackets(parser: &mut Parser<'_>, depth: u32) -> Result<Tall<Brackets>, Refusal>
     requires { depth ≤ greatest_height }
-    ensures tree { IfOk result (λ p. Takes (λ all. DerivesArray all (brackets_of p.tree)) parser.old.cursor parser.new.cursor) }
-    ensures height { IfOk result (λ p. p.height ≡ optional_height (brackets_of p.tree)) }
-    ensures room { IfOk result (λ p. depth + p.height ≤ greatest_height) }
-    ensures fewer { IfOk result (λ _. length parser.new.cursor < length parser.old.cursor) }
-    ensures only { IfOk result (λ _. OnlyTo (ArrayFront depth) parser.old.cursor parser.new.cursor) }
-    ensures refused { IfErr result (Refuses (NoFront (ArrayFront depth) parser.old.cursor)) }
+    ensures { ReadsWhole (λ t all. DerivesArray all (brackets_of t)) (ArrayFront depth) (λ t. optional_height (brackets_of t)) depth parser.old.cursor parser.new.cursor result }
 {
     parser.cursor.expect(Punct::OpenBracket)?;
     let length = array_length(parser, depth)?;
@@ -208,12 +181,7 @@ fn brackets(parser: &mut Parser<'_>, depth: u32) -> Result<Tall<Brackets>, Refus
 // A length before `]`, where there is one.
 fn array_length(parser: &mut Parser<'_>, depth: u32) -> Result<Tall<Brackets>, Refusal>
     requires { depth ≤ greatest_height }
-    ensures tree { IfOk result (λ p. Takes (λ all. DerivesOptional ConditionalRow all (brackets_of p.tree)) parser.old.cursor parser.new.cursor) }
-    ensures height { IfOk result (λ p. p.height ≡ optional_height (brackets_of p.tree)) }
-    ensures room { IfOk result (λ p. depth + p.height ≤ greatest_height) }
-    ensures no_more { IfOk result (λ _. length parser.new.cursor ≤ length parser.old.cursor) }
-    ensures only { IfOk result (λ _. OnlyTo (LengthFront depth) parser.old.cursor parser.new.cursor) }
-    ensures refused { IfErr result (Refuses (NoFront (LengthFront depth) parser.old.cursor)) }
+    ensures { ReadsAny (λ t all. DerivesOptional ConditionalRow all (brackets_of t)) (LengthFront depth) (λ t. optional_height (brackets_of t)) depth parser.old.cursor parser.new.cursor result }
 {
     if parser.cursor.stands(Punct::CloseBracket) {
         return Ok(Tall {
@@ -232,12 +200,7 @@ fn array_length(parser: &mut Parser<'_>, depth: u32) -> Result<Tall<Brackets>, R
 // `=` and an initialiser, where there are.
 fn initialiser(parser: &mut Parser<'_>, depth: u32) -> Result<Tall<Option<Init>>, Refusal>
     requires { depth ≤ greatest_height }
-    ensures tree { IfOk result (λ p. Takes (λ all. DerivesInitialiser all (initial_of p.tree)) parser.old.cursor parser.new.cursor) }
-    ensures height { IfOk result (λ p. p.height ≡ initial_height (initial_of p.tree)) }
-    ensures room { IfOk result (λ p. depth + p.height ≤ greatest_height) }
-    ensures no_more { IfOk result (λ _. length parser.new.cursor ≤ length parser.old.cursor) }
-    ensures only { IfOk result (λ _. OnlyTo (InitialiserFront depth) parser.old.cursor parser.new.cursor) }
-    ensures refused { IfErr result (Refuses (NoFront (InitialiserFront depth) parser.old.cursor)) }
+    ensures { ReadsAny (λ t all. DerivesInitialiser all (initial_of t)) (InitialiserFront depth) (λ t. initial_height (initial_of t)) depth parser.old.cursor parser.new.cursor result }
 {
     if !parser.cursor.take(Punct::Assign) {
         return Ok(Tall {
@@ -267,12 +230,7 @@ fn initialiser(parser: &mut Parser<'_>, depth: u32) -> Result<Tall<Option<Init>>
 // `{`, values, perhaps a comma, and `}`.
 fn braced(parser: &mut Parser<'_>, depth: u32) -> Result<Tall<Items<Expr>>, Refusal>
     requires { depth ≤ greatest_height }
-    ensures tree { IfOk result (λ p. Takes (λ all. DerivesInitial all (Braced (map expression_of p.tree) (place_of parser.old.cursor))) parser.old.cursor parser.new.cursor) }
-    ensures height { IfOk result (λ p. p.height ≡ 1 + greatest (map expression_height (map expression_of p.tree))) }
-    ensures room { IfOk result (λ p. depth + p.height ≤ greatest_height) }
-    ensures fewer { IfOk result (λ _. length parser.new.cursor < length parser.old.cursor) }
-    ensures only { IfOk result (λ _. OnlyTo (BracedFront depth) parser.old.cursor parser.new.cursor) }
-    ensures refused { IfErr result (Refuses (NoFront (BracedFront depth) parser.old.cursor)) }
+    ensures { ReadsWhole (λ t all. DerivesInitial all (Braced (map expression_of t) (place_of parser.old.cursor))) (BracedFront depth) (λ t. 1 + greatest (map expression_height (map expression_of t))) depth parser.old.cursor parser.new.cursor result }
 {
     parser.allow(1, depth)?;
     parser.cursor.expect(Punct::OpenBrace)?;
@@ -287,12 +245,7 @@ fn braced(parser: &mut Parser<'_>, depth: u32) -> Result<Tall<Items<Expr>>, Refu
 // Values with commas between them, and perhaps a comma before `}`.
 fn values(parser: &mut Parser<'_>, depth: u32) -> Result<Tall<Vec<Expr>>, Refusal>
     requires { depth < greatest_height }
-    ensures tree { IfOk result (λ p. Takes (Both (λ all. DerivesList all (map expression_of p.tree.items)) IsLastComma) parser.old.cursor parser.new.cursor) }
-    ensures height { IfOk result (λ p. p.height ≡ greatest (map expression_height (map expression_of p.tree.items))) }
-    ensures room { IfOk result (λ p. depth + p.height ≤ greatest_height) }
-    ensures fewer { IfOk result (λ _. length parser.new.cursor < length parser.old.cursor) }
-    ensures only { IfOk result (λ _. OnlyTo (ValuesFront depth) parser.old.cursor parser.new.cursor) }
-    ensures refused { IfErr result (Refuses (NoFront (ValuesFront depth) parser.old.cursor)) }
+    ensures { ReadsWhole (λ t. Both (λ all. DerivesList all (map expression_of t.items)) IsLastComma) (ValuesFront depth) (λ t. greatest (map expression_height (map expression_of t.items))) depth parser.old.cursor parser.new.cursor result }
 {
     let first = parser.whole_assignment(depth)?;
     let mut highest = first.height;
@@ -326,12 +279,7 @@ fn list_goes_on(parser: &mut Parser<'_>) -> bool
 /// The row `params`, before `)`.
 pub(crate) fn params(parser: &mut Parser<'_>, depth: u32) -> Result<Tall<Params>, Refusal>
     requires { depth ≤ greatest_height }
-    ensures tree { IfOk result (λ p. Takes (λ all. DerivesParameters all (parameters_of p.tree)) parser.old.cursor parser.new.cursor) }
-    ensures height { IfOk result (λ p. p.height ≡ parameters_height (parameters_of p.tree)) }
-    ensures room { IfOk result (λ p. depth + p.height ≤ greatest_height) }
-    ensures fewer { IfOk result (λ _. length parser.new.cursor < length parser.old.cursor) }
-    ensures only { IfOk result (λ _. OnlyTo (ParametersFront depth) parser.old.cursor parser.new.cursor) }
-    ensures refused { IfErr result (Refuses (NoFront (ParametersFront depth) parser.old.cursor)) }
+    ensures { ReadsWhole (λ t all. DerivesParameters all (parameters_of t)) (ParametersFront depth) (λ t. parameters_height (parameters_of t)) depth parser.old.cursor parser.new.cursor result }
 {
     let at = parser.cursor.place();
     if parser.cursor.is_void_alone() {
@@ -358,12 +306,7 @@ pub(crate) fn params(parser: &mut Parser<'_>, depth: u32) -> Result<Tall<Params>
 // Parameters with commas between them.
 fn param_list(parser: &mut Parser<'_>, depth: u32) -> Result<Tall<Vec<Param>>, Refusal>
     requires { depth ≤ greatest_height + 1 }
-    ensures tree { IfOk result (λ p. Takes (λ all. DerivesParameterList all (map parameter_of p.tree.items)) parser.old.cursor parser.new.cursor) }
-    ensures height { IfOk result (λ p. p.height ≡ greatest (map parameter_height (map parameter_of p.tree.items))) }
-    ensures room { IfOk result (λ p. depth + p.height ≤ greatest_height) }
-    ensures fewer { IfOk result (λ _. length parser.new.cursor < length parser.old.cursor) }
-    ensures only { IfOk result (λ _. OnlyTo (ParameterListFront depth) parser.old.cursor parser.new.cursor) }
-    ensures refused { IfErr result (Refuses (NoFront (ParameterListFront depth) parser.old.cursor)) }
+    ensures { ReadsWhole (λ t all. DerivesParameterList all (map parameter_of t.items)) (ParameterListFront depth) (λ t. greatest (map parameter_height (map parameter_of t.items))) depth parser.old.cursor parser.new.cursor result }
 {
     let first = param(parser, depth)?;
     let mut highest = first.height;
@@ -383,12 +326,7 @@ fn param_list(parser: &mut Parser<'_>, depth: u32) -> Result<Tall<Vec<Param>>, R
 // The row `param`, before `,` or `)`.
 fn param(parser: &mut Parser<'_>, depth: u32) -> Result<Tall<Param>, Refusal>
     requires { depth ≤ greatest_height + 1 }
-    ensures tree { IfOk result (λ p. Takes (λ all. DerivesParameter all (parameter_of p.tree)) parser.old.cursor parser.new.cursor) }
-    ensures height { IfOk result (λ p. p.height ≡ parameter_height (parameter_of p.tree)) }
-    ensures room { IfOk result (λ p. depth + p.height ≤ greatest_height) }
-    ensures fewer { IfOk result (λ _. length parser.new.cursor < length parser.old.cursor) }
-    ensures only { IfOk result (λ _. OnlyTo (ParameterFront depth) parser.old.cursor parser.new.cursor) }
-    ensures refused { IfErr result (Refuses (NoFront (ParameterFront depth) parser.old.cursor)) }
+    ensures { ReadsWhole (λ t all. DerivesParameter all (parameter_of t)) (ParameterFront depth) (λ t. parameter_height (parameter_of t)) depth parser.old.cursor parser.new.cursor result }
 {
     let at = parser.cursor.place();
     if parser.cursor.is_void_word() {
@@ -441,12 +379,7 @@ fn param_name(parser: &mut Parser<'_>) -> Result<Option<Text>, Refusal>
 // The brackets of a parameter, where there are.
 fn param_array(parser: &mut Parser<'_>, depth: u32) -> Result<Tall<Option<Brackets>>, Refusal>
     requires { depth ≤ greatest_height }
-    ensures tree { IfOk result (λ p. Takes (λ all. DerivesArrayMark all (array_of p.tree)) parser.old.cursor parser.new.cursor) }
-    ensures height { IfOk result (λ p. p.height ≡ array_height (array_of p.tree)) }
-    ensures room { IfOk result (λ p. depth + p.height ≤ greatest_height) }
-    ensures no_more { IfOk result (λ _. length parser.new.cursor ≤ length parser.old.cursor) }
-    ensures only { IfOk result (λ _. OnlyTo (ArrayMarkFront depth) parser.old.cursor parser.new.cursor) }
-    ensures refused { IfErr result (Refuses (NoFront (ArrayMarkFront depth) parser.old.cursor)) }
+    ensures { ReadsAny (λ t all. DerivesArrayMark all (array_of t)) (ArrayMarkFront depth) (λ t. array_height (array_of t)) depth parser.old.cursor parser.new.cursor result }
 {
     if !parser.cursor.stands(Punct::OpenBracket) {
         return Ok(Tall {

@@ -9,11 +9,12 @@ ghost use Rattle.c_syntax.specs.Measures.{greatest, expression_height, optional_
 ghost use Rattle.c_syntax.specs.SyntaxView.{expression_of, optional_of, declaration_of, body_of, part_before};
 ghost use Rattle.c_expressions.specs.declared.fault.Refusal.TheVariants as refusals;
 ghost use Rattle.c_expressions.specs.Front.{behind, mark_at, word_at};
-ghost use Rattle.c_expressions.specs.Fronts.{NoFront, OnlyTo};
+ghost use Rattle.c_expressions.specs.Fronts.{NoFront};
 ghost use Rattle.c_parser.specs.StatementFronts.{TestedFront, StatementFront, ReadsStatement, OptionalFront, DoTestFront, ForHeadFront, CaseFront, DefaultFront, PartFront, PartsFront, DeclarationsFront, BodyFront, holds_others, begins_statement};
 ghost use Rattle.c_expressions.specs.Refusals.{Refuses};
 ghost use Rattle.c_expressions.specs.Takes.{Takes, IsOne, Both};
 ghost use Rattle.c_parser.specs.StatementRows.{IsStatement, tree_of, parts_of, IsBody, IsDoEnd};
+ghost use Rattle.c_expressions.specs.Parts.{ReadsAny, ReadsPart, ReadsWhole};
 
 use crate::declarations::declaration;
 use crate::parts::{add, ended, kept};
@@ -21,12 +22,11 @@ use c_expressions::{Parser, Refusal, Tall};
 use c_syntax::{Decl, Expr, Keyword, Punct, Stmt, StmtKind, SwitchPart};
 use std::alloc::Global;
 
-/// What stands between the braces of a block, with the height of the highest.
+/// What stands between the braces of a block.
 #[derive(Drop)]
 pub(crate) struct BlockBody {
     pub(crate) declarations: Vec<Decl>,
     pub(crate) statements: Vec<Stmt>,
-    pub(crate) highest: u32,
 }
 
 /// What stands between the parentheses of a `for`, with the height of the highest.
@@ -73,11 +73,7 @@ pub(crate) fn statement(parser: &mut Parser<'_>, depth: u32) -> Result<Tall<Stmt
 #[cycle(statements)]
 fn inner(parser: &mut Parser<'_>, depth: u32) -> Result<Tall<Box<Stmt>>, Refusal>
     requires { depth ≤ greatest_height }
-    ensures tree { IfOk result (λ p. Takes (IsStatement (tree_of p.tree.value) parser.new.cursor) parser.old.cursor parser.new.cursor) }
-    ensures refused { IfErr result (Refuses (NoFront (StatementFront depth) parser.old.cursor)) }
-    ensures height { IfOk result (λ p. p.height ≡ statement_height (tree_of p.tree.value)) }
-    ensures room { IfOk result (λ p. depth + p.height ≤ greatest_height) }
-    ensures fewer { IfOk result (λ _. length parser.new.cursor < length parser.old.cursor) }
+    ensures { ReadsPart (λ t. IsStatement (tree_of t.value) parser.new.cursor) (StatementFront depth) (λ t. statement_height (tree_of t.value)) depth parser.old.cursor parser.new.cursor result }
 {
     let read = statement(parser, depth)?;
     boxed(parser.alloc, read)
@@ -181,11 +177,7 @@ fn optional(
 ) -> Result<Tall<Box<Option<Expr>>>, Refusal>
     requires low { depth ≤ greatest_height }
     requires ends { (end ≡ mark.Semicolon) ⊎ (end ≡ mark.CloseParen) }
-    ensures tree { IfOk result (λ p. Takes (Both (λ a. DerivesOptional ExpressionRow a (optional_of p.tree.value)) (IsOne (IsMark end))) parser.old.cursor parser.new.cursor) }
-    ensures refused { IfErr result (Refuses (NoFront (OptionalFront end depth) parser.old.cursor)) }
-    ensures height { IfOk result (λ p. p.height ≡ optional_height (optional_of p.tree.value)) }
-    ensures room { IfOk result (λ p. depth + p.height ≤ greatest_height) }
-    ensures fewer { IfOk result (λ _. length parser.new.cursor < length parser.old.cursor) }
+    ensures { ReadsPart (λ t. Both (λ a. DerivesOptional ExpressionRow a (optional_of t.value)) (IsOne (IsMark end))) (OptionalFront end depth) (λ t. optional_height (optional_of t.value)) depth parser.old.cursor parser.new.cursor result }
 {
     if parser.cursor.take(end) {
         let empty = kept(parser.alloc, None)?;
@@ -207,12 +199,7 @@ fn optional(
 // `(`, an expression and `)`. It is kept in its box while the rest of the statement is read.
 fn tested(parser: &mut Parser<'_>, depth: u32) -> Result<Tall<Box<Expr>>, Refusal>
     requires { depth ≤ greatest_height }
-    ensures tree { IfOk result (λ p. Takes (λ all. IsTested [] all (expression_of p.tree.value)) parser.old.cursor parser.new.cursor) }
-    ensures only { IfOk result (λ _. OnlyTo (TestedFront depth) parser.old.cursor parser.new.cursor) }
-    ensures refused { IfErr result (Refuses (NoFront (TestedFront depth) parser.old.cursor)) }
-    ensures height { IfOk result (λ p. p.height ≡ expression_height (expression_of p.tree.value)) }
-    ensures room { IfOk result (λ p. depth + p.height ≤ greatest_height) }
-    ensures fewer { IfOk result (λ _. length parser.new.cursor < length parser.old.cursor) }
+    ensures { ReadsWhole (λ t all. IsTested [] all (expression_of t.value)) (TestedFront depth) (λ t. expression_height (expression_of t.value)) depth parser.old.cursor parser.new.cursor result }
 {
     parser.cursor.expect(Punct::OpenParen)?;
     parser.allow(0, depth)?;
@@ -242,11 +229,7 @@ fn do_loop(parser: &mut Parser<'_>, depth: u32) -> Result<Tall<Stmt>, Refusal>
 // `while`, a test and `;` behind the body of a `do`.
 fn do_test(parser: &mut Parser<'_>, depth: u32) -> Result<Tall<Box<Expr>>, Refusal>
     requires { depth ≤ greatest_height }
-    ensures tree { IfOk result (λ p. Takes (IsDoEnd (expression_of p.tree.value)) parser.old.cursor parser.new.cursor) }
-    ensures refused { IfErr result (Refuses (NoFront (DoTestFront depth) parser.old.cursor)) }
-    ensures height { IfOk result (λ p. p.height ≡ expression_height (expression_of p.tree.value)) }
-    ensures room { IfOk result (λ p. depth + p.height ≤ greatest_height) }
-    ensures fewer { IfOk result (λ _. length parser.new.cursor < length parser.old.cursor) }
+    ensures { ReadsPart (λ t. IsDoEnd (expression_of t.value)) (DoTestFront depth) (λ t. expression_height (expression_of t.value)) depth parser.old.cursor parser.new.cursor result }
 {
     parser.cursor.expect_keyword(Keyword::While)?;
     let test = tested(parser, depth)?;
@@ -421,11 +404,7 @@ fn switch(parser: &mut Parser<'_>, depth: u32) -> Result<Tall<Stmt>, Refusal>
 #[cycle(statements)]
 fn switch_parts(parser: &mut Parser<'_>, depth: u32) -> Result<Tall<Vec<SwitchPart>>, Refusal>
     requires { depth < greatest_height }
-    ensures tree { IfOk result (λ p. Takes (Both (λ a. DerivesChoices a (parts_of p.tree.items)) (IsOne (IsMark mark.CloseBrace))) parser.old.cursor parser.new.cursor) }
-    ensures refused { IfErr result (Refuses (NoFront (PartsFront depth) parser.old.cursor)) }
-    ensures height { IfOk result (λ p. p.height ≡ 1 + choices_height (parts_of p.tree.items)) }
-    ensures room { IfOk result (λ p. depth + p.height ≤ greatest_height) }
-    ensures fewer { IfOk result (λ _. length parser.new.cursor < length parser.old.cursor) }
+    ensures { ReadsPart (λ t. Both (λ a. DerivesChoices a (parts_of t.items)) (IsOne (IsMark mark.CloseBrace))) (PartsFront depth) (λ t. 1 + choices_height (parts_of t.items)) depth parser.old.cursor parser.new.cursor result }
 {
     let mut parts = Vec::new(parser.alloc);
     let mut highest = 0u32;
@@ -444,12 +423,7 @@ fn switch_parts(parser: &mut Parser<'_>, depth: u32) -> Result<Tall<Vec<SwitchPa
 #[cycle(statements)]
 fn switch_part(parser: &mut Parser<'_>, depth: u32) -> Result<Tall<SwitchPart>, Refusal>
     requires { depth ≤ greatest_height }
-    ensures tree { IfOk result (λ p. Takes (λ a. DerivesChoices a (part_before p.tree no_choice)) parser.old.cursor parser.new.cursor) }
-    ensures only { IfOk result (λ _. OnlyTo (PartFront depth) parser.old.cursor parser.new.cursor) }
-    ensures refused { IfErr result (Refuses (NoFront (PartFront depth) parser.old.cursor)) }
-    ensures height { IfOk result (λ p. p.height ≡ choices_height (part_before p.tree no_choice)) }
-    ensures room { IfOk result (λ p. depth + p.height ≤ greatest_height) }
-    ensures fewer { IfOk result (λ _. length parser.new.cursor < length parser.old.cursor) }
+    ensures { ReadsWhole (λ t a. DerivesChoices a (part_before t no_choice)) (PartFront depth) (λ t. choices_height (part_before t no_choice)) depth parser.old.cursor parser.new.cursor result }
 {
     if parser.cursor.stands_word(Keyword::Default) {
         return default_label(parser, depth);
@@ -463,12 +437,7 @@ fn switch_part(parser: &mut Parser<'_>, depth: u32) -> Result<Tall<SwitchPart>, 
 
 fn default_label(parser: &mut Parser<'_>, depth: u32) -> Result<Tall<SwitchPart>, Refusal>
     requires { depth ≤ greatest_height }
-    ensures tree { IfOk result (λ p. Takes (λ a. DerivesChoices a (part_before p.tree no_choice)) parser.old.cursor parser.new.cursor) }
-    ensures only { IfOk result (λ _. OnlyTo DefaultFront parser.old.cursor parser.new.cursor) }
-    ensures refused { IfErr result (Refuses (NoFront DefaultFront parser.old.cursor)) }
-    ensures height { IfOk result (λ p. p.height ≡ choices_height (part_before p.tree no_choice)) }
-    ensures room { IfOk result (λ p. depth + p.height ≤ greatest_height) }
-    ensures fewer { IfOk result (λ _. length parser.new.cursor < length parser.old.cursor) }
+    ensures { ReadsWhole (λ t a. DerivesChoices a (part_before t no_choice)) DefaultFront (λ t. choices_height (part_before t no_choice)) depth parser.old.cursor parser.new.cursor result }
 {
     parser.cursor.expect_keyword(Keyword::Default)?;
     parser.cursor.expect(Punct::Colon)?;
@@ -480,12 +449,7 @@ fn default_label(parser: &mut Parser<'_>, depth: u32) -> Result<Tall<SwitchPart>
 
 fn case_label(parser: &mut Parser<'_>, depth: u32) -> Result<Tall<SwitchPart>, Refusal>
     requires { depth ≤ greatest_height }
-    ensures tree { IfOk result (λ p. Takes (λ a. DerivesChoices a (part_before p.tree no_choice)) parser.old.cursor parser.new.cursor) }
-    ensures only { IfOk result (λ _. OnlyTo (CaseFront depth) parser.old.cursor parser.new.cursor) }
-    ensures refused { IfErr result (Refuses (NoFront (CaseFront depth) parser.old.cursor)) }
-    ensures height { IfOk result (λ p. p.height ≡ choices_height (part_before p.tree no_choice)) }
-    ensures room { IfOk result (λ p. depth + p.height ≤ greatest_height) }
-    ensures fewer { IfOk result (λ _. length parser.new.cursor < length parser.old.cursor) }
+    ensures { ReadsWhole (λ t a. DerivesChoices a (part_before t no_choice)) (CaseFront depth) (λ t. choices_height (part_before t no_choice)) depth parser.old.cursor parser.new.cursor result }
 {
     parser.allow(0, depth)?;
     parser.cursor.expect_keyword(Keyword::Case)?;
@@ -512,13 +476,9 @@ fn inner_block(parser: &mut Parser<'_>, depth: u32) -> Result<Tall<Stmt>, Refusa
 
 /// What stands behind the `{` of a block under so many nodes, and `}`.
 #[cycle(statements)]
-pub(crate) fn body(parser: &mut Parser<'_>, depth: u32) -> Result<BlockBody, Refusal>
+pub(crate) fn body(parser: &mut Parser<'_>, depth: u32) -> Result<Tall<BlockBody>, Refusal>
     requires { depth < greatest_height }
-    ensures tree { IfOk result (λ b. Takes (IsBody (map declaration_of b.declarations.items) (body_of b.statements.items)) parser.old.cursor parser.new.cursor) }
-    ensures refused { IfErr result (Refuses (NoFront (BodyFront depth) parser.old.cursor)) }
-    ensures height { IfOk result (λ b. b.highest ≡ max (greatest (map declaration_height (map declaration_of b.declarations.items))) (statements_height (body_of b.statements.items))) }
-    ensures room { IfOk result (λ b. depth + 1 + b.highest ≤ greatest_height) }
-    ensures fewer { IfOk result (λ _. length parser.new.cursor < length parser.old.cursor) }
+    ensures { ReadsPart (λ t. IsBody (map declaration_of t.declarations.items) (body_of t.statements.items)) (BodyFront depth) (λ t. 1 + max (greatest (map declaration_height (map declaration_of t.declarations.items))) (statements_height (body_of t.statements.items))) depth parser.old.cursor parser.new.cursor result }
 {
     let declarations = declarations(parser, depth + 1)?;
     let mut highest = declarations.height;
@@ -528,22 +488,19 @@ pub(crate) fn body(parser: &mut Parser<'_>, depth: u32) -> Result<BlockBody, Ref
         highest = highest.max(next.height);
         add(&mut statements, next.tree)?;
     }
-    Ok(BlockBody {
-        declarations: declarations.tree,
-        statements,
-        highest,
+    Ok(Tall {
+        tree: BlockBody {
+            declarations: declarations.tree,
+            statements,
+        },
+        height: highest + 1,
     })
 }
 
 // The declarations at the front of a block.
 fn declarations(parser: &mut Parser<'_>, depth: u32) -> Result<Tall<Vec<Decl>>, Refusal>
     requires { depth ≤ greatest_height }
-    ensures tree { IfOk result (λ p. Takes (λ all. DerivesDeclarations all (map declaration_of p.tree.items)) parser.old.cursor parser.new.cursor) }
-    ensures only { IfOk result (λ _. OnlyTo (DeclarationsFront depth) parser.old.cursor parser.new.cursor) }
-    ensures refused { IfErr result (Refuses (NoFront (DeclarationsFront depth) parser.old.cursor)) }
-    ensures height { IfOk result (λ p. p.height ≡ greatest (map declaration_height (map declaration_of p.tree.items))) }
-    ensures room { IfOk result (λ p. depth + p.height ≤ greatest_height) }
-    ensures no_more { IfOk result (λ _. length parser.new.cursor ≤ length parser.old.cursor) }
+    ensures { ReadsAny (λ t all. DerivesDeclarations all (map declaration_of t.items)) (DeclarationsFront depth) (λ t. greatest (map declaration_height (map declaration_of t.items))) depth parser.old.cursor parser.new.cursor result }
 {
     let mut declarations = Vec::new(parser.alloc);
     let mut highest = 0u32;
@@ -588,14 +545,16 @@ fn part_over(statement: Tall<Stmt>) -> Tall<SwitchPart>
     }
 }
 
-fn block_over(at: u32, body: BlockBody) -> Tall<Stmt>
-    requires { body.highest < greatest_height }
-    ensures tree { tree_of result.tree ≡ Block (map declaration_of body.declarations.items) (body_of body.statements.items) at }
-    ensures height { result.height ≡ 1 + body.highest }
+fn block_over(at: u32, body: Tall<BlockBody>) -> Tall<Stmt>
+    ensures tree { tree_of result.tree ≡ Block (map declaration_of body.tree.declarations.items) (body_of body.tree.statements.items) at }
+    ensures height { result.height ≡ body.height }
 {
     let kind = StmtKind::Block {
-        declarations: body.declarations,
-        statements: body.statements,
+        declarations: body.tree.declarations,
+        statements: body.tree.statements,
     };
-    over(kind, at, body.highest)
+    Tall {
+        tree: Stmt { kind, at },
+        height: body.height,
+    }
 }

@@ -1,7 +1,6 @@
 //! Whole sources.
 ghost use Rattle.std.specs.Prelude.{◌≡◌, ◌+◌, ◌<◌, ◌≤◌, length, IfOk, IfErr};
 ghost use Rattle.c_syntax.specs.Lexes.{most_tokens};
-ghost use Rattle.c_syntax.specs.Grammar.{place_of};
 ghost use Rattle.c_syntax.specs.Derives.{DerivesSpecs, DerivesExternal};
 ghost use Rattle.c_syntax.specs.Measures.{parameters_height, item_form_height, external_height, greatest_height};
 ghost use Rattle.c_syntax.specs.SyntaxView.{specs_of, parameters_of, item_form_of, external_of, unit_of};
@@ -9,10 +8,10 @@ ghost use Rattle.c_syntax.specs.declared.decl.ItemKind.TheVariants as functions;
 ghost use Rattle.c_syntax.specs.Source.{IsSource, NoSource, IsPlace, end_of};
 ghost use Rattle.c_parser.specs.ParseFaults.{Says};
 ghost use Rattle.c_expressions.specs.Refusals.{Refuses};
-ghost use Rattle.c_expressions.specs.Fronts.{NoFront};
-ghost use Rattle.c_expressions.specs.Takes.{Takes, Both, Behind};
+ghost use Rattle.c_expressions.specs.Takes.{Both, Behind};
 ghost use Rattle.c_parser.specs.DeclarationRows.{IsItemFront};
 ghost use Rattle.c_parser.specs.UnitFronts.{ExternalFront, IsListed, ListedFront, DeclarationEnd, FunctionEnd, IsFunctionHead};
+ghost use Rattle.c_expressions.specs.Parts.{ReadsPart};
 
 use crate::declarations::{declaration_from, item_from, item_kind, name, params};
 use crate::fault::ParseFault;
@@ -28,11 +27,7 @@ const OVER_EXTERNAL: u32 = 1;
 
 // The row `external`: a function where a body follows its parameters.
 fn external(parser: &mut Parser<'_>) -> Result<Tall<External>, Refusal>
-    ensures tree { IfOk result (λ p. Takes (λ all. DerivesExternal all (external_of p.tree)) parser.old.cursor parser.new.cursor) }
-    ensures height { IfOk result (λ p. p.height ≡ external_height (external_of p.tree)) }
-    ensures room { IfOk result (λ p. 1 + p.height ≤ greatest_height) }
-    ensures fewer { IfOk result (λ _. length parser.new.cursor < length parser.old.cursor) }
-    ensures refused { IfErr result (Refuses (NoFront ExternalFront parser.old.cursor)) }
+    ensures { ReadsPart (λ t all. DerivesExternal all (external_of t)) ExternalFront (λ t. external_height (external_of t)) 1 parser.old.cursor parser.new.cursor result }
 {
     let specs = parser.whole_specs()?;
     let item_at = parser.cursor.place();
@@ -53,11 +48,7 @@ fn external(parser: &mut Parser<'_>) -> Result<Tall<External>, Refusal>
 // Parameters in their parentheses.
 fn listed(parser: &mut Parser<'_>, depth: u32) -> Result<Tall<Params>, Refusal>
     requires { depth ≤ greatest_height }
-    ensures tree { IfOk result (λ p. Takes (λ all. IsListed all (parameters_of p.tree)) parser.old.cursor parser.new.cursor) }
-    ensures height { IfOk result (λ p. p.height ≡ parameters_height (parameters_of p.tree)) }
-    ensures room { IfOk result (λ p. depth + p.height ≤ greatest_height) }
-    ensures fewer { IfOk result (λ _. length parser.new.cursor < length parser.old.cursor) }
-    ensures refused { IfErr result (Refuses (NoFront (ListedFront depth) parser.old.cursor)) }
+    ensures { ReadsPart (λ t all. IsListed all (parameters_of t)) (ListedFront depth) (λ t. parameters_height (parameters_of t)) depth parser.old.cursor parser.new.cursor result }
 {
     parser.cursor.expect(Punct::OpenParen)?;
     let params = params(parser, depth)?;
@@ -76,11 +67,7 @@ fn declared(
 ) -> Result<Tall<External>, Refusal>
     requires kind_height { kind.height ≡ item_form_height (item_form_of kind.tree) }
     requires kind_room { 3 + kind.height ≤ greatest_height }
-    ensures tree { IfOk result (λ p. Takes (Behind (Both (λ a. DerivesSpecs a (specs_of specs)) (IsItemFront stars name (item_form_of kind.tree) item_at)) (λ all. DerivesExternal all (external_of p.tree))) parser.old.cursor parser.new.cursor) }
-    ensures height { IfOk result (λ p. p.height ≡ external_height (external_of p.tree)) }
-    ensures room { IfOk result (λ p. 1 + p.height ≤ greatest_height) }
-    ensures fewer { IfOk result (λ _. length parser.new.cursor < length parser.old.cursor) }
-    ensures refused { IfErr result (Refuses (NoFront DeclarationEnd parser.old.cursor)) }
+    ensures { ReadsPart (λ t. Behind (Both (λ a. DerivesSpecs a (specs_of specs)) (IsItemFront stars name (item_form_of kind.tree) item_at)) (λ all. DerivesExternal all (external_of t))) DeclarationEnd (λ t. external_height (external_of t)) 1 parser.old.cursor parser.new.cursor result }
 {
     let first = item_from(parser, item_at, stars, name, kind, OVER_EXTERNAL + 1)?;
     let declaration = declaration_from(parser, specs, first, OVER_EXTERNAL)?;
@@ -100,25 +87,21 @@ fn function(
 ) -> Result<Tall<External>, Refusal>
     requires params_height { params.height ≡ parameters_height (parameters_of params.tree) }
     requires params_room { 2 + params.height ≤ greatest_height }
-    ensures tree { IfOk result (λ p. Takes (Behind (IsFunctionHead (specs_of specs) stars name (parameters_of params.tree)) (λ all. DerivesExternal all (external_of p.tree))) parser.old.cursor parser.new.cursor) }
-    ensures height { IfOk result (λ p. p.height ≡ external_height (external_of p.tree)) }
-    ensures room { IfOk result (λ p. 1 + p.height ≤ greatest_height) }
-    ensures fewer { IfOk result (λ _. length parser.new.cursor < length parser.old.cursor) }
-    ensures refused { IfErr result (Refuses (NoFront FunctionEnd parser.old.cursor)) }
+    ensures { ReadsPart (λ t. Behind (IsFunctionHead (specs_of specs) stars name (parameters_of params.tree)) (λ all. DerivesExternal all (external_of t))) FunctionEnd (λ t. external_height (external_of t)) 1 parser.old.cursor parser.new.cursor result }
 {
     let at = specs.at;
     let body_at = parser.cursor.place();
     parser.cursor.expect(Punct::OpenBrace)?;
     let body = body(parser, OVER_EXTERNAL + 1)?;
-    let parts = params.height.max(body.highest + 1);
+    let parts = params.height.max(body.height);
     Ok(Tall {
         tree: External::Function(FunctionDef {
             specs,
             stars,
             name,
             params: params.tree,
-            declarations: Items::new(body.declarations),
-            statements: Items::new(body.statements),
+            declarations: Items::new(body.tree.declarations),
+            statements: Items::new(body.tree.statements),
             body_at,
             at,
         }),

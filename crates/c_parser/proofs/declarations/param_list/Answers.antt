@@ -1,11 +1,11 @@
-use Rattle.std.proofs.Common.{arith}
+use Rattle.std.proofs.Common.{arith, rules}
 use Rattle.c_syntax.specs.declared.token.Punct.TheVariants as mark
 use Rattle.c_syntax.specs.SyntaxView.{parameter_of}
 use Rattle.c_syntax.specs.Measures.{parameter_height}
 use Rattle.c_syntax.specs.Derives.{DerivesParameterList, LastParameter}
+use Rattle.c_expressions.proofs.Parts.{whole_refused}
 use Rattle.c_parser.proofs.Lists.{begun, grown, height_begun, height_grown, with_comma, parameters_more}
 use Rattle.c_parser.proofs.FrontLemmas.{first_fails, fails_as, only_stays, leads_from, fails_on, only_on}
-use Rattle.c_expressions.proofs.Refusals.{passed_on}
 use Rattle.c_parser.proofs.ListWays.{next_fails, next_leads, list_ends, no_end}
 use Rattle.c_parser.proofs.ParameterWays.{parameter_list_ways}
 use Rattle.c_expressions.proofs.TakesLemmas.{mapped, took, gone, kept, not_there, one_fewer}
@@ -30,16 +30,23 @@ loop-parser-preserved c = let comma = c.take.ensures.taken.0 c.loop-parser-test.
   leads = next_leads c.loop-parser.invariant.leads comma (no_end mark.CloseParen (λ k. cc) comma) (gone c.loop-parser.parser.cursor c.take.ensures.left c.loop-parser-test.true) (parameter_list_ways c.args.depth _) c.in_ok-next.ensures.only;
 }
 
-pub returns-in_err-first-clause-refused : goal.returns-in_err-first-clause-refused
-returns-in_err-first-clause-refused c =
-    passed_on _ c.from_residual.result c.from_residual.ensures.1 c.in_err-first.ensures.refused
+pub returns-in_err-first : goal.returns-in_err-first
+returns-in_err-first c =
+    whole_refused _ c.from_residual.result c.from_residual.ensures.1 c.in_err-first.ensures.refused
     (λ n. fails_as (parameter_list_ways c.args.depth _) (first_fails n))
 
-pub returns-in_err-next-clause-refused : goal.returns-in_err-next-clause-refused
-returns-in_err-next-clause-refused c =
+pub returns-in_err-next : goal.returns-in_err-next
+returns-in_err-next c =
     let comma = c.take.ensures.taken.0 c.loop-parser-test.true in
-    passed_on _ c.from_residual-in_err-next.result c.from_residual-in_err-next.ensures.1 c.in_err-next.ensures.refused
+    whole_refused _ c.from_residual-in_err-next.result c.from_residual-in_err-next.ensures.1 c.in_err-next.ensures.refused
     (λ n. fails_on c.loop-parser.invariant.leads (next_fails comma (no_end mark.CloseParen (λ k. cc) comma) (gone c.loop-parser.parser.cursor c.take.ensures.left c.loop-parser-test.true) (parameter_list_ways c.args.depth _) n))
 
-pub returns-clause-only : goal.returns-clause-only
-returns-clause-only c = only_on c.loop-parser.invariant.leads (only_stays (kept c.take.ensures.left c.loop-parser-test.false) (list_ends (not_there c.take.ensures.taken c.loop-parser-test.false)))
+pub returns : goal.returns
+returns c = record {
+  tree = search rules;
+  only = only_on c.loop-parser.invariant.leads (only_stays (kept c.take.ensures.left c.loop-parser-test.false) (list_ends (not_there c.take.ensures.taken c.loop-parser-test.false)));
+  refused = tt {0};
+  height = search rules;
+  room = search rules;
+  fewer = search rules;
+}

@@ -1,10 +1,10 @@
-use Rattle.std.proofs.Common.{arith}
+use Rattle.std.proofs.Common.{arith, rules}
 use Rattle.c_syntax.specs.SyntaxView.{expression_of}
 use Rattle.c_syntax.specs.Measures.{expression_height}
 use Rattle.c_syntax.specs.Derives.{DerivesList, LastOfList}
+use Rattle.c_expressions.proofs.Parts.{whole_refused}
 use Rattle.c_parser.proofs.Lists.{begun, grown, height_begun, height_grown, with_comma, list_more}
 use Rattle.c_parser.proofs.FrontLemmas.{first_fails, fails_as, leads_from, fails_on, only_on}
-use Rattle.c_expressions.proofs.Refusals.{passed_on}
 use Rattle.c_parser.proofs.ListWays.{next_fails, next_leads}
 use Rattle.c_parser.proofs.ValueWays.{values_ways, values_over, values_go}
 use Rattle.c_expressions.proofs.TakesLemmas.{mapped, joined}
@@ -28,19 +28,23 @@ loop-parser-preserved c = let more = c.list_goes_on.ensures.more c.loop-parser-t
   leads = next_leads c.loop-parser.invariant.leads more.0 (values_go more.0 more.1 more.2) more.1 (values_ways c.args.depth _) c.in_ok-next.ensures.only;
 }
 
-pub returns-clause-tree : goal.returns-clause-tree
-returns-clause-tree c = joined c.loop-parser.invariant.tree c.loop-parser-test.ensures.tree
+pub returns : goal.returns
+returns c = record {
+  tree = joined c.loop-parser.invariant.tree c.loop-parser-test.ensures.tree;
+  only = only_on c.loop-parser.invariant.leads (values_over (c.list_goes_on.ensures.ended c.loop-parser-test.false));
+  refused = tt {0};
+  height = search rules;
+  room = search rules;
+  fewer = search rules;
+}
 
-pub returns-in_err-first-clause-refused : goal.returns-in_err-first-clause-refused
-returns-in_err-first-clause-refused c =
-    passed_on _ c.from_residual.result c.from_residual.ensures.1 c.in_err-first.ensures.refused
+pub returns-in_err-first : goal.returns-in_err-first
+returns-in_err-first c =
+    whole_refused _ c.from_residual.result c.from_residual.ensures.1 c.in_err-first.ensures.refused
     (λ n. fails_as (values_ways c.args.depth _) (first_fails n))
 
-pub returns-in_err-next-clause-refused : goal.returns-in_err-next-clause-refused
-returns-in_err-next-clause-refused c =
+pub returns-in_err-next : goal.returns-in_err-next
+returns-in_err-next c =
     let more = c.list_goes_on.ensures.more c.loop-parser-test.true in
-    passed_on _ c.from_residual-in_err-next.result c.from_residual-in_err-next.ensures.1 c.in_err-next.ensures.refused
+    whole_refused _ c.from_residual-in_err-next.result c.from_residual-in_err-next.ensures.1 c.in_err-next.ensures.refused
     (λ n. fails_on c.loop-parser.invariant.leads (next_fails more.0 (values_go more.0 more.1 more.2) more.1 (values_ways c.args.depth _) n))
-
-pub returns-clause-only : goal.returns-clause-only
-returns-clause-only c = only_on c.loop-parser.invariant.leads (values_over (c.list_goes_on.ensures.ended c.loop-parser-test.false))

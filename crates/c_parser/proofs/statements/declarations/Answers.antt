@@ -1,11 +1,11 @@
-use Rattle.std.proofs.Common.{refl, arith}
+use Rattle.std.proofs.Common.{refl, arith, rules}
 use Rattle.c_syntax.specs.Derives.{DerivesDeclarations, NoDeclaration}
 use Rattle.c_syntax.specs.Measures.{declaration_height}
 use Rattle.c_syntax.specs.SyntaxView.{declaration_of}
 use Rattle.c_expressions.proofs.TakesLemmas.{nothing}
+use Rattle.c_expressions.proofs.Parts.{any_refused, any_unread}
 use Rattle.c_parser.proofs.Lists.{grown, height_grown, with_next, declarations_more}
 use Rattle.c_parser.proofs.FrontLemmas.{first_fails, fails_as, leads_on, leads_further, fails_on, only_on}
-use Rattle.c_expressions.proofs.Refusals.{passed_on, known_to}
 use Rattle.c_parser.proofs.FrontTokens.{spec_stands, spec_wanting}
 use Rattle.c_parser.proofs.StatementLists.{declaration_too_high, declarations_ways, declarations_end}
 use Rattle.c_parser.proofs.StatementOnly.{declaration_only}
@@ -29,15 +29,22 @@ loop-parser-preserved c = record {
   leads = leads_further c.loop-parser.invariant.leads (declarations_ways c.args.depth _ (spec_stands _ c.is_some.ensures c.spec_word.ensures c.loop-parser-test.true)) (declaration_only c.in_ok-next.ensures.tree);
 }
 
-pub returns-in_err-allow-clause-refused : goal.returns-in_err-allow-clause-refused
-returns-in_err-allow-clause-refused c =
-    known_to c.from_residual.result
+pub returns-in_err-allow : goal.returns-in_err-allow
+returns-in_err-allow c =
+    any_unread _ c.from_residual.result c.from_residual.ensures.1
     (fails_on c.loop-parser.invariant.leads (fails_as (declarations_ways c.args.depth _ (spec_stands _ c.is_some.ensures c.spec_word.ensures c.loop-parser-test.true)) (first_fails (declaration_too_high (omega (arith, c.in_err-allow.ensures.refused))))))
 
-pub returns-in_err-next-clause-refused : goal.returns-in_err-next-clause-refused
-returns-in_err-next-clause-refused c =
-    passed_on _ c.from_residual-in_err-next.result c.from_residual-in_err-next.ensures.1 c.in_err-next.ensures.refused
+pub returns-in_err-next : goal.returns-in_err-next
+returns-in_err-next c =
+    any_refused _ c.from_residual-in_err-next.result c.from_residual-in_err-next.ensures.1 c.in_err-next.ensures.refused
     (λ n. fails_on c.loop-parser.invariant.leads (fails_as (declarations_ways c.args.depth _ (spec_stands _ c.is_some.ensures c.spec_word.ensures c.loop-parser-test.true)) (first_fails n)))
 
-pub returns-clause-only : goal.returns-clause-only
-returns-clause-only c = only_on c.loop-parser.invariant.leads (declarations_end (spec_wanting _ c.is_some.ensures c.spec_word.ensures c.loop-parser-test.false))
+pub returns : goal.returns
+returns c = record {
+  tree = search rules;
+  only = only_on c.loop-parser.invariant.leads (declarations_end (spec_wanting _ c.is_some.ensures c.spec_word.ensures c.loop-parser-test.false));
+  refused = tt {0};
+  height = search rules;
+  room = search rules;
+  no_more = search rules;
+}

@@ -3,9 +3,9 @@ use Rattle.c_expressions.proofs.Firsts.{constant_read}
 use Rattle.c_expressions.proofs.Refusals.{memory_alone}
 use Rattle.c_expressions.proofs.parser.Parser.constant.Goals as goal
 
-pub returns-clause-parsed : goal.returns-clause-parsed
-returns-clause-parsed c = IfOk-weaker c.node.result _ _
-    (λ p n. constant_read _ _ c.in-Some.kind.now c.in-Some-constant_of.constant c.place-at.result p c.skip.ensures.behind c.in-Some.ensures c.in-Some-constant_of.ensures c.place-at.ensures n) c.node.ensures.node
-
-pub returns-clause-refused : goal.returns-clause-refused
-returns-clause-refused c = memory_alone _ c.node.result c.node.ensures.memory
+pub returns : goal.returns
+returns c = record {
+  parsed = IfOk-weaker c.node.result _ _
+      (λ p n. constant_read _ _ c.in-Some.kind.now c.in-Some-constant_of.constant c.place-at.result p c.skip.ensures.behind c.in-Some.ensures c.in-Some-constant_of.ensures c.place-at.ensures n) c.node.ensures.node;
+  refused = memory_alone _ c.node.result c.node.ensures.memory;
+}

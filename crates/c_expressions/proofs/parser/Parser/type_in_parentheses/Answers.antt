@@ -1,9 +1,9 @@
 use Rattle.c_syntax.specs.SyntaxView.{type_of}
-use Rattle.c_expressions.proofs.Refusals.{known_to}
+use Rattle.c_expressions.proofs.Given.{given_unread}
 use Rattle.c_expressions.proofs.OperandsRefuse.{type_not_closed}
 use Rattle.c_expressions.proofs.parser.Parser.type_in_parentheses.Goals as goal
 
-pub returns-in_err-expect-clause-refused : goal.returns-in_err-expect-clause-refused
-returns-in_err-expect-clause-refused c =
+pub returns-in_err-expect : goal.returns-in_err-expect
+returns-in_err-expect c =
     let q = rw c.skip.ensures.behind at c.in_ok-type_name.ensures.read in
-    known_to c.from_residual-in_err-expect.result (type_not_closed c.args.self.now.cursor _ (type_of c.in_ok-type_name.type_name) q c.in_err-expect.ensures.refused)
+    given_unread _ c.from_residual-in_err-expect.result c.from_residual-in_err-expect.ensures.1 (type_not_closed c.args.self.now.cursor _ (type_of c.in_ok-type_name.type_name) q c.in_err-expect.ensures.refused)
