@@ -1,9 +1,7 @@
 -- From what `clap` says of its matches to what the words ask for.
 use Rattle.std.proofs.Common.{◌≡◌, ◌<◌, ◌∙◌, arith, ℕ, Bool, true, false, refl, sym, ap, subst, List, [], ◌∷◌, Option, Some, None, Result, Ok, Err, codes, cond, option_map}
-use Rattle.std.specs.Prelude.{◌^◌, option_and_then, slice_get, unwrap_or, ℤ, pos, String, string_bytes}
+use Rattle.std.specs.Prelude.{◌^◌, option_and_then, slice_get, unwrap_or, String, string_bytes}
 use Rattle.std.specs.declared.alloc.Global.{Global}
-use Rattle.clap.specs.Words.{NarrowsTo}
-use Rattle.clap.specs.declared.builder.value_parser.ValueParser.{ValueParser}
 use Rattle.clap.specs.declared.builder.value_parser.ValueParser.TheVariants as parser
 use Rattle.std.specs.Str.{bytes_eq}
 use Rattle.std.proofs.lemmas.Slice.Eq.{bytes_eq-Decides}
@@ -90,15 +88,6 @@ no_command name rest not_build not_run not_means = go (bytes_eq name (codes "bui
     go false e true f m g = absurd (not_run ((bytes_eq-Decides name (codes "run")).0 f))
     go false e false f true g = absurd (not_means ((bytes_eq-Decides name (codes "means")).0 g))
     go false e false f false g = rw (e, f, g) refl
-
--- the parsers of the steps and of the turns
-pub narrowed : (p q : ValueParser) (lo hi : Option ℤ) → p ≡ parser.Unsigned 0 18446744073709551615 → lo ≡ Some (pos 1) → hi ≡ Some (pos 100000000)
-    → NarrowsTo p lo hi q → q ≡ parser.Unsigned 1 100000000
-narrowed p q lo hi ep el eh h = rw (ep, el, eh) at h
-
-pub narrowed_to_turns : (p q : ValueParser) (lo hi : Option ℤ) → p ≡ parser.Unsigned 0 18446744073709551615 → lo ≡ Some (pos 1) → hi ≡ Some (pos 1000000)
-    → NarrowsTo p lo hi q → q ≡ parser.Unsigned 1 1000000
-narrowed_to_turns p q lo hi ep el eh h = rw (ep, el, eh) at h
 
 -- the first of the words names no command
 pub no_command_first : (words : List (String Global)) (name : String Global) → Some name ≡ slice_get words 0
