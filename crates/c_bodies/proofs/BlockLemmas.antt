@@ -1,5 +1,5 @@
 -- The items of blocks: functions and objects.
-use Rattle.std.proofs.Common.{◌≡◌, ℕ, ◌+◌, ◌<◌, ◌≤◌, false, is_some, List, [], ◌∷◌, ◌++◌, map, drop, get_or, length, Option, Some, None, refl, ap, subst, sym, ◌∙◌}
+use Rattle.std.proofs.Common.{◌≡◌, ℕ, ◌+◌, ◌<◌, ◌≤◌, true, false, is_some, List, [], ◌∷◌, ◌++◌, map, drop, get_or, length, Option, Some, None, refl, ap, subst, sym, ◌∙◌}
 use Rattle.c_tree.specs.declared.program.Base.{Base}
 use Rattle.c_tree.specs.declared.program.VarRef.{VarRef}
 use Rattle.c_tree.specs.declared.program.VarRef.TheVariants as refs
@@ -9,7 +9,7 @@ use Rattle.c_syntax.specs.declared.decl.Item.{Item}
 use Rattle.c_syntax.specs.SyntaxView.{declaration_of, item_form_of, initial_of, item_of, specs_of}
 use Rattle.c_rules.specs.declared.meaning.Declared.{Declared}
 use Rattle.c_rules.specs.declared.meaning.Declared.TheVariants as declares
-use Rattle.c_rules.specs.declared.fault.Rule.TheVariants.{Mismatch, Misplaced}
+use Rattle.c_rules.specs.declared.fault.Rule.TheVariants.{Mismatch, Misplaced, Redeclared}
 use Rattle.c_rules.specs.declared.fault.Refusal.{Refusal}
 use Rattle.c_rules.specs.declared.meaning.FunctionType.{FunctionType}
 use Rattle.c_rules.specs.declared.meaning.ObjectType.{ObjectType}
@@ -112,3 +112,36 @@ module _ (o : Opened) (whole : Outcome Opened) (list : List Decl) (i : ℕ) (d :
 
 pub declarations_ended : (o : Opened) (list : List Decl) (i : ℕ) → length list ≤ i → declarations o (map declaration_of (drop i list)) ≡ Is o
 declarations_ended o list i above = ap (λ l. declarations o (map declaration_of l)) (drop_of_length-le list above)
+
+-- an item behind its declarator
+module _ (o : Opened) (b : Base) (item : Item) (s t : Scope) (n : ℕ) (name : List ℕ) (d : Declared)
+    (declared : declarator o.scope b (item_form_of item.kind) item.stars (initial_of item.init) ≡ Is d) (same : s ≡ o.scope) (seen : t ≡ with_named_object s name (refs.Local n) d) (named : name ≡ item.name) (count : n ≡ length o.locals) where
+  abbrev first : Outcome Initialiser
+  first = initialiser t (is_array (item_form_of item.kind)) (initial_of item.init)
+
+  abbrev rest : Initialiser → Outcome Opened
+  rest i = breaks (is_taken s name) Redeclared item.at (declared_as o t (refs.Local n) d (item_of item) i)
+
+  item_is : block_item o b (item_of item) ≡ (first >>= rest)
+  item_is =
+      let r : VarRef = refs.Local (length o.locals) in
+      let here : with_named_object o.scope item.name r d ≡ t = sym (seen ∙ (λ j. with_named_object (same j) (named j) (refs.Local (count j)) d)) in
+      ap (λ x. x >>= λ d. initialiser (with_named_object o.scope item.name r d) (is_array (item_form_of item.kind)) (initial_of item.init) >>= λ i. breaks (is_taken o.scope item.name) Redeclared item.at (declared_as o (with_named_object o.scope item.name r d) r d (item_of item) i)) declared
+      ∙ (λ j. initialiser (here j) (is_array (item_form_of item.kind)) (initial_of item.init) >>= λ i. breaks (is_taken (sym same j) (sym named j)) Redeclared item.at (declared_as o (here j) (refs.Local (sym count j)) d (item_of item) i))
+
+  pub initialiser_refused : (f : Refusal) → Refuses first f → Refuses (block_item o b (item_of item)) f
+  initialiser_refused refusals.NoMemory h = tt {0}
+  initialiser_refused (refusals.Broken rule at) h = item_is ∙ ap (λ x. x >>= rest) h
+
+  module _ (i : Initialiser) (f : Refusal) (typed : first ≡ Is i) where
+    pub taken_refused : is_taken s name ≡ true → f ≡ refusals.Broken Redeclared item.at → Refuses (block_item o b (item_of item)) f
+    taken_refused taken is =
+        let P : Refusal → Type 0 = λ g. Refuses (block_item o b (item_of item)) g in
+        subst P (sym is) (item_is ∙ ap (λ x. x >>= rest) typed ∙ ap (λ x. breaks x Redeclared item.at (declared_as o t (refs.Local n) d (item_of item) i)) taken)
+
+    pub untyped_refused : is_taken s name ≡ false → d ≡ declares.Untyped → f ≡ refusals.Broken Mismatch item.at → Refuses (block_item o b (item_of item)) f
+    untyped_refused untaken untyped is =
+        let P : Refusal → Type 0 = λ g. Refuses (block_item o b (item_of item)) g in
+        subst P (sym is)
+        (item_is ∙ ap (λ x. x >>= rest) typed ∙ ap (λ x. breaks x Redeclared item.at (declared_as o t (refs.Local n) d (item_of item) i)) untaken
+        ∙ ap (λ x. declared_as o t (refs.Local n) x (item_of item) i) untyped)

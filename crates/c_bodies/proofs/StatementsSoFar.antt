@@ -173,6 +173,12 @@ block_follows b n c r s ds l dl sl k p q h =
     let P : Statement → Type 0 = λ f. Follows (λ t. typed_in n (stmt_of t)) (statement_in b c f) r in
     subst P (same_block s ds l dl sl k p q) h
 
+-- what is known of a statement's form is known of the statement
+pub form_follows : (b n : Body) (c : Enclosing) (r : Result TypedStmt Refusal) (s : Stmt) (f : Statement) → statement_of s.kind s.at ≡ f → Follows (λ t. typed_in n (stmt_of t)) (statement_in b c f) r → Follows (λ t. typed_in n (stmt_of t)) (statement_in b c (statement_of s.kind s.at)) r
+form_follows b n c r s f same h =
+    let P : Statement → Type 0 = λ f. Follows (λ t. typed_in n (stmt_of t)) (statement_in b c f) r in
+    subst P (sym same) h
+
 -- what is known of one outcome is known of the same
 pub same_follows : (o p : Outcome (Typed typed.Stmt)) (n : Body) (r : Result TypedStmt Refusal) → o ≡ p → Follows (λ t. typed_in n (stmt_of t)) o r → Follows (λ t. typed_in n (stmt_of t)) p r
 same_follows o p n r e h =

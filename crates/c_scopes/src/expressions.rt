@@ -5,10 +5,10 @@ ghost use Rattle.c_tree.specs.View.{expr_of};
 ghost use Rattle.c_tree.specs.TypedTree.{Node, Const};
 ghost use Rattle.c_syntax.specs.SyntaxTree as tree;
 ghost use Rattle.c_syntax.specs.SyntaxView.{expression_of, trees_of, type_of};
-ghost use Rattle.c_rules.specs.declared.fault.Rule.TheVariants as rule;
-ghost use Rattle.c_rules.specs.Outcome.{Is, breaks};
+ghost use Rattle.c_rules.specs.Outcome.{Is};
+ghost use Rattle.c_rules.specs.Scopes.{Scope};
 ghost use Rattle.c_scopes.specs.Sides.{left_then};
-ghost use Rattle.c_rules.specs.Kinds.{int, is_void, unsigned};
+ghost use Rattle.c_rules.specs.Kinds.{int};
 ghost use Rattle.c_operands.specs.OperandView.{operand_of};
 ghost use Rattle.c_scopes.specs.ArgumentView.{arguments_of};
 ghost use Rattle.c_scopes.specs.Tables.{scope_of};
@@ -23,9 +23,9 @@ use c_operands::{
     either_true, indexed, loaded, negated, not_lvalue, number, picked, sized, stepped_after,
     stepped_before, unary,
 };
-use c_rules::{Refusal, Rule};
+use c_rules::{Refusal, mismatch};
 use c_syntax::{BinaryOp, Expr, ExprKind, PrefixOp, TypeName, UnaryOp};
-use c_tree::{ExprForm, ScalarType, TypedExpr};
+use c_tree::{ExprForm, TypedExpr};
 use std::alloc::Global;
 
 /// The typed sides of a form of two.
@@ -55,7 +55,7 @@ pub fn expression(scopes: &Scopes<'_>, e: &Expr) -> Result<TypedExpr, Refusal>
         ExprKind::StepBefore { up, operand } => step_before(scopes, *up, at, operand),
         ExprKind::Prefix { op, operand } => prefix(scopes, *op, at, operand),
         ExprKind::SizeofValue(operand) => size(scopes, at, operand),
-        ExprKind::SizeofType(to) => size_of_type(type_named(to)?, to.specs.at, at),
+        ExprKind::SizeofType(to) => size_of_type(to, at),
         ExprKind::Cast { to, operand } => cast(scopes, to, at, operand),
         ExprKind::Binary { op, left, right } => binary(scopes, *op, at, left, right),
         ExprKind::And { left, right } => both(scopes, at, left, right),
@@ -388,15 +388,12 @@ fn prefixed(
     }
 }
 
-// `sizeof` of a type whose words stand at this place: one word.
-fn size_of_type(kind: Option<ScalarType>, words_at: u32, at: u32) -> Result<TypedExpr, Refusal>
-    ensures { Follows expr_of (breaks (is_void kind) rule.Mismatch words_at (Is (Node (Const 1) (Some unsigned) at))) result }
+// `sizeof` of a type: one word.
+fn size_of_type(to: &TypeName, at: u32) -> Result<TypedExpr, Refusal>
+    ensures { (s : Scope) → Follows expr_of (rules.typing_form s (tree.SizeofType (type_of to.now)) at) result }
 {
-    if kind.is_none() {
-        return Err(Refusal::Broken {
-            rule: Rule::Mismatch,
-            at: words_at,
-        });
+    if type_named(to)?.is_none() {
+        return Err(mismatch(to.specs.at));
     }
     Ok(TypedExpr {
         form: ExprForm::Const(1),

@@ -132,13 +132,15 @@ fn typed_body<'a>(
     ensures bodies { OnOk result ((scope_of scopes.new).bodies ≡ (scope_of scopes.old).bodies) }
 {
     let alloc = scopes.alloc;
+    let declarations = f.declarations.as_slice();
+    let statements = f.statements.as_slice();
     let none = Scopes::new(alloc, IndexSet::new(alloc));
     let mut body = Body {
         scopes: mem::replace(scopes, none),
         locals,
         result: kind,
     };
-    let tree = body.body(f.declarations.as_slice(), f.statements.as_slice())?;
+    let tree = body.body(declarations, statements)?;
     body.scopes.close();
     *scopes = body.scopes;
     Ok(TypedBody {
@@ -297,11 +299,12 @@ impl<'a> File<'a> {
     {
         let alloc = self.scopes.alloc;
         let list = f.params.list.as_slice();
+        let name = f.name.as_str();
         self.scopes.open()?;
         declare_parameters(&mut self.scopes, list, kinds)?;
         let locals = parameter_locals(alloc, list, kinds)?;
         let typed = typed_body(&mut self.scopes, kind, locals, f)?;
-        let name = Text::copy_of(alloc, f.name.as_str())?;
+        let name = Text::copy_of(alloc, name)?;
         self.functions.push(TypedFunction {
             name,
             result: kind,

@@ -19,6 +19,10 @@ pub expression-returns-in-Index : goal.expression-returns-in-Index
 expression-returns-in-Index t c =
     form_follows (scope_of c.args.scopes.now) c.subscript.result c.args.e.now _ (ap form_of c.in-Index.is) (rw (c.deref.ensures, c.deref-in-Index.ensures) at c.subscript.ensures)
 
+pub expression-returns-in-SizeofType : goal.expression-returns-in-SizeofType
+expression-returns-in-SizeofType t c =
+    form_follows (scope_of c.args.scopes.now) c.size_of_type.result c.args.e.now _ (ap form_of c.in-SizeofType.is) (c.size_of_type.ensures (scope_of c.args.scopes.now))
+
 pub expression-returns-in-Cast : goal.expression-returns-in-Cast
 expression-returns-in-Cast t c =
     form_follows (scope_of c.args.scopes.now) c.cast.result c.args.e.now _ (ap form_of c.in-Cast.is) (rw c.deref-in-Cast.ensures at c.cast.ensures)

@@ -10,9 +10,9 @@ pub returns-clause-follows : goal.returns-clause-follows
 returns-clause-follows c =
     let f = c.args.f.now in
     let locals = map local_tree_of c.args.locals.items in
-    ap (λ d. typed_body c.args.kind (scope_of c.args.scopes.now) locals (map declaration_of d) (body_of f.statements)) (sym c.as_slice.ensures)
-    ∙ ap (λ b. typed_body c.args.kind (scope_of c.args.scopes.now) locals (map declaration_of c.as_slice.result.now) (body_of b)) (sym c.as_slice-2.ensures)
-    ∙ ap (λ x. typed_body c.args.kind (scope_of x) locals (map declaration_of c.as_slice.result.now) (body_of c.as_slice-2.result.now)) (sym c.replace.ensures.value)
+    ap (λ d. typed_body c.args.kind (scope_of c.args.scopes.now) locals (map declaration_of d) (body_of f.statements)) (sym c.as_slice-declarations.ensures)
+    ∙ ap (λ b. typed_body c.args.kind (scope_of c.args.scopes.now) locals (map declaration_of c.as_slice-declarations.result.now) (body_of b)) (sym c.as_slice-statements.ensures)
+    ∙ ap (λ x. typed_body c.args.kind (scope_of x) locals (map declaration_of c.as_slice-declarations.result.now) (body_of c.as_slice-statements.result.now)) (sym c.replace.ensures.value)
     ∙ c.in_ok-tree.ensures.follows
 
 pub returns-clause-tables : goal.returns-clause-tables

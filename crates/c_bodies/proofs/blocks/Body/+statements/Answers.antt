@@ -5,7 +5,7 @@ use Rattle.std.specs.Prelude.{map}
 use Rattle.c_tree.specs.declared.enclosing.Enclosing.TheVariants as around
 use Rattle.c_rules.specs.Answers.{Refuses}
 use Rattle.c_bodies.specs.Bodies.{behind, behind_choices, choices_in, labelled_of, parts_of, statements_in}
-use Rattle.c_bodies.proofs.StatementsSoFar.{turn, ended, refused_here, block_typed, block_follows, do_rest, else_rest, if_rest, arms_rest, while_rest, for_rest, same_follows}
+use Rattle.c_bodies.proofs.StatementsSoFar.{turn, ended, refused_here, block_typed, block_follows, do_rest, else_rest, if_rest, arms_rest, while_rest, for_rest, form_follows, same_follows}
 use Rattle.c_bodies.proofs.ChoicesSoFar.{none_behind, turn as choice_turn, ended as choices_ended}
 use Rattle.c_bodies.proofs.SwitchLemmas.{label_typed, switch_follows, refused_here as choice_refused, switch_rest, with_locals_follow}
 use Rattle.c_bodies.proofs.blocks.Body.+statements.Goals as goal
@@ -18,6 +18,26 @@ block_here-returns-clause-follows t c =
 pub statement-returns-in-Block-clause-follows : goal.statement-returns-in-Block-clause-follows
 statement-returns-in-Block-clause-follows t c =
     block_follows c.args.self.now c.block.new.self c.args.enclosing c.block.result c.args.s.now c.in-Block.declarations c.in-Block.statements c.deref.result.now c.deref-in-Block.result.now (search rules) (search rules) (search rules) c.block.ensures.follows
+
+pub statement-returns-in-If-clause-follows : goal.statement-returns-in-If-clause-follows
+statement-returns-in-If-clause-follows t c =
+    form_follows c.args.self.now c.choice.new.self c.args.enclosing c.choice.result c.args.s.now _ (ap (λ k. statement_of k c.args.s.now.at) c.in-If.is) (rw c.deref-in-If.ensures at c.choice.ensures.follows)
+
+pub statement-returns-in-IfElse-clause-follows : goal.statement-returns-in-IfElse-clause-follows
+statement-returns-in-IfElse-clause-follows t c =
+    form_follows c.args.self.now c.either.new.self c.args.enclosing c.either.result c.args.s.now _ (ap (λ k. statement_of k c.args.s.now.at) c.in-IfElse.is) (rw (c.deref-in-IfElse.ensures, c.deref-in-IfElse-2.ensures) at c.either.ensures.follows)
+
+pub statement-returns-in-While-clause-follows : goal.statement-returns-in-While-clause-follows
+statement-returns-in-While-clause-follows t c =
+    form_follows c.args.self.now c.while_loop.new.self c.args.enclosing c.while_loop.result c.args.s.now _ (ap (λ k. statement_of k c.args.s.now.at) c.in-While.is) (rw c.deref-in-While.ensures at c.while_loop.ensures.follows)
+
+pub statement-returns-in-Do-clause-follows : goal.statement-returns-in-Do-clause-follows
+statement-returns-in-Do-clause-follows t c =
+    form_follows c.args.self.now c.do_loop.new.self c.args.enclosing c.do_loop.result c.args.s.now _ (ap (λ k. statement_of k c.args.s.now.at) c.in-Do.is) (rw c.deref-in-Do.ensures at c.do_loop.ensures.follows)
+
+pub statement-returns-in-For-clause-follows : goal.statement-returns-in-For-clause-follows
+statement-returns-in-For-clause-follows t c =
+    form_follows c.args.self.now c.for_loop.new.self c.args.enclosing c.for_loop.result c.args.s.now _ (ap (λ k. statement_of k c.args.s.now.at) c.in-For.is) (rw c.deref-in-For.ensures at c.for_loop.ensures.follows)
 
 pub statements-loop-s-preserved : goal.statements-loop-s-preserved
 statements-loop-s-preserved t c = record {

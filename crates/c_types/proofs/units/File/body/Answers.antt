@@ -30,4 +30,4 @@ returns c =
     (function_pushed (file_of c.args.self.now) (scope_of c.typed_body.new.scopes) c.args.self.now.functions.items c.push.new.self.items _ f.name c.args.kind c.args.kinds.now
     (body_of c.in_ok-typed.typed)
     kept refl c.in_ok-push.ensures.items
-    (λ i. record { name = (c.in_ok-name.ensures ∙ c.as_str.ensures) i; result = c.args.kind; parameters = length c.args.kinds.now; locals = (body_of c.in_ok-typed.typed).locals; body = (body_of c.in_ok-typed.typed).tree }))
+    (λ i. record { name = (c.in_ok-name.ensures ∙ c.as_str-name.ensures) i; result = c.args.kind; parameters = length c.args.kinds.now; locals = (body_of c.in_ok-typed.typed).locals; body = (body_of c.in_ok-typed.typed).tree }))
