@@ -1,14 +1,12 @@
 -- Calls among functions, and among the lists of those that each calls.
-use Rattle.std.proofs.Common.{◌≡◌, ◌<◌, ℕ, zero, suc, ◌+◌, List, [], ◌∷◌, ◌++◌, length, map, take, ap, ◌∙◌, sym, refl, subst, arith, Some, get_or}
-use Rattle.std.specs.Prelude.{slice_get, option_map, All}
-use Rattle.std.specs.List.{Contains}
+use Rattle.std.proofs.Common.{◌≡◌, ◌<◌, ℕ, ◌+◌, List, [], ◌∷◌, ◌++◌, length, map, take, ap, ◌∙◌, sym, refl, subst, arith, Some, get_or}
+use Rattle.std.specs.Prelude.{option_map, All}
 use Rattle.std.proofs.lemmas.List.{map_push, map_more, length-map}
-use Rattle.std.proofs.lemmas.List.Elements.{Contains-append_right, All-nil, All-cons, All-same}
+use Rattle.std.proofs.lemmas.List.Elements.{All-nil, All-cons, All-same}
 use Rattle.std.proofs.lemmas.Option.{slice_get_read, slice_get_within, slice_get-map}
 use Rattle.c_frames.specs.declared.functions.TypedFunction as memory
 use Rattle.c_tree.specs.View.{stmt_of}
 use Rattle.c_tree.specs.declared.uses.Use.{Use}
-use Rattle.c_tree.specs.declared.uses.Use.TheVariants.{Address, Call, Cases}
 use Rattle.c_tree.specs.Uses.{called}
 use Rattle.c_tree.specs.Rounds.{CallsAmong}
 use Rattle.c_rules.specs.Chains.{name_of, IsChain}

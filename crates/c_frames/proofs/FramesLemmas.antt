@@ -1,6 +1,6 @@
 -- Marks of objects, and what is numbered by them.
-use Rattle.std.proofs.Common.{◌≡◌, ◌<◌, ◌+◌, ◌||◌, ◌∷◌, [], ℕ, suc, Bool, true, false, if◌then◌else◌, List, length, take, get_or, map, ap, ◌∙◌, sym, refl, arith}
-use Rattle.std.proofs.lemmas.List.{take_more, length-map}
+use Rattle.std.proofs.Common.{◌≡◌, ◌<◌, ◌+◌, ◌||◌, ◌∷◌, [], ℕ, suc, Bool, true, false, if◌then◌else◌, List, length, take, drop, get_or, map, ap, ◌∙◌, sym, refl, arith}
+use Rattle.std.proofs.lemmas.List.{take_more, drop_more, length-map}
 use Rattle.std.proofs.lemmas.List.Recursion.{or_push}
 use Rattle.c_tree.specs.declared.program.VarRef.TheVariants as refs
 use Rattle.c_tree.specs.declared.uses.Use.{Use}
@@ -66,3 +66,16 @@ pub scalars_by_marks : (us : List Use) (marks : List Bool) {lent : List Bool} (l
     → scalars_by lent (map local_tree_of ls) ≡ frame_scalars (references us (map local_tree_of ls))
 scalars_by_marks us marks {lent = lent} ls known lending =
     count_of lent 0 0 (map local_tree_of ls) ∙ ap frame_scalars (numbers_by_marks us marks ls known lending)
+
+-- one object further, of those that are to come
+module _ {A : Type 0} (known further : List Bool → List LocalTree → A) (marks : List Bool) (ls : List Local) (i : ℕ) (l : Local) (other : Bool) where
+  pub one_further : {whole : A} → length marks ≡ length ls → i < length ls → l ≡ get_or ls i l
+      → ((ms : List Bool) (ns : List LocalTree) → further ms ns ≡ known (get_or marks i other ∷ ms) (local_tree_of l ∷ ns))
+      → known (drop i marks) (map local_tree_of (drop i ls)) ≡ whole → further (drop (i + 1) marks) (map local_tree_of (drop (i + 1) ls)) ≡ whole
+  one_further long within is added before =
+      let marked : i < length marks = omega (arith, long) in
+      added (drop (i + 1) marks) (map local_tree_of (drop (i + 1) ls))
+      ∙ ap (λ x. known (get_or marks i other ∷ drop (i + 1) marks) (map local_tree_of (x ∷ drop (i + 1) ls))) is
+      ∙ ap (λ ms. known ms (map local_tree_of (get_or ls i l ∷ drop (i + 1) ls))) (sym (drop_more marks i other marked))
+      ∙ ap (λ xs. known (drop i marks) (map local_tree_of xs)) (sym (drop_more ls i l within))
+      ∙ before

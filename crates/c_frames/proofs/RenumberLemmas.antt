@@ -1,6 +1,6 @@
 -- Lists of which each element is renumbered, and forms that hold lists.
 use Rattle.std.proofs.Common.{◌≡◌, ◌<◌, ◌≤◌, ◌++◌, ◌∷◌, [], ℕ, suc, List, length, map, take, drop, get_or, ap, ◌∙◌, sym, refl, subst, append-nil, arith}
-use Rattle.std.specs.Prelude.{Vec}
+use Rattle.std.specs.Prelude.{Vec, Box}
 use Rattle.std.specs.Global.{Global}
 use Rattle.std.proofs.Math.ListN.{drop_of_length-le}
 use Rattle.std.proofs.lemmas.List.{take_all}
@@ -8,13 +8,14 @@ use Rattle.c_tree.specs.declared.program.VarRef.{VarRef}
 use Rattle.c_tree.specs.declared.typed_expression.TypedExpr.{TypedExpr}
 use Rattle.c_tree.specs.declared.typed_expression.ExprForm as form
 use Rattle.c_tree.specs.declared.typed_expression.ExprForm.{ExprForm}
+use Rattle.c_tree.specs.declared.typed_expression.Target.{Target}
 use Rattle.c_tree.specs.declared.typed_statement.TypedStmt as stmt
 use Rattle.c_tree.specs.declared.typed_statement.TypedStmt.{TypedStmt}
 use Rattle.c_tree.specs.declared.typed_statement.Choice as choice
 use Rattle.c_tree.specs.declared.typed_statement.Choice.{Choice}
 use Rattle.c_tree.specs.TypedTree as tree
-use Rattle.c_tree.specs.TypedTree.{Expr, Kind, Node, Choices, no_more}
-use Rattle.c_tree.specs.View.{expr_of, form_of, argument_list, stmt_of, statement_list, choice_list, choice_before}
+use Rattle.c_tree.specs.TypedTree.{Expr, Form, Stmt, Lvalue, Kind, Node, Choices, no_more}
+use Rattle.c_tree.specs.View.{expr_of, form_of, lvalue_of, argument_list, stmt_of, statement_list, choice_list, choice_before}
 use Rattle.c_tree.proofs.Views.{typed_call_form, block_of_list, switch_of_list}
 use Rattle.c_rules.specs.Renumbering as by
 
@@ -22,6 +23,10 @@ use Rattle.c_rules.specs.Renumbering as by
 put_back : {A : Type 0} (n : ℕ) (xs ys : List A) → length xs ≡ length ys → length ys ≤ n → take n (xs ++ drop (length xs) ys) ≡ xs
 put_back n xs ys long within =
     ap (λ l. take n (xs ++ l)) (drop_of_length-le ys (omega arith)) ∙ ap (take n) (append-nil xs) ∙ take_all n xs (omega arith)
+
+-- a form of parts that are the same
+pub alike : {A B C : Type 0} (node : A → B → C) {a c : A} {b d : B} → a ≡ c → b ≡ d → node a b ≡ node c d
+alike node {c = c} {b = b} first second = ap (λ x. node x b) first ∙ ap (node c) second
 
 module _ (frame : List VarRef) where
   each_argument : (new old : List TypedExpr) → length new ≡ length old
@@ -136,6 +141,28 @@ module _ (frame : List VarRef) where
   references_done n i new old lent same long within ended each =
       let goal : List VarRef → Type 0 = λ old. take n (new ++ drop (length new) old) ≡ map (by.renumbered frame) old
       in subst goal same (references_put n i new lent long (omega (arith, ap length same)) ended each)
+
+  -- a part of a form: what a box holds
+  pub part : (new : TypedExpr) {old : TypedExpr} {held box : Box TypedExpr Global} → expr_of new ≡ by.expression frame (expr_of old) → old ≡ held.value → held ≡ box
+      → expr_of new ≡ by.expression frame (expr_of box.value)
+  part new made from is = made ∙ ap (λ e. by.expression frame (expr_of e)) (from ∙ ap (λ b. b.value) is)
+
+  -- the place of a target
+  pub goal_part : {lvalue : Lvalue} {held to : Target} → lvalue ≡ by.target frame (lvalue_of held.form held.at) → held ≡ to
+      → lvalue ≡ by.target frame (lvalue_of to.form to.at)
+  goal_part made is = made ∙ ap (λ to. by.target frame (lvalue_of to.form to.at)) is
+
+  -- a form of which the parts are renumbered
+  pub of_parts : {f g : ExprForm} {made : Form} → f ≡ g → made ≡ by.of_form frame (form_of g) → made ≡ by.of_form frame (form_of f)
+  of_parts is made = made ∙ ap (λ h. by.of_form frame (form_of h)) (sym is)
+
+  -- a statement of which the parts are renumbered, and one that a box holds
+  pub of_statement_parts : {s t : TypedStmt} {made : Stmt} → s ≡ t → made ≡ by.statement frame (stmt_of t) → made ≡ by.statement frame (stmt_of s)
+  of_statement_parts is made = made ∙ ap (λ u. by.statement frame (stmt_of u)) (sym is)
+
+  pub body_part : (new : TypedStmt) {old : TypedStmt} {held box : Box TypedStmt Global} → stmt_of new ≡ by.statement frame (stmt_of old) → old ≡ held.value → held ≡ box
+      → stmt_of new ≡ by.statement frame (stmt_of box.value)
+  body_part new made from is = made ∙ ap (λ s. by.statement frame (stmt_of s)) (from ∙ ap (λ b. b.value) is)
 
   -- forms with lists
   pub call_renumbered : (f : ExprForm) (function : ℕ) (old new : Vec TypedExpr Global) → f ≡ form.Call function old

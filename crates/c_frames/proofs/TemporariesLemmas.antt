@@ -1,5 +1,7 @@
 -- Temporaries of lists with one more element, and of operators.
-use Rattle.std.proofs.Common.{◌≡◌, ◌<◌, ◌+◌, max, ◌++◌, ◌∷◌, [], ℕ, List, length, take, get_or, ap, ◌∙◌, sym, Result, IfOk, arith}
+use Rattle.std.proofs.Common.{◌≡◌, ◌≢◌, refl, false, ◌<◌, ◌+◌, max, ◌++◌, ◌∷◌, [], ℕ, List, length, take, get_or, ap, ◌∙◌, sym, subst, Result, IfOk, arith}
+use Rattle.std.specs.Prelude.{Box}
+use Rattle.std.specs.Global.{Global}
 use Rattle.std.proofs.lemmas.List.{take_more, length-take}
 use Rattle.std.proofs.lemmas.Result.{IfOk-weaker}
 use Rattle.c_tree.specs.declared.typed_expression.TypedExpr.{TypedExpr}
@@ -10,10 +12,13 @@ use Rattle.c_tree.specs.declared.typed_statement.TypedStmt.{TypedStmt}
 use Rattle.c_tree.specs.declared.typed_statement.Choice as choice
 use Rattle.c_tree.specs.declared.typed_statement.Choice.{Choice}
 use Rattle.c_syntax.specs.declared.operator.BinaryOp.{BinaryOp}
-use Rattle.c_tree.specs.TypedTree.{Choices, no_more, Binary}
+use Rattle.c_syntax.specs.declared.operator.UnaryOp.{UnaryOp}
+use Rattle.c_syntax.specs.declared.operator.UnaryOp.TheVariants.{Minus}
+use Rattle.c_tree.specs.declared.program.VarRef.{VarRef}
+use Rattle.c_tree.specs.TypedTree.{Kind, Node, Choices, no_more, Unary, Binary}
 use Rattle.c_tree.specs.View.{expr_of, form_of, argument_list, stmt_of, statement_list, choice_list, choice_before}
 use Rattle.c_tree.proofs.Views.{typed_call_form, block_of_list, switch_of_list}
-use Rattle.c_tree.specs.Temporaries.{temporaries, form_temporaries, argument_temporaries, statement_temporaries, statements_temporaries, choices_temporaries}
+use Rattle.c_tree.specs.Temporaries.{is_constant, is_simple, temporaries, form_temporaries, argument_temporaries, statement_temporaries, statements_temporaries, choices_temporaries}
 
 argument_more : (xs : List TypedExpr) (x : TypedExpr)
     → argument_temporaries (argument_list (xs ++ x ∷ [])) ≡ max (argument_temporaries (argument_list xs)) (length xs + temporaries (expr_of x))
@@ -67,6 +72,17 @@ choice_further list i x is within so_far more =
     in let one = ap (λ y. choices_temporaries (choice_list (take i list ++ y ∷ []))) is
     in omega (arith, all, one, choice_more (take i list) x)
 
+-- a form that is this one, and an expression that is this one
+pub of_shape : {E : Type 0} (r : Result ℕ E) {f g : ExprForm} → f ≡ g → IfOk r (λ n. n ≡ form_temporaries (form_of g)) → IfOk r (λ n. n ≡ form_temporaries (form_of f))
+of_shape r is found = subst (λ h. IfOk r (λ n. n ≡ form_temporaries (form_of h))) (sym is) found
+
+pub held : {E : Type 0} (r : Result ℕ E) {a b : TypedExpr} → a ≡ b → IfOk r (λ n. n ≡ temporaries (expr_of a)) → IfOk r (λ n. n ≡ temporaries (expr_of b))
+held r is found = subst (λ e. IfOk r (λ n. n ≡ temporaries (expr_of e))) is found
+
+-- a statement that is this one
+pub of_statement : {E : Type 0} (r : Result ℕ E) {s t : TypedStmt} → s ≡ t → IfOk r (λ n. n ≡ statement_temporaries (stmt_of t)) → IfOk r (λ n. n ≡ statement_temporaries (stmt_of s))
+of_statement r is found = subst (λ u. IfOk r (λ n. n ≡ statement_temporaries (stmt_of u))) (sym is) found
+
 -- a call of a list of arguments
 pub of_call : {E : Type 0} (r : Result ℕ E) (shape : ExprForm) (f : ℕ) (l : _) {items : List TypedExpr} → shape ≡ form.Call f l → items ≡ l.items
     → IfOk r (λ n. n ≡ argument_temporaries (argument_list items)) → IfOk r (λ n. n ≡ form_temporaries (form_of shape))
@@ -81,12 +97,11 @@ of_block r s declared l is listed found =
     IfOk-weaker r _ _ (λ n e. e ∙ ap (λ items. statements_temporaries (statement_list items)) listed
     ∙ ap statement_temporaries (sym (ap stmt_of is ∙ block_of_list declared l))) found
 
-pub of_switch : {value all most : ℕ} (s : TypedStmt) (e : TypedExpr) (l : _) {items : List Choice} → s ≡ stmt.Switch e l → items ≡ l.items
-    → value ≡ temporaries (expr_of e) → all ≡ choices_temporaries (choice_list items) → most ≡ max value all → most ≡ statement_temporaries (stmt_of s)
-of_switch s e l is listed valued found larger =
-    let whole = ap statement_temporaries (ap stmt_of is ∙ switch_of_list e l)
-    in let same = ap (λ items. choices_temporaries (choice_list items)) listed
-    in omega (arith, whole, same)
+pub of_switch : {E : Type 0} (r : Result ℕ E) (s : TypedStmt) (e : TypedExpr) (l : _) {items : List Choice} → s ≡ stmt.Switch e l → items ≡ l.items
+    → IfOk r (λ n. n ≡ max (temporaries (expr_of e)) (choices_temporaries (choice_list items))) → IfOk r (λ n. n ≡ statement_temporaries (stmt_of s))
+of_switch r s e l is listed found =
+    IfOk-weaker r _ _ (λ n h. h ∙ ap (λ items. max (temporaries (expr_of e)) (choices_temporaries (choice_list items))) listed
+    ∙ ap statement_temporaries (sym (ap stmt_of is ∙ switch_of_list e l))) found
 
 -- an operator on what two boxes hold
 pub of_binary : {E : Type 0} (r : Result ℕ E) (shape : ExprForm) (op : BinaryOp) (left right : _) {a b : TypedExpr} → shape ≡ form.Binary op left right
@@ -94,3 +109,50 @@ pub of_binary : {E : Type 0} (r : Result ℕ E) (shape : ExprForm) (op : BinaryO
 of_binary r shape op left right {b = b} is first second found =
     IfOk-weaker r _ _ (λ n e. e ∙ ap (λ a. form_temporaries (Binary op (expr_of a) (expr_of b))) first
     ∙ ap (λ b. form_temporaries (Binary op (expr_of left.value) (expr_of b))) second ∙ sym (ap (λ s. form_temporaries (form_of s)) is)) found
+
+-- a form that is no number, address or name, and under no operator or conversion
+pub computed : (shape : ExprForm) (kind : Kind) (at : ℕ) → ((w : ℕ) → shape ≢ form.Const w) → ((v : VarRef) → shape ≢ form.AddressOf v)
+    → ((v : VarRef) → shape ≢ form.Read v) → ((b : Box TypedExpr Global) → shape ≢ form.Convert b) → ((o : UnaryOp) (b : Box TypedExpr Global) → shape ≢ form.Unary o b)
+    → (false ≡ is_constant (Node (form_of shape) kind at)) × (false ≡ is_simple (Node (form_of shape) kind at))
+computed (form.Const w) kind at a b c d e = absurd (a w refl)
+computed (form.Read v) kind at a b c d e = absurd (c v refl)
+computed (form.AddressOf v) kind at a b c d e = absurd (b v refl)
+computed (form.Load' p f m l) kind at a b c d e = (refl, refl)
+computed (form.Unary' o p f m l) kind at a b c d e = absurd (e o (record { ptr = p.ptr; alloc = p.alloc; value = record { form = f; kind = m; at = l } }) refl)
+computed (form.Binary' o p f m l q g n i) kind at a b c d e = (refl, refl)
+computed (form.And' p f m l q g n i) kind at a b c d e = (refl, refl)
+computed (form.Or' p f m l q g n i) kind at a b c d e = (refl, refl)
+computed (form.Not' p f m l) kind at a b c d e = (refl, refl)
+computed (form.Pick' p f m l q g n i r h s j) kind at a b c d e = (refl, refl)
+computed (form.Assign' to l p f m i) kind at a b c d e = (refl, refl)
+computed (form.AssignOp' o to l p f m i) kind at a b c d e = (refl, refl)
+computed (form.StepBefore' up to l) kind at a b c d e = (refl, refl)
+computed (form.StepAfter' up to l) kind at a b c d e = (refl, refl)
+computed (form.Call' n shape es) kind at a b c d e = (refl, refl)
+computed (form.In port) kind at a b c d e = (refl, refl)
+computed (form.Out' port p f m l) kind at a b c d e = (refl, refl)
+computed (form.Comma' p f m l q g n i) kind at a b c d e = (refl, refl)
+computed (form.Convert' p f m l) kind at a b c d e = absurd (d (record { ptr = p.ptr; alloc = p.alloc; value = record { form = f; kind = m; at = l } }) refl)
+
+-- a minus on what is no number
+pub negative : (shape : ExprForm) (k : Kind) (a : ℕ) (kind : Kind) (at : ℕ) → ((w : ℕ) → shape ≢ form.Const w)
+    → (false ≡ is_constant (Node (Unary Minus (Node (form_of shape) k a)) kind at)) × (false ≡ is_simple (Node (Unary Minus (Node (form_of shape) k a)) kind at))
+negative (form.Const w) k a kind at other = absurd (other w refl)
+negative (form.Read v) k a kind at other = (refl, refl)
+negative (form.AddressOf v) k a kind at other = (refl, refl)
+negative (form.Load' p f m l) k a kind at other = (refl, refl)
+negative (form.Unary' o p f m l) k a kind at other = (refl, refl)
+negative (form.Binary' o p f m l q g n i) k a kind at other = (refl, refl)
+negative (form.And' p f m l q g n i) k a kind at other = (refl, refl)
+negative (form.Or' p f m l q g n i) k a kind at other = (refl, refl)
+negative (form.Not' p f m l) k a kind at other = (refl, refl)
+negative (form.Pick' p f m l q g n i r h s j) k a kind at other = (refl, refl)
+negative (form.Assign' to l p f m i) k a kind at other = (refl, refl)
+negative (form.AssignOp' o to l p f m i) k a kind at other = (refl, refl)
+negative (form.StepBefore' up to l) k a kind at other = (refl, refl)
+negative (form.StepAfter' up to l) k a kind at other = (refl, refl)
+negative (form.Call' n shape es) k a kind at other = (refl, refl)
+negative (form.In port) k a kind at other = (refl, refl)
+negative (form.Out' port p f m l) k a kind at other = (refl, refl)
+negative (form.Comma' p f m l q g n i) k a kind at other = (refl, refl)
+negative (form.Convert' p f m l) k a kind at other = (refl, refl)

@@ -78,9 +78,13 @@ impl Storage {
         ensures objects { IfOk result (λ _. (rs : List VarRef) (ls : List LocalTree) → with_objects self.new rs ls ≡ with_objects self.old (reference ∷ rs) (local_tree_of local ∷ ls)) }
     {
         match reference {
-            VarRef::Scalar(_) => self.scalars.push(cell_kind(local.object_type))?,
+            VarRef::Scalar(_) => {
+                let kind = cell_kind(local.object_type);
+                drop(local);
+                self.scalars.push(kind)?;
+            }
             VarRef::Local(_) => self.objects.push(object(local))?,
-            VarRef::Static(_) => {}
+            VarRef::Static(_) => drop(local),
         }
         Ok(())
     }

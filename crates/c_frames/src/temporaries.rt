@@ -1,8 +1,9 @@
 //! How many temporaries the code of a statement needs.
 //!
 //! The code of an operator keeps its left operand in one while it evaluates the right one, unless that one is simple.
-ghost use Rattle.std.specs.Prelude.{◌≡◌, ◌+◌, max, IfOk};
-ghost use Rattle.c_tree.specs.TypedTree.{no_more, Binary, Assign, AssignOp};
+ghost use Rattle.std.specs.Prelude.{◌≡◌, ◌+◌, ℕ, max, IfOk};
+ghost use Rattle.c_tree.specs.TypedTree.{no_more, Kind, Node, Unary, Binary, Assign, AssignOp};
+ghost use Rattle.c_syntax.specs.declared.operator.UnaryOp.TheVariants.{Minus};
 ghost use Rattle.c_syntax.specs.declared.operator.BinaryOp.{BinaryOp};
 ghost use Rattle.c_tree.specs.View.{expr_of, lvalue_of, argument_list, option_expr_of, stmt_of, statement_list, choice_list, choice_before};
 ghost use Rattle.c_frames.specs.OperandForms.{constant_form, simple_form};
@@ -29,7 +30,7 @@ fn sum(count: u32, more: u32) -> Result<u32, NoMemory>
 }
 
 /// What an operand is, beneath conversions.
-#[derive(Clone, Copy, Debug, PartialEq, Eq)]
+#[derive(Clone, Copy)]
 pub(crate) enum OperandForm {
     /// A constant, a minus on one, or an address.
     Constant,
@@ -44,31 +45,34 @@ fn operand_form(e: &TypedExpr) -> OperandForm
     ensures simple { simple_form result ≡ counts.is_simple (expr_of e.now) }
 {
     match &e.form {
-        ExprForm::Const(_) | ExprForm::AddressOf(_) => OperandForm::Constant,
-        ExprForm::Unary {
-            op: UnaryOp::Minus,
-            value,
-        } => match &value.form {
-            ExprForm::Const(_) => OperandForm::Constant,
-            _ => OperandForm::Computed,
-        },
+        ExprForm::Const(_) => OperandForm::Constant,
+        ExprForm::AddressOf(_) => OperandForm::Constant,
         ExprForm::Read(_) => OperandForm::Name,
         ExprForm::Convert(value) => operand_form(value),
-        ExprForm::Load(_)
-        | ExprForm::Unary { .. }
-        | ExprForm::Binary { .. }
-        | ExprForm::And { .. }
-        | ExprForm::Or { .. }
-        | ExprForm::Not(_)
-        | ExprForm::Pick { .. }
-        | ExprForm::Assign { .. }
-        | ExprForm::AssignOp { .. }
-        | ExprForm::StepBefore { .. }
-        | ExprForm::StepAfter { .. }
-        | ExprForm::Call { .. }
-        | ExprForm::In { .. }
-        | ExprForm::Out { .. }
-        | ExprForm::Comma { .. } => OperandForm::Computed,
+        ExprForm::Unary { op, value } => signed_form(*op, value),
+        _ => OperandForm::Computed,
+    }
+}
+
+// What an operator on this is.
+fn signed_form(op: UnaryOp, e: &TypedExpr) -> OperandForm
+    ensures constant { (kind : Kind) (at : ℕ) → constant_form result ≡ counts.is_constant (Node (Unary op (expr_of e.now)) kind at) }
+    ensures simple { (kind : Kind) (at : ℕ) → simple_form result ≡ counts.is_simple (Node (Unary op (expr_of e.now)) kind at) }
+{
+    match op {
+        UnaryOp::Minus => negative_form(e),
+        UnaryOp::Plus | UnaryOp::Complement => OperandForm::Computed,
+    }
+}
+
+// What a minus on this is.
+fn negative_form(e: &TypedExpr) -> OperandForm
+    ensures constant { (kind : Kind) (at : ℕ) → constant_form result ≡ counts.is_constant (Node (Unary Minus (expr_of e.now)) kind at) }
+    ensures simple { (kind : Kind) (at : ℕ) → simple_form result ≡ counts.is_simple (Node (Unary Minus (expr_of e.now)) kind at) }
+{
+    match &e.form {
+        ExprForm::Const(_) => OperandForm::Constant,
+        _ => OperandForm::Computed,
     }
 }
 
@@ -82,12 +86,25 @@ fn behind(kept: u32, e: &TypedExpr, count: u32) -> Result<u32, NoMemory>
     }
 }
 
+// The larger of two counts, where both are known.
+fn larger(a: Result<u32, NoMemory>, b: Result<u32, NoMemory>) -> Result<u32, NoMemory>
+    ensures { (m n : ℕ) → IfOk a (λ x. x ≡ m) → IfOk b (λ y. y ≡ n) → IfOk result (λ z. z ≡ max m n) }
+{
+    Ok(a?.max(b?))
+}
+
 // An operator on two operands, of which so many are known.
-fn binary(left: &TypedExpr, first: u32, right: &TypedExpr, second: u32) -> Result<u32, NoMemory>
-    requires first { first ≡ counts.temporaries (expr_of left.now) }
-    requires second { second ≡ counts.temporaries (expr_of right.now) }
+fn binary(
+    left: &TypedExpr,
+    first: Result<u32, NoMemory>,
+    right: &TypedExpr,
+    second: Result<u32, NoMemory>,
+) -> Result<u32, NoMemory>
+    requires first { IfOk first (λ n. n ≡ counts.temporaries (expr_of left.now)) }
+    requires second { IfOk second (λ n. n ≡ counts.temporaries (expr_of right.now)) }
     ensures { (op : BinaryOp) → IfOk result (λ n. n ≡ counts.form_temporaries (Binary op (expr_of left.now) (expr_of right.now))) }
 {
+    let (first, second) = (first?, second?);
     let second = match operand_form(left) {
         OperandForm::Constant => second,
         OperandForm::Name | OperandForm::Computed => behind(1, right, second)?,
@@ -95,31 +112,41 @@ fn binary(left: &TypedExpr, first: u32, right: &TypedExpr, second: u32) -> Resul
     Ok(first.max(second))
 }
 
-fn assignment(to: &Target, first: u32, value: &TypedExpr, second: u32) -> Result<u32, NoMemory>
-    requires first { first ≡ counts.target_temporaries (lvalue_of to.now.form to.now.at) }
-    requires second { second ≡ counts.temporaries (expr_of value.now) }
+fn assignment(
+    to: &Target,
+    first: Result<u32, NoMemory>,
+    value: &TypedExpr,
+    second: Result<u32, NoMemory>,
+) -> Result<u32, NoMemory>
+    requires first { IfOk first (λ n. n ≡ counts.target_temporaries (lvalue_of to.now.form to.now.at)) }
+    requires second { IfOk second (λ n. n ≡ counts.temporaries (expr_of value.now)) }
     ensures { IfOk result (λ n. n ≡ counts.form_temporaries (Assign (lvalue_of to.now.form to.now.at) (expr_of value.now))) }
 {
     match &to.form {
-        TargetForm::Named(_) => Ok(second),
+        TargetForm::Named(_) => second,
         TargetForm::At(_) => {
-            let second = behind(1, value, second)?;
-            Ok(first.max(second))
+            let second = behind(1, value, second?)?;
+            Ok(first?.max(second))
         }
     }
 }
 
 // An assignment by an operator, which keeps what was there as well.
-fn update(to: &Target, first: u32, value: &TypedExpr, second: u32) -> Result<u32, NoMemory>
-    requires first { first ≡ counts.target_temporaries (lvalue_of to.now.form to.now.at) }
-    requires second { second ≡ counts.temporaries (expr_of value.now) }
+fn update(
+    to: &Target,
+    first: Result<u32, NoMemory>,
+    value: &TypedExpr,
+    second: Result<u32, NoMemory>,
+) -> Result<u32, NoMemory>
+    requires first { IfOk first (λ n. n ≡ counts.target_temporaries (lvalue_of to.now.form to.now.at)) }
+    requires second { IfOk second (λ n. n ≡ counts.temporaries (expr_of value.now)) }
     ensures { (op : BinaryOp) → IfOk result (λ n. n ≡ counts.form_temporaries (AssignOp op (lvalue_of to.now.form to.now.at) (expr_of value.now))) }
 {
     match &to.form {
-        TargetForm::Named(_) => behind(1, value, second),
+        TargetForm::Named(_) => behind(1, value, second?),
         TargetForm::At(_) => {
-            let second = behind(2, value, second)?;
-            Ok(first.max(second))
+            let second = behind(2, value, second?)?;
+            Ok(first?.max(second))
         }
     }
 }
@@ -129,33 +156,28 @@ fn expression(e: &TypedExpr) -> Result<u32, NoMemory>
     ensures { IfOk result (λ n. n ≡ counts.temporaries (expr_of e.now)) }
 {
     match &e.form {
-        ExprForm::Const(_) | ExprForm::Read(_) | ExprForm::AddressOf(_) | ExprForm::In { .. } => Ok(
-            0,
-        ),
-        ExprForm::Load(value)
-        | ExprForm::Not(value)
-        | ExprForm::Convert(value)
-        | ExprForm::Unary { value, .. }
-        | ExprForm::Out { value, .. } => expression(value),
-        ExprForm::And { left, right }
-        | ExprForm::Or { left, right }
-        | ExprForm::Comma { left, right } => {
-            let before = expression(left)?;
-            let after = expression(right)?;
-            Ok(before.max(after))
-        }
+        ExprForm::Const(_) => Ok(0),
+        ExprForm::Read(_) => Ok(0),
+        ExprForm::AddressOf(_) => Ok(0),
+        ExprForm::In { .. } => Ok(0),
+        ExprForm::Load(value) => expression(value),
+        ExprForm::Not(value) => expression(value),
+        ExprForm::Convert(value) => expression(value),
+        ExprForm::Unary { value, .. } => expression(value),
+        ExprForm::Out { value, .. } => expression(value),
+        ExprForm::And { left, right } => larger(expression(left), expression(right)),
+        ExprForm::Or { left, right } => larger(expression(left), expression(right)),
+        ExprForm::Comma { left, right } => larger(expression(left), expression(right)),
         ExprForm::Binary { left, right, .. } => {
-            binary(left, expression(left)?, right, expression(right)?)
+            binary(left, expression(left), right, expression(right))
         }
         ExprForm::Pick { test, yes, no } => {
-            let before = expression(test)?;
-            let yes = expression(yes)?;
-            let no = expression(no)?;
-            Ok(before.max(yes.max(no)))
+            larger(expression(test), larger(expression(yes), expression(no)))
         }
-        ExprForm::Assign { to, value } => assignment(to, target(to)?, value, expression(value)?),
-        ExprForm::AssignOp { to, value, .. } => update(to, target(to)?, value, expression(value)?),
-        ExprForm::StepBefore { to, .. } | ExprForm::StepAfter { to, .. } => target(to),
+        ExprForm::Assign { to, value } => assignment(to, target(to), value, expression(value)),
+        ExprForm::AssignOp { to, value, .. } => update(to, target(to), value, expression(value)),
+        ExprForm::StepBefore { to, .. } => target(to),
+        ExprForm::StepAfter { to, .. } => target(to),
         ExprForm::Call { args, .. } => arguments(args),
     }
 }
@@ -200,39 +222,31 @@ fn statement(s: &TypedStmt) -> Result<u32, NoMemory>
     ensures { IfOk result (λ n. n ≡ counts.statement_temporaries (stmt_of s.now)) }
 {
     match s {
-        TypedStmt::Fill(_) | TypedStmt::Break | TypedStmt::Continue => Ok(0),
+        TypedStmt::Fill(_) => Ok(0),
+        TypedStmt::Break => Ok(0),
+        TypedStmt::Continue => Ok(0),
         TypedStmt::Expr(e) => expression(e),
         TypedStmt::Return(value) => optional(value),
         TypedStmt::Block { body, .. } => statements(body),
-        TypedStmt::If { test, yes, no } => {
-            let test = expression(test)?;
-            let yes = statement(yes)?;
-            match no {
-                Some(no) => Ok(test.max(yes.max(statement(no)?))),
-                None => Ok(test.max(yes)),
-            }
-        }
-        TypedStmt::While { test, body } | TypedStmt::Do { body, test } => {
-            Ok(expression(test)?.max(statement(body)?))
-        }
+        TypedStmt::If { test, yes, no } => match no {
+            Some(no) => larger(expression(test), larger(statement(yes), statement(no))),
+            None => larger(expression(test), statement(yes)),
+        },
+        TypedStmt::While { test, body } => larger(expression(test), statement(body)),
+        TypedStmt::Do { body, test } => larger(statement(body), expression(test)),
         TypedStmt::For {
             first,
             test,
             third,
             body,
         } => {
-            let first = optional(first)?;
-            let test = optional(test)?;
-            let third = optional(third)?;
-            Ok(first.max(test.max(third.max(statement(body)?))))
+            let behind = larger(optional(third), statement(body));
+            larger(optional(first), larger(optional(test), behind))
         }
         TypedStmt::Switch {
             value,
             choices: all,
-        } => {
-            let value = expression(value)?;
-            Ok(value.max(choices(all)?))
-        }
+        } => larger(expression(value), choices(all)),
     }
 }
 

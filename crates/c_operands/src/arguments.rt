@@ -1,12 +1,11 @@
 //! The arguments of calls and of ports: ISO 9899:1990 6.3.2.2.
 ghost use Rattle.std.specs.Prelude.{◌≡◌, Some, true, false, nat_lt, IfOk, IfErr, IfSome, IfNone, None, map, [], ◌∷◌, length, ◌≢◌};
-ghost use Rattle.std.specs.Vec.Iter.{into_iter_items};
 ghost use Rattle.c_tree.specs.View.{expr_of, argument_list};
 ghost use Rattle.std.specs.List.{list_any};
 ghost use Rattle.c_tree.specs.TypedTree.{Node, In, Out};
 ghost use Rattle.c_rules.specs.Kinds.{is_void, int};
 ghost use Rattle.c_rules.specs.Outcome.{Is};
-ghost use Rattle.c_rules.specs.Answers.{Follows, Refuses};
+ghost use Rattle.c_rules.specs.Answers.{Follows};
 ghost use Rattle.c_rules.specs.Operands as rules;
 ghost use Rattle.c_operands.specs.OperandView.{operand_of};
 ghost use Rattle.c_rules.specs.declared.fault.Refusal.TheVariants as refusals;
@@ -17,7 +16,6 @@ use crate::kinds::{INT, class_of};
 use c_rules::{Class, Refusal, Rule, mismatch};
 use c_tree::{ExprForm, ScalarType, TypedExpr};
 use std::alloc::Global;
-use std::vec::IntoIter;
 
 /// Another number of arguments than a call takes.
 pub fn wrong_count(at: u32) -> Refusal
@@ -135,6 +133,7 @@ fn sent_word(alloc: Global, at: u32, port: u8, word: Operand) -> Result<TypedExp
 }
 
 /// What a call passes: each operand as one of the type of its parameter.
+#[tactic(auto, using(crate::proofs::OperandLists::any_void_of))]
 pub fn passed(
     alloc: Global,
     kinds: &[ScalarType],
@@ -143,6 +142,7 @@ pub fn passed(
 ) -> Result<Vec<TypedExpr>, Refusal>
     ensures { Follows (λ values. argument_list values.items) (rules.passed kinds.now at (map operand_of xs.items)) result }
 {
+    let void = any_void(&xs);
     let mut values = Vec::with_capacity(alloc, kinds.len())?;
     let mut operands = xs.into_iter();
     for kind in kinds {
@@ -151,31 +151,23 @@ pub fn passed(
         };
         values.push(given(alloc, *kind, at, x)?)?;
     }
-    none_left(at, operands)?;
+    // None of those that are passed is void.
+    none_left(at, operands.len(), void)?;
     Ok(values)
 }
 
 // No operand is left over.
-#[tactic(auto, using(crate::proofs::OperandLists::any_void_of))]
-fn none_left(at: u32, rest: IntoIter<Operand, Global>) -> Result<(), Refusal>
-    ensures none { IfOk result (λ _. into_iter_items rest ≡ []) }
-    ensures refused { IfErr result (Refuses (rules.passed [] at (map operand_of (into_iter_items rest)))) }
+fn none_left(at: u32, left: usize, void: bool) -> Result<(), Refusal>
+    ensures none { IfOk result (λ _. left ≡ 0) }
+    ensures some { IfErr result (λ _. left ≢ 0) }
+    ensures void { IfErr result (λ f. void ≡ true → f ≡ refusals.Broken rule.Mismatch at) }
+    ensures count { IfErr result (λ f. void ≡ false → f ≡ refusals.Broken rule.ArgCount at) }
 {
-    if rest.len() == 0 {
+    if left == 0 {
         return Ok(());
     }
-    if any_void_left(rest) {
+    if void {
         return Err(mismatch(at));
     }
     Err(wrong_count(at))
-}
-
-fn any_void_left(mut rest: IntoIter<Operand, Global>) -> bool
-    ensures { result ≡ list_any (λ x. is_void x.value.kind) (into_iter_items rest) }
-{
-    rest.any(|x| {
-        let void = x.value.kind.is_none();
-        drop(x);
-        void
-    })
 }

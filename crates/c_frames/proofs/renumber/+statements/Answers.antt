@@ -1,7 +1,9 @@
-use Rattle.std.proofs.Common.{◌∙◌, ap, map, arith}
-use Rattle.c_tree.specs.View.{expr_of, statement_list, choice_list}
+use Rattle.std.proofs.Common.{◌∙◌, ap, map, Option, arith}
+use Rattle.c_tree.specs.View.{expr_of, option_expr_of, statement_list, choice_list}
+use Rattle.c_tree.specs.TypedTree as tree
+use Rattle.c_tree.specs.TypedTree.{Expr, Stmt}
 use Rattle.c_rules.specs.Renumbering as by
-use Rattle.c_frames.proofs.RenumberLemmas.{statements_done, choices_done, block_renumbered, switch_renumbered}
+use Rattle.c_frames.proofs.RenumberLemmas.{alike, of_statement_parts, body_part, statements_done, choices_done, block_renumbered, switch_renumbered}
 use Rattle.c_frames.proofs.renumber.+statements.Goals as goal
 
 pub statements-returns : goal.statements-returns
@@ -26,3 +28,24 @@ statement-returns-in-Switch t c =
     switch_renumbered c.args.frame.now c.args.s.now c.in-Switch.value c.expression-in-Switch.new.e c.in-Switch.all c.choices.new.list c.in-Switch.is
     (c.expression-in-Switch.ensures ∙ ap (λ e. by.expression c.args.frame.now (expr_of e)) c.in-Switch.value-is)
     (c.choices.ensures ∙ ap (λ l. by.choices c.args.frame.now (choice_list l.items)) c.in-Switch.all-is)
+
+pub statement-returns-in-While : goal.statement-returns-in-While
+statement-returns-in-While t c =
+    of_statement_parts c.args.frame.now c.in-While.is
+    (alike tree.While (c.expression-in-While.ensures ∙ ap (λ e. by.expression c.args.frame.now (expr_of e)) c.in-While.test-is)
+    (body_part c.args.frame.now c.statement-in-While.new.s c.statement-in-While.ensures c.deref_mut-in-While.ensures.value c.in-While.body-is))
+
+pub statement-returns-in-Do : goal.statement-returns-in-Do
+statement-returns-in-Do t c =
+    of_statement_parts c.args.frame.now c.in-Do.is
+    (alike tree.Do_while (body_part c.args.frame.now c.statement-in-Do.new.s c.statement-in-Do.ensures c.deref_mut-in-Do.ensures.value c.in-Do.body-is)
+    (c.expression-in-Do.ensures ∙ ap (λ e. by.expression c.args.frame.now (expr_of e)) c.in-Do.test-is))
+
+pub statement-returns-in-For : goal.statement-returns-in-For
+statement-returns-in-For t c =
+    of_statement_parts c.args.frame.now c.in-For.is
+    (alike {C = Stmt} (λ made body. made body) (alike {C = Stmt → Stmt} (λ made third. made third) (alike {C = Option Expr → Stmt → Stmt} (λ x y z a. tree.For x y z a)
+    (c.optional-in-For.ensures ∙ ap (λ e. by.optional c.args.frame.now (option_expr_of e)) c.in-For.first-is)
+    (c.optional-in-For-2.ensures ∙ ap (λ e. by.optional c.args.frame.now (option_expr_of e)) c.in-For.test-is))
+    (c.optional-in-For-3.ensures ∙ ap (λ e. by.optional c.args.frame.now (option_expr_of e)) c.in-For.third-is))
+    (body_part c.args.frame.now c.statement-in-For.new.s c.statement-in-For.ensures c.deref_mut-in-For.ensures.value c.in-For.body-is))

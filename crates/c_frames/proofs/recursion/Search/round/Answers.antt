@@ -1,7 +1,8 @@
-use Rattle.std.proofs.Common.{◌≡◌, ◌<◌, ◌≢◌, map, vec_items, arith, Some, sym, subst}
+use Rattle.std.proofs.Common.{◌≡◌, ◌<◌, ◌≢◌, ◌∙◌, length, map, vec_items, arith, Some, sym, subst}
 use Rattle.std.specs.Prelude.{slice_get}
+use Rattle.std.proofs.lemmas.List.{length-map}
 use Rattle.c_frames.specs.declared.recursion.Search.{Search}
-use Rattle.c_frames.specs.Trails.{Reached, trail_of}
+use Rattle.c_frames.specs.Trails.{Reached, HasSearched, trail_of}
 use Rattle.c_frames.proofs.SearchLemmas.{all_worked, round_found, apart_by}
 use Rattle.c_frames.proofs.recursion.Search.round.Goals as goal
 use Rattle.c_frames.proofs.recursion.Search.round.Goals.{else-place-gt0-via-then-place-gt0+else-step-first, else-place-gt0-via-else-place-gt0}
@@ -30,3 +31,41 @@ follow-requires-clause-apart c =
 pub returns-clause-found : goal.returns-clause-found
 returns-clause-found c =
     all_worked (map vec_items c.args.callees.now) c.args.first c.loop-place.place c.loop-place.self c.loop-place.invariant c.requires.earlier (omega arith)
+
+pub returns-in_default-clause-size : goal.returns-in_default-clause-size
+returns-in_default-clause-size c = c.loop-place.invariant.size ∙ length-map c.args.callees.now vec_items ∙ sym c.requires.size
+
+pub returns-then-step-first-clause-size : goal.returns-then-step-first-clause-size
+returns-then-step-first-clause-size c = c.loop-place.invariant.size ∙ length-map c.args.callees.now vec_items ∙ sym c.requires.size
+
+pub returns-clause-size : goal.returns-clause-size
+returns-clause-size c = c.loop-place.invariant.size ∙ length-map c.args.callees.now vec_items ∙ sym c.requires.size
+
+pub loop-place-preserved : goal.loop-place-preserved
+loop-place-preserved c = c.in_ok-follow.ensures
+
+pub way_to-requires-clause-linked : goal.way_to-requires-clause-linked
+way_to-requires-clause-linked c = c.loop-place.invariant.linked
+
+pub follow-requires-clause-ordered : goal.follow-requires-clause-ordered
+follow-requires-clause-ordered c = c.requires.ordered
+
+pub follow-requires-clause-first : goal.follow-requires-clause-first
+follow-requires-clause-first c = c.requires.first
+
+pub follow-requires-clause-searched : goal.follow-requires-clause-searched
+follow-requires-clause-searched c =
+    let P : Search → Type 0 = λ s. HasSearched (map vec_items c.args.callees.now) c.args.first s c.loop-place.place in
+    elim c.else-place-gt0.branch [
+      | else-place-gt0-via-then-place-gt0+else-step-first w ↦ subst P (sym w.self-is) c.loop-place.invariant
+      | else-place-gt0-via-else-place-gt0 w ↦ subst P (sym w.self-is) c.loop-place.invariant
+    ]
+
+pub follow-requires-clause-place : goal.follow-requires-clause-place
+follow-requires-clause-place c =
+    let P : Search → Type 0 = λ s. c.loop-place.place < length s.steps.items in
+    let within : P c.loop-place.self = rw c.deref.ensures.value at c.in-Some.ensures.lookup.3.0 in
+    elim c.else-place-gt0.branch [
+      | else-place-gt0-via-then-place-gt0+else-step-first w ↦ subst P (sym w.self-is) within
+      | else-place-gt0-via-else-place-gt0 w ↦ subst P (sym w.self-is) within
+    ]
