@@ -188,12 +188,9 @@ fn tested(parser: &mut Parser<'_>, depth: u32) -> Result<Tall<Box<Expr>>, Refusa
     parser.cursor.expect(Punct::OpenParen)?;
     parser.allow(0, depth)?;
     let test = parser.whole_expression(depth)?;
-    let tree = kept(parser.alloc, test.tree)?;
-    parser.cursor.expect(Punct::CloseParen)?;
-    Ok(Tall {
-        tree,
-        height: test.height,
-    })
+    let tested = boxed(parser.alloc, test)?;
+    let whole = ended(parser, tested, Punct::CloseParen)?;
+    Ok(whole)
 }
 
 #[cycle(statements)]
@@ -217,8 +214,8 @@ fn do_test(parser: &mut Parser<'_>, depth: u32) -> Result<Tall<Box<Expr>>, Refus
 {
     parser.cursor.expect_keyword(Keyword::While)?;
     let test = tested(parser, depth)?;
-    parser.cursor.expect(Punct::Semicolon)?;
-    Ok(test)
+    let whole = ended(parser, test, Punct::Semicolon)?;
+    Ok(whole)
 }
 
 fn do_over(at: u32, body: Tall<Box<Stmt>>, test: Tall<Box<Expr>>) -> Tall<Stmt>
