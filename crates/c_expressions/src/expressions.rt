@@ -223,7 +223,6 @@ impl<'a> Parser<'a> {
     }
 
     // The operator of the level that stands next.
-    #[tactic(auto, using(crate::proofs::Nexts::level_none, crate::proofs::Nexts::level_other, crate::proofs::Nexts::level_found, crate::proofs::Nexts::next_is))]
     fn operator_of(&self, level: Level) -> Option<Infix>
         ensures { MatchOption result (going_of (level_row level) (next_of self.now.cursor) ≡ Stops) (IsInfix level (next_of self.now.cursor)) }
     {

@@ -4,7 +4,7 @@ ghost use Rattle.std.specs.Prelude.{◌≡◌, ◌≢◌, ◌++◌, ◌∷◌, [
 ghost use Rattle.c_expressions.specs.Front.{behind, is_separator_at, mark_at};
 ghost use Rattle.c_expressions.specs.declared.fault.Refusal.TheVariants as refusals;
 
-use c_expressions::{Parser, Refusal};
+use c_expressions::{Parser, Refusal, Tall};
 use c_syntax::Punct;
 use std::alloc::Global;
 
@@ -49,6 +49,17 @@ pub(crate) fn kept<T: Drop>(alloc: Global, part: T) -> Result<Box<T>, Refusal>
     ensures memory { IfErr result (λ f. f ≡ refusals.NoMemory) }
 {
     Ok(Box::new(alloc, part)?)
+}
+
+/// The same of a part with its height.
+pub(crate) fn boxed<T: Drop>(alloc: Global, part: Tall<T>) -> Result<Tall<Box<T>>, Refusal>
+    ensures tree { IfOk result (λ boxed. boxed.tree.value ≡ part.tree) }
+    ensures height { IfOk result (λ boxed. boxed.height ≡ part.height) }
+    ensures memory { IfErr result (λ f. f ≡ refusals.NoMemory) }
+{
+    let height = part.height;
+    let tree = kept(alloc, part.tree)?;
+    Ok(Tall { tree, height })
 }
 
 /// Puts a part behind others.

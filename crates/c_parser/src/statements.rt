@@ -1,5 +1,5 @@
 //! The rows of statements.
-ghost use Rattle.std.specs.Prelude.{◌≡◌, ◌≢◌, ◌⊎◌, ◌↔◌, ◌+◌, ◌<◌, ◌≤◌, max, false, [], length, map, Some, IfOk, IfErr, IsTrue, if◌then◌else◌};
+ghost use Rattle.std.specs.Prelude.{◌≡◌, ◌≢◌, ◌⊎◌, ◌↔◌, ◌+◌, ◌<◌, ◌≤◌, max, false, [], map, Some, IsTrue, if◌then◌else◌};
 ghost use Rattle.c_syntax.specs.declared.token.Keyword.TheVariants as keyword;
 ghost use Rattle.c_syntax.specs.declared.token.Punct.TheVariants as mark;
 ghost use Rattle.c_syntax.specs.SyntaxTree.{no_choice, chosen, Block, DoWhile, If, IfElse, While, For, Switch};
@@ -7,20 +7,16 @@ ghost use Rattle.c_syntax.specs.Grammar.{ExpressionRow, IsMark};
 ghost use Rattle.c_syntax.specs.Derives.{DerivesOptional, DerivesDeclarations, IsTested, IsForHead, DerivesChoices};
 ghost use Rattle.c_syntax.specs.Measures.{greatest, expression_height, optional_height, declaration_height, statement_height, statements_height, choices_height, greatest_height};
 ghost use Rattle.c_syntax.specs.SyntaxView.{expression_of, optional_of, declaration_of, body_of, part_before};
-ghost use Rattle.c_expressions.specs.declared.fault.Refusal.TheVariants as refusals;
 ghost use Rattle.c_expressions.specs.Front.{behind, mark_at, word_at};
-ghost use Rattle.c_expressions.specs.Fronts.{NoFront};
 ghost use Rattle.c_parser.specs.StatementFronts.{TestedFront, StatementFront, ReadsStatement, OptionalFront, DoTestFront, ForHeadFront, CaseFront, DefaultFront, PartFront, PartsFront, DeclarationsFront, BodyFront, holds_others, begins_statement};
-ghost use Rattle.c_expressions.specs.Refusals.{Refuses};
 ghost use Rattle.c_expressions.specs.Takes.{Takes, IsOne, Both};
 ghost use Rattle.c_parser.specs.StatementRows.{IsStatement, tree_of, parts_of, IsBody, IsDoEnd};
 ghost use Rattle.c_expressions.specs.Parts.{ReadsAny, ReadsPart, ReadsWhole};
 
 use crate::declarations::declaration;
-use crate::parts::{add, ended, kept};
+use crate::parts::{add, boxed, ended, kept};
 use c_expressions::{Parser, Refusal, Tall};
 use c_syntax::{Decl, Expr, Keyword, Punct, Stmt, StmtKind, SwitchPart};
-use std::alloc::Global;
 
 /// What stands between the braces of a block.
 #[derive(Drop)]
@@ -29,13 +25,12 @@ pub(crate) struct BlockBody {
     pub(crate) statements: Vec<Stmt>,
 }
 
-/// What stands between the parentheses of a `for`, with the height of the highest.
+/// What stands between the parentheses of a `for`.
 #[derive(Drop)]
 struct ForHead {
     first: Box<Option<Expr>>,
     test: Box<Option<Expr>>,
     third: Box<Option<Expr>>,
-    highest: u32,
 }
 
 // A statement of a kind over parts of a height.
@@ -77,17 +72,6 @@ fn inner(parser: &mut Parser<'_>, depth: u32) -> Result<Tall<Box<Stmt>>, Refusal
 {
     let read = statement(parser, depth)?;
     boxed(parser.alloc, read)
-}
-
-fn boxed(alloc: Global, statement: Tall<Stmt>) -> Result<Tall<Box<Stmt>>, Refusal>
-    ensures tree { IfOk result (λ b. tree_of b.tree.value ≡ tree_of statement.tree) }
-    ensures memory { IfErr result (λ f. f ≡ refusals.NoMemory) }
-    ensures height { IfOk result (λ b. b.height ≡ statement.height) }
-{
-    Ok(Tall {
-        tree: Box::new(alloc, statement.tree)?,
-        height: statement.height,
-    })
 }
 
 // A statement without other statements in it.
@@ -204,12 +188,9 @@ fn tested(parser: &mut Parser<'_>, depth: u32) -> Result<Tall<Box<Expr>>, Refusa
     parser.cursor.expect(Punct::OpenParen)?;
     parser.allow(0, depth)?;
     let test = parser.whole_expression(depth)?;
-    let tree = kept(parser.alloc, test.tree)?;
-    parser.cursor.expect(Punct::CloseParen)?;
-    Ok(Tall {
-        tree,
-        height: test.height,
-    })
+    let tested = boxed(parser.alloc, test)?;
+    let whole = ended(parser, tested, Punct::CloseParen)?;
+    Ok(whole)
 }
 
 #[cycle(statements)]
@@ -233,8 +214,8 @@ fn do_test(parser: &mut Parser<'_>, depth: u32) -> Result<Tall<Box<Expr>>, Refus
 {
     parser.cursor.expect_keyword(Keyword::While)?;
     let test = tested(parser, depth)?;
-    parser.cursor.expect(Punct::Semicolon)?;
-    Ok(test)
+    let whole = ended(parser, test, Punct::Semicolon)?;
+    Ok(whole)
 }
 
 fn do_over(at: u32, body: Tall<Box<Stmt>>, test: Tall<Box<Expr>>) -> Tall<Stmt>
@@ -347,40 +328,38 @@ fn for_loop(parser: &mut Parser<'_>, depth: u32) -> Result<Tall<Stmt>, Refusal>
 }
 
 // `for` and what stands between its parentheses.
-fn for_head(parser: &mut Parser<'_>, depth: u32) -> Result<ForHead, Refusal>
+fn for_head(parser: &mut Parser<'_>, depth: u32) -> Result<Tall<ForHead>, Refusal>
     requires { depth ≤ greatest_height }
-    ensures tree { IfOk result (λ h. Takes (λ all. IsForHead all (optional_of h.first.value) (optional_of h.test.value) (optional_of h.third.value)) parser.old.cursor parser.new.cursor) }
-    ensures refused { IfErr result (Refuses (NoFront (ForHeadFront depth) parser.old.cursor)) }
-    ensures height { IfOk result (λ h. h.highest ≡ max (optional_height (optional_of h.first.value)) (max (optional_height (optional_of h.test.value)) (optional_height (optional_of h.third.value)))) }
-    ensures room { IfOk result (λ h. depth + h.highest ≤ greatest_height) }
-    ensures fewer { IfOk result (λ _. length parser.new.cursor < length parser.old.cursor) }
+    ensures { ReadsPart (λ t all. IsForHead all (optional_of t.first.value) (optional_of t.test.value) (optional_of t.third.value)) (ForHeadFront depth) (λ t. max (optional_height (optional_of t.first.value)) (max (optional_height (optional_of t.test.value)) (optional_height (optional_of t.third.value)))) depth parser.old.cursor parser.new.cursor result }
 {
     parser.cursor.expect_keyword(Keyword::For)?;
     parser.cursor.expect(Punct::OpenParen)?;
     let first = optional(parser, Punct::Semicolon, depth)?;
     let test = optional(parser, Punct::Semicolon, depth)?;
     let third = optional(parser, Punct::CloseParen, depth)?;
-    Ok(ForHead {
-        first: first.tree,
-        test: test.tree,
-        third: third.tree,
-        highest: first.height.max(test.height.max(third.height)),
+    Ok(Tall {
+        tree: ForHead {
+            first: first.tree,
+            test: test.tree,
+            third: third.tree,
+        },
+        height: first.height.max(test.height.max(third.height)),
     })
 }
 
-fn for_over(at: u32, head: ForHead, body: Tall<Box<Stmt>>) -> Tall<Stmt>
-    requires head_low { head.highest < greatest_height }
+fn for_over(at: u32, head: Tall<ForHead>, body: Tall<Box<Stmt>>) -> Tall<Stmt>
+    requires head_low { head.height < greatest_height }
     requires body_low { body.height < greatest_height }
-    ensures tree { tree_of result.tree ≡ For (optional_of head.first.value) (optional_of head.test.value) (optional_of head.third.value) (tree_of body.tree.value) at }
-    ensures height { result.height ≡ 1 + max head.highest body.height }
+    ensures tree { tree_of result.tree ≡ For (optional_of head.tree.first.value) (optional_of head.tree.test.value) (optional_of head.tree.third.value) (tree_of body.tree.value) at }
+    ensures height { result.height ≡ 1 + max head.height body.height }
 {
     let kind = StmtKind::For {
-        first: Box::into_inner(head.first),
-        test: Box::into_inner(head.test),
-        third: Box::into_inner(head.third),
+        first: Box::into_inner(head.tree.first),
+        test: Box::into_inner(head.tree.test),
+        third: Box::into_inner(head.tree.third),
         body: body.tree,
     };
-    over(kind, at, head.highest.max(body.height))
+    over(kind, at, head.height.max(body.height))
 }
 
 #[cycle(statements)]
@@ -508,7 +487,7 @@ fn declarations(parser: &mut Parser<'_>, depth: u32) -> Result<Tall<Vec<Decl>>, 
         parser.allow(2, depth)?;
         let next = declaration(parser, depth)?;
         highest = highest.max(next.height);
-        declarations.push(next.tree)?;
+        add(&mut declarations, next.tree)?;
     }
     Ok(Tall {
         tree: declarations,

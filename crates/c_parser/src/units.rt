@@ -15,7 +15,7 @@ ghost use Rattle.c_expressions.specs.Parts.{ReadsPart};
 
 use crate::declarations::{declaration_from, item_from, item_kind, name, params};
 use crate::fault::ParseFault;
-use crate::parts::add;
+use crate::parts::{add, ended};
 use crate::statements::body;
 use c_expressions::{Parser, Refusal, Tall};
 use c_syntax::{External, FunctionDef, ItemKind, Params, Punct, Specs, Token, Unit};
@@ -52,8 +52,8 @@ fn listed(parser: &mut Parser<'_>, depth: u32) -> Result<Tall<Params>, Refusal>
 {
     parser.cursor.expect(Punct::OpenParen)?;
     let params = params(parser, depth)?;
-    parser.cursor.expect(Punct::CloseParen)?;
-    Ok(params)
+    let whole = ended(parser, params, Punct::CloseParen)?;
+    Ok(whole)
 }
 
 // A declaration, behind the form of its first item.

@@ -5,6 +5,7 @@ use Rattle.c_syntax.specs.Derives.{NoChoice}
 use Rattle.c_syntax.specs.Measures.{statement_height}
 use Rattle.c_expressions.proofs.TakesLemmas.{nothing, joined, mark_taken, word_taken, took, took_word, one_fewer, not_there, kept, length_kept, ok_mapped}
 use Rattle.c_parser.proofs.StatementTaken.{same_taken, if_taken, if_else_taken, while_taken, for_taken, do_taken, switch_taken, block_taken, body_begun, body_ended, body_grown, body_height, parts_grown, parts_height, chosen_taken}
+use Rattle.c_parser.specs.StatementRows.{tree_of}
 use Rattle.c_parser.proofs.StatementHeights.{two_heights, three_heights, same_room, two_rooms, three_rooms, fewer_yet, fewer_behind, fewer_both, fewer_kept, fewer_else, fewer_switch}
 use Rattle.c_parser.proofs.FrontLemmas.{first_fails, second_fails, second_never, fails_as, leads_as, one_leads, mark_fails, fails_kept, only_kept, leads_on, leads_from, leads_further, fails_on}
 use Rattle.c_expressions.proofs.Parts.{part_refused, part_unread, part_unkept, whole_refused}
@@ -65,7 +66,7 @@ for_loop-returns t c =
       tree = for_taken c.for_over.ensures.tree c.place-at.ensures c.in_ok-head.ensures.tree c.in_ok-body.ensures.tree c.in_ok-head.ensures.fewer c.in_ok-body.ensures.fewer;
       refused = tt {0};
       height = two_heights c.for_over.ensures.tree c.for_over.ensures.height c.in_ok-head.ensures.height c.in_ok-body.ensures.height refl;
-      room = two_rooms c.args.depth c.in_ok-head.head.highest c.in_ok-body.body.height c.for_over.ensures.height c.in_ok-head.ensures.room c.in_ok-body.ensures.room;
+      room = two_rooms c.args.depth c.in_ok-head.head.height c.in_ok-body.body.height c.for_over.ensures.height c.in_ok-head.ensures.room c.in_ok-body.ensures.room;
       fewer = fewer_yet c.in_ok-head.ensures.tree c.in_ok-body.ensures.tree c.in_ok-head.ensures.fewer c.in_ok-body.ensures.fewer;
     }
 
@@ -150,7 +151,7 @@ switch_parts-returns t c = record {
 
 pub inner-returns : goal.inner-returns
 inner-returns t c = record {
-  tree = ok_mapped c.boxed.result (λ p e. same_taken e c.in_ok-read.ensures.tree) c.boxed.ensures.tree;
+  tree = ok_mapped c.boxed.result (λ p e. same_taken (ap tree_of e) c.in_ok-read.ensures.tree) c.boxed.ensures.tree;
   refused = memory_alone _ c.boxed.result c.boxed.ensures.memory;
   height = search rules;
   room = search rules;

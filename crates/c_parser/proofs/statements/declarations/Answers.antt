@@ -22,8 +22,8 @@ loop-parser-init c = record {
 
 pub loop-parser-preserved : goal.loop-parser-preserved
 loop-parser-preserved c = record {
-  tree = grown declaration_of DerivesDeclarations _ _ c.in_ok-push.ensures.items (with_next (λ a b p r. declarations_more a b _ _ p r) c.loop-parser.invariant.tree c.in_ok-next.ensures.tree);
-  height = height_grown declaration_of declaration_height _ _ c.in_ok-push.ensures.items c.loop-parser.invariant.height c.in_ok-next.ensures.height c.max-highest.ensures;
+  tree = grown declaration_of DerivesDeclarations _ _ c.in_ok-add.ensures.items (with_next (λ a b p r. declarations_more a b _ _ p r) c.loop-parser.invariant.tree c.in_ok-next.ensures.tree);
+  height = height_grown declaration_of declaration_height _ _ c.in_ok-add.ensures.items c.loop-parser.invariant.height c.in_ok-next.ensures.height c.max-highest.ensures;
   room = omega (arith, c.loop-parser.invariant.room, c.in_ok-next.ensures.room, c.max-highest.ensures);
   no_more = omega (arith, c.loop-parser.invariant.no_more, c.in_ok-next.ensures.fewer);
   leads = leads_further c.loop-parser.invariant.leads (declarations_ways c.args.depth _ (spec_stands _ c.is_some.ensures c.spec_word.ensures c.loop-parser-test.true)) (declaration_only c.in_ok-next.ensures.tree);

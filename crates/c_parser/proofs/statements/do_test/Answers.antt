@@ -9,11 +9,11 @@ use Rattle.c_parser.proofs.statements.do_test.Goals as goal
 
 pub returns : goal.returns
 returns c = record {
-  tree = joined (word_taken keyword.While _ _ c.in_ok-expect_keyword.ensures.taken c.in_ok-expect_keyword.ensures.left)
-      (joined c.in_ok-test.ensures.tree (mark_taken mark.Semicolon _ _ c.in_ok-expect.ensures.taken c.in_ok-expect.ensures.left));
+  tree = rw c.in_ok-whole.ensures.part (joined (word_taken keyword.While _ _ c.in_ok-expect_keyword.ensures.taken c.in_ok-expect_keyword.ensures.left)
+      (joined c.in_ok-test.ensures.tree (mark_taken mark.Semicolon _ _ c.in_ok-whole.ensures.taken c.in_ok-whole.ensures.left)));
   refused = tt {0};
-  height = search rules;
-  room = search rules;
+  height = rw c.in_ok-whole.ensures.part c.in_ok-test.ensures.height;
+  room = rw c.in_ok-whole.ensures.part c.in_ok-test.ensures.room;
   fewer = search rules;
 }
 
@@ -25,7 +25,7 @@ returns-in_err-test c =
     part_refused _ c.from_residual-in_err-test.result c.from_residual-in_err-test.ensures.1 c.in_err-test.ensures.refused
     (λ n. fails_as (do_test_ways c.args.depth _) (second_fails (one_leads c.in_ok-expect_keyword.ensures.left) (first_fails n)))
 
-pub returns-in_err-expect : goal.returns-in_err-expect
-returns-in_err-expect c =
-    part_unread _ c.from_residual-in_err-expect.result c.from_residual-in_err-expect.ensures.1
-    (fails_as (do_test_ways c.args.depth _) (second_fails (one_leads c.in_ok-expect_keyword.ensures.left) (second_fails c.in_ok-test.ensures.only (mark_fails c.in_err-expect.ensures.refused))))
+pub returns-in_err-whole : goal.returns-in_err-whole
+returns-in_err-whole c =
+    part_unread _ c.from_residual-in_err-whole.result c.from_residual-in_err-whole.ensures.1
+    (fails_as (do_test_ways c.args.depth _) (second_fails (one_leads c.in_ok-expect_keyword.ensures.left) (second_fails c.in_ok-test.ensures.only (mark_fails c.in_err-whole.ensures.refused))))

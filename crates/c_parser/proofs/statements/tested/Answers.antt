@@ -1,7 +1,7 @@
-use Rattle.std.proofs.Common.{arith, rules}
+use Rattle.std.proofs.Common.{arith, rules, ◌∙◌}
 use Rattle.c_syntax.specs.declared.token.Punct.TheVariants as mark
 use Rattle.c_syntax.specs.SyntaxView.{expression_of}
-use Rattle.c_expressions.proofs.Parts.{whole_refused, whole_unread}
+use Rattle.c_expressions.proofs.Parts.{whole_refused, whole_unread, whole_unkept}
 use Rattle.c_parser.proofs.FrontLemmas.{first_fails, second_fails, both_lead, fails_as, leads_as, one_leads, mark_fails}
 use Rattle.c_parser.proofs.StatementWays.{tested_ways}
 use Rattle.c_parser.proofs.FrontMarks.{expression_too_high}
@@ -11,12 +11,12 @@ use Rattle.c_parser.proofs.statements.tested.Goals as goal
 
 pub returns : goal.returns
 returns c = record {
-  tree = rw c.in_ok-tree.ensures.part (mapped (tested_row (expression_of c.in_ok-test.test.tree)) (joined (mark_taken mark.OpenParen _ _ c.in_ok-expect.ensures.taken c.in_ok-expect.ensures.left)
-      (joined c.in_ok-test.ensures.tree (mark_taken mark.CloseParen _ _ c.in_ok-expect-2.ensures.taken c.in_ok-expect-2.ensures.left))));
-  only = leads_as (tested_ways c.args.depth _) (both_lead (one_leads c.in_ok-expect.ensures.left) (both_lead c.in_ok-test.ensures.only (one_leads c.in_ok-expect-2.ensures.left)));
+  tree = rw (c.in_ok-whole.ensures.part, c.in_ok-tested.ensures.tree) (mapped (tested_row (expression_of c.in_ok-test.test.tree)) (joined (mark_taken mark.OpenParen _ _ c.in_ok-expect.ensures.taken c.in_ok-expect.ensures.left)
+      (joined c.in_ok-test.ensures.tree (mark_taken mark.CloseParen _ _ c.in_ok-whole.ensures.taken c.in_ok-whole.ensures.left))));
+  only = leads_as (tested_ways c.args.depth _) (both_lead (one_leads c.in_ok-expect.ensures.left) (both_lead c.in_ok-test.ensures.only (one_leads c.in_ok-whole.ensures.left)));
   refused = tt {0};
-  height = rw c.in_ok-tree.ensures.part c.in_ok-test.ensures.height;
-  room = search rules;
+  height = rw (c.in_ok-whole.ensures.part, c.in_ok-tested.ensures.tree) (c.in_ok-tested.ensures.height ∙ c.in_ok-test.ensures.height);
+  room = rw (c.in_ok-whole.ensures.part, c.in_ok-tested.ensures.height) c.in_ok-test.ensures.room;
   fewer = search rules;
 }
 
@@ -28,10 +28,13 @@ returns-in_err-test c =
     whole_refused _ c.from_residual-in_err-test.result c.from_residual-in_err-test.ensures.1 c.in_err-test.ensures.refused
     (λ n. fails_as (tested_ways c.args.depth _) (second_fails (one_leads c.in_ok-expect.ensures.left) (first_fails n)))
 
-pub returns-in_err-expect-2 : goal.returns-in_err-expect-2
-returns-in_err-expect-2 c =
-    whole_unread _ c.from_residual-in_err-expect-2.result c.from_residual-in_err-expect-2.ensures.1
-    (fails_as (tested_ways c.args.depth _) (second_fails (one_leads c.in_ok-expect.ensures.left) (second_fails c.in_ok-test.ensures.only (mark_fails c.in_err-expect-2.ensures.refused))))
+pub returns-in_err-whole : goal.returns-in_err-whole
+returns-in_err-whole c =
+    whole_unread _ c.from_residual-in_err-whole.result c.from_residual-in_err-whole.ensures.1
+    (fails_as (tested_ways c.args.depth _) (second_fails (one_leads c.in_ok-expect.ensures.left) (second_fails c.in_ok-test.ensures.only (mark_fails c.in_err-whole.ensures.refused))))
 
 pub returns-in_err-allow : goal.returns-in_err-allow
 returns-in_err-allow c = whole_unread _ c.from_residual-in_err-allow.result c.from_residual-in_err-allow.ensures.1 (fails_as (tested_ways c.args.depth _) (second_fails (one_leads c.in_ok-expect.ensures.left) (first_fails (expression_too_high (omega (arith, c.in_err-allow.ensures.refused))))))
+
+pub returns-in_err-tested : goal.returns-in_err-tested
+returns-in_err-tested c = whole_unkept _ c.from_residual-in_err-tested.result c.from_residual-in_err-tested.ensures.1 c.in_err-tested.ensures.memory

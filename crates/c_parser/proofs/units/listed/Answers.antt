@@ -16,17 +16,17 @@ returns-in_err-params c =
     part_refused _ c.from_residual-in_err-params.result c.from_residual-in_err-params.ensures.1 c.in_err-params.ensures.refused
     (λ n. fails_as (listed_ways c.args.depth _) (second_fails (one_leads c.in_ok-expect.ensures.left) (first_fails n)))
 
-pub returns-in_err-expect-2 : goal.returns-in_err-expect-2
-returns-in_err-expect-2 c =
-    part_unread _ c.from_residual-in_err-expect-2.result c.from_residual-in_err-expect-2.ensures.1
-    (fails_as (listed_ways c.args.depth _) (second_fails (one_leads c.in_ok-expect.ensures.left) (second_fails c.in_ok-params.ensures.only (mark_fails c.in_err-expect-2.ensures.refused))))
+pub returns-in_err-whole : goal.returns-in_err-whole
+returns-in_err-whole c =
+    part_unread _ c.from_residual-in_err-whole.result c.from_residual-in_err-whole.ensures.1
+    (fails_as (listed_ways c.args.depth _) (second_fails (one_leads c.in_ok-expect.ensures.left) (second_fails c.in_ok-params.ensures.only (mark_fails c.in_err-whole.ensures.refused))))
 
 pub returns : goal.returns
 returns c = record {
-  tree = function_taken (parameters_of c.in_ok-params.params.tree) (mark_taken mark.OpenParen _ _ c.in_ok-expect.ensures.taken c.in_ok-expect.ensures.left) c.in_ok-params.ensures.tree
-      (mark_taken mark.CloseParen _ _ c.in_ok-expect-2.ensures.taken c.in_ok-expect-2.ensures.left);
+  tree = rw c.in_ok-whole.ensures.part (function_taken (parameters_of c.in_ok-params.params.tree) (mark_taken mark.OpenParen _ _ c.in_ok-expect.ensures.taken c.in_ok-expect.ensures.left) c.in_ok-params.ensures.tree
+      (mark_taken mark.CloseParen _ _ c.in_ok-whole.ensures.taken c.in_ok-whole.ensures.left));
   refused = tt {0};
-  height = search rules;
-  room = search rules;
+  height = rw c.in_ok-whole.ensures.part c.in_ok-params.ensures.height;
+  room = rw c.in_ok-whole.ensures.part c.in_ok-params.ensures.room;
   fewer = search rules;
 }
