@@ -6,7 +6,7 @@ ghost use Rattle.c_rules.specs.declared.fault.Refusal.TheVariants as refusals;
 ghost use Rattle.c_bodies.specs.Bodies.{labelled_of, switched};
 ghost use Rattle.c_rules.specs.Statements as rules;
 
-use c_operands::class_of;
+use c_conversions::class_of;
 use c_rules::{Class, Refusal, Rule, mismatch};
 use c_tree::{Choice, TypedExpr, TypedStmt};
 use indexmap::IndexSet;

@@ -16,13 +16,13 @@ ghost use Rattle.c_rules.specs.Typing.{constant_typing, typing};
 ghost use Rattle.c_rules.specs.Statements as rules;
 ghost use Rattle.c_rules.specs.Statements.{just};
 ghost use Rattle.c_scopes.specs.Tables.{around_of, scope_of, tables_of};
-ghost use Rattle.c_operands.specs.OperandView.{operand_of};
+ghost use Rattle.c_conversions.specs.OperandView.{operand_of};
 ghost use Rattle.c_bodies.specs.BodyView.{locals_of, typed_in};
 
 use crate::blocks::{Body, Opening};
 use crate::labels::{Labelled, switched};
+use c_conversions::{Operand, given};
 use c_objects::{add, boxed};
-use c_operands::{Operand, given};
 use c_rules::{Refusal, Rule, mismatch};
 use c_scopes::{constant_tree, expression, operand, word_at};
 use c_syntax::{Decl, Expr, Stmt, StmtKind, SwitchPart};

@@ -18,7 +18,7 @@ use crate::functions::TypedFunction;
 use crate::recursion::{first_round, names_of};
 use crate::temporaries::temporaries_of;
 use crate::uses::uses_of;
-use c_operands::{INT, same_kind};
+use c_conversions::{INT, same_kind};
 use c_rules::{LimitName, TypeFault};
 use c_tree::{MOST_CASES, MOST_FRAME_SCALARS, MOST_FUNCTIONS, MOST_PARAMETERS, Use, VarRef};
 use std::alloc::Global;

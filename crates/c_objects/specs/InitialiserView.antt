@@ -9,7 +9,7 @@ use Rattle.c_objects.specs.declared.first_values.Initialiser.TheVariants as init
 use Rattle.c_objects.specs.declared.first_values.Start as starts
 use Rattle.c_objects.specs.declared.first_values.Starts as given
 use Rattle.c_objects.specs.declared.first_values.Starts.TheVariants as first
-use Rattle.c_operands.specs.OperandView.{operand_of}
+use Rattle.c_conversions.specs.OperandView.{operand_of}
 use Rattle.c_rules.specs.Declarations.{Entry}
 use Rattle.c_rules.specs.Units.{Starts, NoStart, One, Braced}
 use Rattle.c_rules.specs.Statements.{Initialiser, Absent, Value, Listed, Misbraced, ObjectStart}

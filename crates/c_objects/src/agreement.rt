@@ -3,7 +3,7 @@ ghost use Rattle.std.specs.Prelude.{◌≡◌, ◌&&◌, length, option_copied};
 ghost use Rattle.c_rules.specs.Units as rules;
 ghost use Rattle.c_rules.specs.declared.meaning.Declared.TheVariants as declares;
 
-use c_operands::{same_kind, same_type};
+use c_conversions::{same_kind, same_type};
 use c_rules::{FunctionType, Meaning, ObjectType};
 use c_tree::ScalarType;
 

@@ -5,7 +5,7 @@ ghost use Rattle.c_rules.specs.declared.fault.Refusal.TheVariants as refusals;
 ghost use Rattle.c_rules.specs.declared.fault.Rule.TheVariants as rule;
 ghost use Rattle.c_rules.specs.Declarations as rules;
 
-use c_operands::{pointer_to, starred};
+use c_conversions::{pointer_to, starred};
 use c_rules::{Declared, Naming, ObjectType, Refusal, Rule};
 use c_syntax::{Init, Param};
 use c_tree::{Base, MOST_CELLS, ScalarType};

@@ -3,12 +3,12 @@ ghost use Rattle.c_rules.specs.Answers.{Follows};
 ghost use Rattle.std.specs.Prelude.{◌≡◌, Some, None, map};
 ghost use Rattle.c_rules.specs.Declarations as rules;
 ghost use Rattle.c_rules.specs.Statements as blocks;
-ghost use Rattle.c_operands.specs.OperandView.{operand_of};
+ghost use Rattle.c_conversions.specs.OperandView.{operand_of};
 ghost use Rattle.c_objects.specs.InitialiserView.{entry_of, initialiser_of, object_start_of, starts_of};
 ghost use Rattle.c_rules.specs.Units as units;
 
 use crate::boxes::boxed;
-use c_operands::{Operand, given};
+use c_conversions::{Operand, given};
 use c_rules::{ObjectType, Refusal, mismatch, number_in};
 use c_tree::{ExprForm, Initial, ScalarType, Target, TargetForm, TypedExpr, TypedStmt, VarRef};
 use std::alloc::Global;

@@ -4,7 +4,7 @@ ghost use Rattle.std.specs.Prelude.{◌≡◌, count_by, nat_lt};
 ghost use Rattle.c_syntax.specs.SyntaxView.{expression_of, specs_of, type_of};
 ghost use Rattle.c_rules.specs.Typing as rules;
 
-use c_operands::starred;
+use c_conversions::starred;
 use c_rules::{Refusal, Rule};
 use c_syntax::{Expr, ExprKind, SpecWord, Specs, TypeName};
 use c_tree::{Base, ScalarType};

@@ -12,14 +12,14 @@ use Rattle.std.specs.List.{list_any}
 use Rattle.c_tree.specs.declared.typed_expression.TypedExpr.{TypedExpr}
 use Rattle.c_tree.specs.TypedTree.{Exprs, none, more}
 use Rattle.c_tree.specs.View.{expr_of, argument_list}
-use Rattle.c_operands.specs.declared.conversions.Operand.{Operand}
+use Rattle.c_conversions.specs.declared.conversions.Operand.{Operand}
 use Rattle.c_rules.specs.Outcome.{Outcome, Is, Broken, ◌>>=◌}
 use Rattle.c_rules.specs.Kinds.{class_of, is_void, int}
 use Rattle.c_rules.specs.Operands.{any_void, given, given_as, passed}
 use Rattle.c_tree.specs.TypedTree.{Kind}
 use Rattle.c_rules.specs.Answers.{Refuses}
 use Rattle.c_rules.specs.Operands as pure
-use Rattle.c_operands.specs.OperandView.{operand_of}
+use Rattle.c_conversions.specs.OperandView.{operand_of}
 
 -- whether one of them is void
 pub any_void_of : (xs : List Operand) → list_any (λ x. is_void x.value.kind) xs ≡ any_void (map operand_of xs)

@@ -1,1 +1,1 @@
-pub mod OperandView
+pub mod PairView

@@ -7,12 +7,11 @@ ghost use Rattle.c_rules.specs.Kinds.{is_void, int};
 ghost use Rattle.c_rules.specs.Outcome.{Is};
 ghost use Rattle.c_rules.specs.Answers.{Follows};
 ghost use Rattle.c_rules.specs.Operands as rules;
-ghost use Rattle.c_operands.specs.OperandView.{operand_of};
+ghost use Rattle.c_conversions.specs.OperandView.{operand_of};
 ghost use Rattle.c_rules.specs.declared.fault.Refusal.TheVariants as refusals;
 ghost use Rattle.c_rules.specs.declared.fault.Rule.TheVariants as rule;
 
-use crate::conversions::{Operand, given, in_box};
-use crate::kinds::{INT, class_of};
+use c_conversions::{INT, Operand, class_of, given, in_box};
 use c_rules::{Class, Refusal, Rule, mismatch};
 use c_tree::{ExprForm, ScalarType, TypedExpr};
 use std::alloc::Global;

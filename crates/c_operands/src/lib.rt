@@ -5,16 +5,12 @@
 
 mod arguments;
 mod constants;
-mod conversions;
-mod kinds;
 mod operands;
 mod pairs;
 mod writes;
 
 pub use arguments::{input, output, passed, wrong_count};
 pub use constants::constant;
-pub use conversions::{Operand, cast, given};
-pub use kinds::{INT, UNSIGNED, class_of, pointer_to, same_kind, same_type, starred};
 pub use operands::{behind, binary, both_true, either_true, negated, number, picked, sized, unary};
 pub use writes::{
     address, assigned, assigned_by, indexed, loaded, not_lvalue, stepped_after, stepped_before,

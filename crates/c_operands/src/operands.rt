@@ -8,11 +8,11 @@ ghost use Rattle.c_tree.specs.TypedTree.{Node, Unary, Binary, And, Or, Not, Pick
 ghost use Rattle.c_rules.specs.declared.fault.Rule.TheVariants as rule;
 ghost use Rattle.c_rules.specs.Kinds.{class_of};
 ghost use Rattle.c_rules.specs.Operands as rules;
-ghost use Rattle.c_operands.specs.OperandView.{operand_of, pair_of, left_of, right_of};
+ghost use Rattle.c_conversions.specs.OperandView.{operand_of};
+ghost use Rattle.c_operands.specs.PairView.{pair_of, left_of, right_of};
 
-use crate::conversions::{Operand, in_box, word};
-use crate::kinds::{INT, UNSIGNED, class_of, same_kind};
 use crate::pairs::{Pair, balanced, boxed, met};
+use c_conversions::{INT, Operand, UNSIGNED, class_of, in_box, same_kind, word};
 use c_rules::{Class, Refusal, Rule, mismatch};
 use c_syntax::{BinaryOp, UnaryOp};
 use c_tree::{ExprForm, ScalarType, TypedExpr};

@@ -4,10 +4,11 @@ ghost use Rattle.std.specs.Prelude.{◌≡◌, IfOk, IfErr};
 ghost use Rattle.c_tree.specs.View.{expr_of};
 ghost use Rattle.c_rules.specs.declared.fault.Refusal.TheVariants as refusals;
 ghost use Rattle.c_rules.specs.Operands as rules;
-ghost use Rattle.c_operands.specs.OperandView.{pair_of, left_of, right_of, beside_void};
+ghost use Rattle.c_operands.specs.PairView.{pair_of, left_of, right_of, beside_void};
 
-use crate::conversions::{conversion, in_box, null_of};
-use crate::kinds::{INT, class_of, common, is_void_pointer, same_kind};
+use c_conversions::{
+    INT, class_of, common, conversion, in_box, is_void_pointer, null_of, same_kind,
+};
 use c_rules::{Class, Refusal, mismatch};
 use c_tree::{ScalarType, TypedExpr};
 use std::alloc::Global;

@@ -6,14 +6,13 @@ ghost use Rattle.c_tree.specs.TypedTree.{Node, AddressOf};
 ghost use Rattle.c_tree.specs.WellFormed as well_formed;
 ghost use Rattle.c_rules.specs.Kinds as kinds;
 ghost use Rattle.c_rules.specs.Operands as rules;
-ghost use Rattle.c_operands.specs.OperandView.{operand_of};
+ghost use Rattle.c_conversions.specs.OperandView.{operand_of};
 ghost use Rattle.c_rules.specs.declared.fault.Refusal.TheVariants as refusals;
 ghost use Rattle.c_rules.specs.declared.fault.Rule.TheVariants as rule;
 
-use crate::conversions::{Operand, given, in_box};
-use crate::kinds::{class_of, pointed, pointer_to};
 use crate::operands::sum;
 use crate::pairs::boxed;
+use c_conversions::{Operand, class_of, given, in_box, pointed, pointer_to};
 use c_rules::{Class, Refusal, Rule, mismatch};
 use c_syntax::BinaryOp;
 use c_tree::{ExprForm, ScalarType, Target, TargetForm, TypedExpr, VarRef};

@@ -10,10 +10,10 @@ ghost use Rattle.c_scopes.specs.Tables.{scope_of, tables_of, around_of};
 use crate::call_arguments::word_of;
 use crate::expressions::constant_tree;
 use crate::scopes::Scopes;
+use c_conversions::starred;
 use c_objects::{
     array, lacks_name, length_within, listed_length, parameter_kind, plain, redeclared, single,
 };
-use c_operands::starred;
 use c_rules::{Declared, FunctionType, Meaning, Naming, ObjectType, Refusal, mismatch};
 use c_syntax::{Brackets, Expr, Item, ItemKind, Param, Params};
 use c_tree::{Base, ScalarType, VarRef};

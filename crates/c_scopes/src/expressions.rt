@@ -9,7 +9,7 @@ ghost use Rattle.c_rules.specs.Outcome.{Is};
 ghost use Rattle.c_rules.specs.Scopes.{Scope};
 ghost use Rattle.c_scopes.specs.Sides.{left_then};
 ghost use Rattle.c_rules.specs.Kinds.{int};
-ghost use Rattle.c_operands.specs.OperandView.{operand_of};
+ghost use Rattle.c_conversions.specs.OperandView.{operand_of};
 ghost use Rattle.c_scopes.specs.ArgumentView.{arguments_of};
 ghost use Rattle.c_scopes.specs.Tables.{scope_of};
 ghost use Rattle.c_rules.specs.Typing as rules;
@@ -17,12 +17,9 @@ ghost use Rattle.c_rules.specs.Typing as rules;
 use crate::call_arguments::{Arguments, call_of, constant_call_of, word_of};
 use crate::names::named;
 use crate::scopes::{Scopes, is_in, is_out};
+use c_conversions::{INT, Operand, UNSIGNED, class_of};
 use c_objects::{add, is_null, type_named};
-use c_operands::{
-    INT, Operand, UNSIGNED, address, assigned, assigned_by, behind, both_true, class_of,
-    either_true, indexed, loaded, negated, not_lvalue, number, picked, sized, stepped_after,
-    stepped_before, unary,
-};
+use c_operands::{address, assigned, assigned_by, behind, both_true, either_true, indexed, loaded, negated, not_lvalue, number, picked, sized, stepped_after, stepped_before, unary};
 use c_rules::{Refusal, mismatch};
 use c_syntax::{BinaryOp, Expr, ExprKind, PrefixOp, TypeName, UnaryOp};
 use c_tree::{ExprForm, TypedExpr};
@@ -159,7 +156,7 @@ fn cast(scopes: &Scopes<'_>, to: &TypeName, at: u32, value: &Expr) -> Result<Typ
 {
     let kind = type_named(to)?;
     let value = operand(scopes, value)?;
-    c_operands::cast(scopes.alloc, kind, at, value)
+    c_conversions::cast(scopes.alloc, kind, at, value)
 }
 
 #[cycle(expressions)]

@@ -7,10 +7,11 @@ ghost use Rattle.c_rules.specs.declared.fault.Rule.TheVariants as rule;
 ghost use Rattle.c_rules.specs.declared.meaning.Meaning.TheVariants as meanings;
 ghost use Rattle.c_scopes.specs.Tables.{scope_of};
 ghost use Rattle.c_rules.specs.Typing as rules;
-ghost use Rattle.c_operands.specs.OperandView.{operand_of};
+ghost use Rattle.c_conversions.specs.OperandView.{operand_of};
 
 use crate::scopes::{Scopes, is_in, is_out};
-use c_operands::{Operand, passed, pointer_to};
+use c_conversions::{Operand, pointer_to};
+use c_operands::passed;
 use c_rules::{FunctionType, Meaning, ObjectType, Refusal, Rule, mismatch};
 use c_tree::{ExprForm, TypedExpr, VarRef};
 use std::alloc::Global;

@@ -13,9 +13,9 @@ ghost use Rattle.c_rules.specs.declared.meaning.ObjectType.TheVariants as object
 ghost use Rattle.c_rules.specs.Declarations.{parameters};
 
 use c_bodies::Body;
+use c_conversions::starred;
 use c_frames::TypedFunction;
 use c_objects::{Starts, boxed, redeclared, spelled, static_list};
-use c_operands::starred;
 use c_rules::{Declared, FunctionType, Local, ObjectType, Refusal, mismatch};
 use c_scopes::{
     Scopes, declarator, declare_function, declare_parameters, declare_static, defined_parameters,

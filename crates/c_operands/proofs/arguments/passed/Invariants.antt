@@ -1,7 +1,7 @@
 use Rattle.std.proofs.Common.{◌≡◌, map, drop}
 use Rattle.std.specs.Vec.Iter.{into_iter_items}
 use Rattle.c_rules.specs.Operands as rules
-use Rattle.c_operands.specs.OperandView.{operand_of}
+use Rattle.c_conversions.specs.OperandView.{operand_of}
 use Rattle.c_operands.proofs.OperandLists.{passed_after}
 use Rattle.c_operands.proofs.arguments.passed.Given as goal
 

@@ -8,7 +8,7 @@ ghost use Rattle.c_rules.specs.declared.fault.Rule.TheVariants as rule;
 ghost use Rattle.c_rules.specs.Outcome.{Is, breaks};
 ghost use Rattle.c_rules.specs.Kinds as kinds;
 ghost use Rattle.c_rules.specs.Operands as rules;
-ghost use Rattle.c_operands.specs.OperandView.{operand_of};
+ghost use Rattle.c_conversions.specs.OperandView.{operand_of};
 
 use crate::kinds::{VOID_POINTER, class_of, is_void_pointer, same_kind, same_type};
 use c_rules::{Class, Refusal, mismatch};
@@ -23,7 +23,7 @@ pub struct Operand {
 }
 
 /// A value in a box. Where there is no memory, the value is let go here.
-pub(crate) fn in_box(alloc: Global, e: TypedExpr) -> Result<Box<TypedExpr>, Refusal>
+pub fn in_box(alloc: Global, e: TypedExpr) -> Result<Box<TypedExpr>, Refusal>
     ensures value { IfOk result (λ b. b.value ≡ e) }
     ensures memory { IfErr result (λ f. f ≡ refusals.NoMemory) }
 {
@@ -52,7 +52,7 @@ fn differing(alloc: Global, kind: ScalarType, e: TypedExpr) -> Result<TypedExpr,
 }
 
 /// A word of a type.
-pub(crate) fn word(value: u16, kind: ScalarType, at: u32) -> TypedExpr
+pub fn word(value: u16, kind: ScalarType, at: u32) -> TypedExpr
     ensures { expr_of result ≡ Node (Const value) (Some kind) at }
 {
     TypedExpr {
@@ -63,7 +63,7 @@ pub(crate) fn word(value: u16, kind: ScalarType, at: u32) -> TypedExpr
 }
 
 /// The null pointer of a type, in the place of a value.
-pub(crate) fn null_of(kind: ScalarType, at: u32) -> TypedExpr
+pub fn null_of(kind: ScalarType, at: u32) -> TypedExpr
     ensures { expr_of result ≡ Node (Const 0) (Some kind) at }
 {
     word(0, kind, at)
@@ -115,7 +115,7 @@ fn null_given(kind: ScalarType, at: u32, x: Operand) -> Result<TypedExpr, Refusa
 }
 
 /// A value as one of another type, or as none, at this place.
-pub(crate) fn conversion(kind: Option<ScalarType>, at: u32, value: Box<TypedExpr>) -> TypedExpr
+pub fn conversion(kind: Option<ScalarType>, at: u32, value: Box<TypedExpr>) -> TypedExpr
     ensures { expr_of result ≡ Node (Convert (expr_of value.value)) kind at }
 {
     TypedExpr {

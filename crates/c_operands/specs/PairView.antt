@@ -1,17 +1,13 @@
--- The pure operands that the checker's stand for.
+-- The pure pairs of operands that the checker's stand for, and the words that constants have.
 use Rattle.std.specs.Prelude.{ℕ, Bool, not, if◌then◌else◌, Option, Some, None}
 use Rattle.c_tree.specs.TypedTree.{Expr, Kind}
 use Rattle.c_tree.specs.Eval.{kind_of}
 use Rattle.c_tree.specs.View.{expr_of}
-use Rattle.c_operands.specs.declared.conversions.Operand as memory
 use Rattle.c_operands.specs.declared.pairs.Pair as pairs
 use Rattle.c_rules.specs.declared.fault.Rule.TheVariants.{Mismatch}
 use Rattle.c_rules.specs.Kinds.{is_void_pointer}
 use Rattle.c_rules.specs.Outcome.{Outcome, Is, breaks}
 use Rattle.c_rules.specs.Operands.{Operand, Pair, converted_like}
-
-abbrev pub operand_of : memory.Operand → Operand
-operand_of x = record { value = expr_of x.value; null = x.null }
 
 abbrev pub pair_of : pairs.Pair → Pair
 pair_of p = record { left = expr_of p.left.value; right = expr_of p.right.value }

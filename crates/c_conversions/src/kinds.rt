@@ -18,7 +18,7 @@ pub const UNSIGNED: ScalarType = ScalarType {
 };
 
 /// The type of a pointer to void.
-pub(crate) const VOID_POINTER: ScalarType = ScalarType {
+pub const VOID_POINTER: ScalarType = ScalarType {
     base: Base::Void,
     stars: 1,
 };
@@ -60,14 +60,14 @@ pub fn same_kind(a: Option<ScalarType>, b: Option<ScalarType>) -> bool
     }
 }
 
-pub(crate) fn is_void_pointer(kind: Option<ScalarType>) -> bool
+pub fn is_void_pointer(kind: Option<ScalarType>) -> bool
     ensures { result ≡ kinds.is_void_pointer kind }
 {
     same_kind(kind, Some(VOID_POINTER))
 }
 
 /// What int with unsigned gives.
-pub(crate) fn common(a: ScalarType, b: ScalarType) -> ScalarType
+pub fn common(a: ScalarType, b: ScalarType) -> ScalarType
     ensures { result ≡ kinds.common a b }
 {
     if same_type(a, UNSIGNED) || same_type(b, UNSIGNED) {
@@ -98,7 +98,7 @@ pub fn starred(base: Base, stars: u32) -> Option<ScalarType>
 }
 
 /// What a pointer points to.
-pub(crate) fn pointed(kind: ScalarType) -> Option<ScalarType>
+pub fn pointed(kind: ScalarType) -> Option<ScalarType>
     requires { 0 < kind.stars }
     ensures { result ≡ kinds.pointed kind }
 {
