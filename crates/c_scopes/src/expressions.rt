@@ -19,7 +19,10 @@ use crate::names::named;
 use crate::scopes::{Scopes, is_in, is_out};
 use c_conversions::{INT, Operand, UNSIGNED, class_of};
 use c_objects::{add, is_null, type_named};
-use c_operands::{address, assigned, assigned_by, behind, both_true, either_true, indexed, loaded, negated, not_lvalue, number, picked, sized, stepped_after, stepped_before, unary};
+use c_operands::{
+    address, assigned, assigned_by, behind, both_true, either_true, indexed, loaded, negated,
+    not_lvalue, number, picked, sized, stepped_after, stepped_before, unary,
+};
 use c_rules::{Refusal, mismatch};
 use c_syntax::{BinaryOp, Expr, ExprKind, PrefixOp, TypeName, UnaryOp};
 use c_tree::{ExprForm, TypedExpr};
