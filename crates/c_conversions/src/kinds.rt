@@ -18,7 +18,7 @@ pub const UNSIGNED: ScalarType = ScalarType {
 };
 
 /// The type of a pointer to void.
-pub const VOID_POINTER: ScalarType = ScalarType {
+pub(crate) const VOID_POINTER: ScalarType = ScalarType {
     base: Base::Void,
     stars: 1,
 };
@@ -60,6 +60,7 @@ pub fn same_kind(a: Option<ScalarType>, b: Option<ScalarType>) -> bool
     }
 }
 
+/// Whether a type is that of a pointer to void.
 pub fn is_void_pointer(kind: Option<ScalarType>) -> bool
     ensures { result ≡ kinds.is_void_pointer kind }
 {

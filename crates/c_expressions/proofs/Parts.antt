@@ -65,8 +65,3 @@ pub any_unread : {T : Type 0} {Row : T → List Token → Type 0} {Way : List To
     (f : Refusal) (r : Result (Tall T) Refusal) → IsErrAnd r (λ e. e ≡ f) → NoFront Way before → ReadsAny Row Way height_of depth before after r
 any_unread f (Ok x) h n = absurd h
 any_unread f (Err e) h n = any_as e (refuses_all e n)
-
-pub any_unkept : {T : Type 0} {Row : T → List Token → Type 0} {Way : List Token → List Token → Type 0} {height_of : T → ℕ} {depth : ℕ} {before after : List Token}
-    (f : Refusal) (r : Result (Tall T) Refusal) → IsErrAnd r (λ e. e ≡ f) → f ≡ refusals.NoMemory → ReadsAny Row Way height_of depth before after r
-any_unkept f (Ok x) h m = absurd h
-any_unkept f (Err e) h m = any_as e (err_memory _ h m)

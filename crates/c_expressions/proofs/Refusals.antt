@@ -18,10 +18,6 @@ pub passed_on : {T : Type 0} (f : Refusal) {P Q : Type 0} (r : Result T Refusal)
 passed_on f (Ok x) h p g = absurd h
 passed_on f {Q = Q} (Err e) h p g = subst (λ v. Refuses Q v) (sym h) (refuses f g p)
 
-pub known_to : {T : Type 0} {Q : Type 0} (r : Result T Refusal) → Q → IfErr r (λ e. Refuses Q e)
-known_to (Ok x) q = tt
-known_to (Err e) q = refuses_all e q
-
 -- the same of a result that goes out as it is
 pub goes_out : {T : Type 0} {P Q : Type 0} (r : Result T Refusal) → (P → Q) → IfErr r (λ e. Refuses P e) → IfErr r (λ e. Refuses Q e)
 goes_out (Ok x) g h = tt

@@ -6,4 +6,4 @@ pub mod Parses
 pub mod Takes
 pub mod Fronts
 pub mod Parts
-pub mod Gives
+pub mod Yields

@@ -13,7 +13,7 @@ ghost use Rattle.c_expressions.specs.Front.{mark_at};
 ghost use Rattle.c_expressions.specs.Operators.{level_row, row_at, infix_form, assignment_form, next_assignment, IsInfix};
 ghost use Rattle.c_expressions.specs.declared.fault.Refusal.TheVariants as refusals;
 ghost use Rattle.c_expressions.specs.Parses.{MayStart, IsMeasured, IsParsed, IsMore, IsNode, NoReading, NoMore};
-ghost use Rattle.c_expressions.specs.Gives.{Gives};
+ghost use Rattle.c_expressions.specs.Yields.{Yields};
 
 use crate::fault::Refusal;
 use crate::operators::{Assignment, Infix, Level, assignment_of, infix_of};
@@ -30,7 +30,7 @@ impl<'a> Parser<'a> {
     ) -> Result<Parsed, Refusal>
         requires room { depth < greatest_height }
         requires start { MayStart depth start }
-        ensures { Gives (λ p. IsParsed ExpressionRow start self.old.cursor depth p self.new.cursor) (NoReading ExpressionRow start depth self.old.cursor) result }
+        ensures { Yields (λ p. IsParsed ExpressionRow start self.old.cursor depth p self.new.cursor) (NoReading ExpressionRow start depth self.old.cursor) result }
     {
         let first = self.assignment(start, depth)?;
         self.commas(first, depth)
@@ -42,7 +42,7 @@ impl<'a> Parser<'a> {
     fn commas(&mut self, start: Parsed, depth: u32) -> Result<Parsed, Refusal>
         requires room { depth < greatest_height }
         requires start { IsMeasured depth start }
-        ensures { Gives (λ p. IsMore ExpressionRow start self.old.cursor depth p self.new.cursor) (NoMore ExpressionRow start depth self.old.cursor) result }
+        ensures { Yields (λ p. IsMore ExpressionRow start self.old.cursor depth p self.new.cursor) (NoMore ExpressionRow start depth self.old.cursor) result }
     {
         let mut left = start;
         while self.cursor.stands(Punct::Comma) {
@@ -77,7 +77,7 @@ impl<'a> Parser<'a> {
     ) -> Result<Parsed, Refusal>
         requires room { depth < greatest_height }
         requires start { MayStart depth start }
-        ensures { Gives (λ p. IsParsed AssignmentRow start self.old.cursor depth p self.new.cursor) (NoReading AssignmentRow start depth self.old.cursor) result }
+        ensures { Yields (λ p. IsParsed AssignmentRow start self.old.cursor depth p self.new.cursor) (NoReading AssignmentRow start depth self.old.cursor) result }
     {
         let left = self.conditional(start, depth)?;
         let Some(assignment) = self.next_assignment() else {
@@ -101,7 +101,7 @@ impl<'a> Parser<'a> {
         requires left { IsMeasured depth left }
         requires unary { left.is_unary ≡ true }
         requires assignment { next_assignment (next_of self.old.cursor) ≡ Some assignment }
-        ensures { Gives (λ p. IsMore AssignmentRow left self.old.cursor depth p self.new.cursor) (NoMore AssignmentRow left depth self.old.cursor) result }
+        ensures { Yields (λ p. IsMore AssignmentRow left self.old.cursor depth p self.new.cursor) (NoMore AssignmentRow left depth self.old.cursor) result }
     {
         self.allow(left.height, depth)?;
         self.cursor.skip();
@@ -141,7 +141,7 @@ impl<'a> Parser<'a> {
     ) -> Result<Parsed, Refusal>
         requires room { depth < greatest_height }
         requires start { MayStart depth start }
-        ensures { Gives (λ p. IsParsed ConditionalRow start self.old.cursor depth p self.new.cursor) (NoReading ConditionalRow start depth self.old.cursor) result }
+        ensures { Yields (λ p. IsParsed ConditionalRow start self.old.cursor depth p self.new.cursor) (NoReading ConditionalRow start depth self.old.cursor) result }
     {
         let test = self.levels(Some(Level::Or), start, depth)?;
         if !self.cursor.stands(Punct::Question) {
@@ -156,7 +156,7 @@ impl<'a> Parser<'a> {
         requires room { depth < greatest_height }
         requires test { IsMeasured depth test }
         requires question { mark_at self.old.cursor ≡ Some marks.Question }
-        ensures { Gives (λ p. IsMore ConditionalRow test self.old.cursor depth p self.new.cursor) (NoMore ConditionalRow test depth self.old.cursor) result }
+        ensures { Yields (λ p. IsMore ConditionalRow test self.old.cursor depth p self.new.cursor) (NoMore ConditionalRow test depth self.old.cursor) result }
     {
         self.allow(test.height, depth)?;
         self.cursor.skip();
@@ -193,7 +193,7 @@ impl<'a> Parser<'a> {
     ) -> Result<Parsed, Refusal>
         requires room { depth < greatest_height }
         requires start { MayStart depth start }
-        ensures { Gives (λ p. IsParsed (row_at loosest) start self.old.cursor depth p self.new.cursor) (NoReading (row_at loosest) start depth self.old.cursor) result }
+        ensures { Yields (λ p. IsParsed (row_at loosest) start self.old.cursor depth p self.new.cursor) (NoReading (row_at loosest) start depth self.old.cursor) result }
     {
         let mut left = self.cast(start, depth)?;
         let mut level = None;
@@ -210,7 +210,7 @@ impl<'a> Parser<'a> {
     fn more_of(&mut self, level: Level, start: Parsed, depth: u32) -> Result<Parsed, Refusal>
         requires room { depth < greatest_height }
         requires start { IsMeasured depth start }
-        ensures { Gives (λ p. IsMore (level_row level) start self.old.cursor depth p self.new.cursor) (NoMore (level_row level) start depth self.old.cursor) result }
+        ensures { Yields (λ p. IsMore (level_row level) start self.old.cursor depth p self.new.cursor) (NoMore (level_row level) start depth self.old.cursor) result }
     {
         let mut left = start;
         while let Some(operator) = self.operator_of(level) {
@@ -246,7 +246,7 @@ impl<'a> Parser<'a> {
     pub(crate) fn cast(&mut self, start: Option<Parsed>, depth: u32) -> Result<Parsed, Refusal>
         requires room { depth < greatest_height }
         requires start { MayStart depth start }
-        ensures { Gives (λ p. IsParsed CastRow start self.old.cursor depth p self.new.cursor) (NoReading CastRow start depth self.old.cursor) result }
+        ensures { Yields (λ p. IsParsed CastRow start self.old.cursor depth p self.new.cursor) (NoReading CastRow start depth self.old.cursor) result }
     {
         match start {
             Some(start) => self.unary(Some(start), depth),
@@ -258,7 +258,7 @@ impl<'a> Parser<'a> {
     #[cycle(parser)]
     fn first_cast(&mut self, depth: u32) -> Result<Parsed, Refusal>
         requires { depth < greatest_height }
-        ensures { Gives (λ p. IsParsed CastRow None self.old.cursor depth p self.new.cursor) (NoReading CastRow None depth self.old.cursor) result }
+        ensures { Yields (λ p. IsParsed CastRow None self.old.cursor depth p self.new.cursor) (NoReading CastRow None depth self.old.cursor) result }
     {
         if !self.cursor.opens_type() {
             return self.unary(None, depth);

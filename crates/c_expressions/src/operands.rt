@@ -11,7 +11,7 @@ ghost use Rattle.c_expressions.specs.Front.{mark_at, word_at, name_at, opens_typ
 ghost use Rattle.c_expressions.specs.Operators.{step_at, prefix_at};
 ghost use Rattle.c_expressions.specs.Parses.{MayStart, IsMeasured, IsParsed, IsOperand, IsBehind, IsOneBehind, IsConstant, constant_form, constant_at, IsNode, ReadsClosed, Opened, AreRead, NoReading, NoOperand, NoneBehind, NoArguments, NotClosed};
 ghost use Rattle.c_expressions.specs.Refusals.{Refuses};
-ghost use Rattle.c_expressions.specs.Gives.{Gives};
+ghost use Rattle.c_expressions.specs.Yields.{Yields};
 
 use crate::fault::Refusal;
 use crate::operators::{prefix_of, step_of};
@@ -25,7 +25,7 @@ impl<'a> Parser<'a> {
     pub(crate) fn unary(&mut self, start: Option<Parsed>, depth: u32) -> Result<Parsed, Refusal>
         requires room { depth < greatest_height }
         requires start { MayStart depth start }
-        ensures { Gives (λ p. IsParsed UnaryRow start self.old.cursor depth p self.new.cursor) (NoReading UnaryRow start depth self.old.cursor) result }
+        ensures { Yields (λ p. IsParsed UnaryRow start self.old.cursor depth p self.new.cursor) (NoReading UnaryRow start depth self.old.cursor) result }
     {
         match start {
             Some(start) => self.postfix(start, depth),
@@ -37,7 +37,7 @@ impl<'a> Parser<'a> {
     #[cycle(parser)]
     fn first_unary(&mut self, depth: u32) -> Result<Parsed, Refusal>
         requires { depth < greatest_height }
-        ensures { Gives (λ p. IsParsed UnaryRow None self.old.cursor depth p self.new.cursor) (NoReading UnaryRow None depth self.old.cursor) result }
+        ensures { Yields (λ p. IsParsed UnaryRow None self.old.cursor depth p self.new.cursor) (NoReading UnaryRow None depth self.old.cursor) result }
     {
         if self.cursor.stands_word(Keyword::Sizeof) {
             return self.size(depth);
@@ -71,7 +71,7 @@ impl<'a> Parser<'a> {
     fn step(&mut self, up: bool, depth: u32) -> Result<Parsed, Refusal>
         requires room { depth < greatest_height }
         requires step { step_at (mark_at self.old.cursor) ≡ Some up }
-        ensures { Gives (λ p. IsParsed UnaryRow None self.old.cursor depth p self.new.cursor) (NoReading UnaryRow None depth self.old.cursor) result }
+        ensures { Yields (λ p. IsParsed UnaryRow None self.old.cursor depth p self.new.cursor) (NoReading UnaryRow None depth self.old.cursor) result }
     {
         let at = self.cursor.place();
         self.allow(1, depth)?;
@@ -97,7 +97,7 @@ impl<'a> Parser<'a> {
     fn prefix(&mut self, op: PrefixOp, depth: u32) -> Result<Parsed, Refusal>
         requires room { depth < greatest_height }
         requires operator { prefix_at (mark_at self.old.cursor) ≡ Some op }
-        ensures { Gives (λ p. IsParsed UnaryRow None self.old.cursor depth p self.new.cursor) (NoReading UnaryRow None depth self.old.cursor) result }
+        ensures { Yields (λ p. IsParsed UnaryRow None self.old.cursor depth p self.new.cursor) (NoReading UnaryRow None depth self.old.cursor) result }
     {
         let at = self.cursor.place();
         self.allow(1, depth)?;
@@ -123,7 +123,7 @@ impl<'a> Parser<'a> {
     fn size(&mut self, depth: u32) -> Result<Parsed, Refusal>
         requires room { depth < greatest_height }
         requires word { word_at self.old.cursor ≡ Some keywords.Sizeof }
-        ensures { Gives (λ p. IsParsed UnaryRow None self.old.cursor depth p self.new.cursor) (NoReading UnaryRow None depth self.old.cursor) result }
+        ensures { Yields (λ p. IsParsed UnaryRow None self.old.cursor depth p self.new.cursor) (NoReading UnaryRow None depth self.old.cursor) result }
     {
         let at = self.cursor.place();
         self.allow(1, depth)?;
@@ -148,7 +148,7 @@ impl<'a> Parser<'a> {
     // `(`, a type and `)`.
     pub(crate) fn type_in_parentheses(&mut self) -> Result<TypeName, Refusal>
         requires { opens_type self.old.cursor ≡ true }
-        ensures { Gives (λ tree. ReadsClosed self.old.cursor (type_of tree) self.new.cursor) (NotClosed self.old.cursor) result }
+        ensures { Yields (λ tree. ReadsClosed self.old.cursor (type_of tree) self.new.cursor) (NotClosed self.old.cursor) result }
     {
         self.cursor.skip();
         let type_name = self.type_name()?;
@@ -161,7 +161,7 @@ impl<'a> Parser<'a> {
     fn postfix(&mut self, start: Parsed, depth: u32) -> Result<Parsed, Refusal>
         requires room { depth < greatest_height }
         requires start { IsMeasured depth start }
-        ensures { Gives (λ p. IsBehind start self.old.cursor depth p self.new.cursor) (NoneBehind start depth self.old.cursor) result }
+        ensures { Yields (λ p. IsBehind start self.old.cursor depth p self.new.cursor) (NoneBehind start depth self.old.cursor) result }
     {
         let mut left = start;
         loop {
@@ -181,7 +181,7 @@ impl<'a> Parser<'a> {
         requires room { depth < greatest_height }
         requires left { IsMeasured depth left }
         requires open { mark_at self.old.cursor ≡ Some marks.OpenBracket }
-        ensures { Gives (λ p. IsOneBehind left self.old.cursor depth p self.new.cursor) (NoneBehind left depth self.old.cursor) result }
+        ensures { Yields (λ p. IsOneBehind left self.old.cursor depth p self.new.cursor) (NoneBehind left depth self.old.cursor) result }
     {
         self.allow(left.height, depth)?;
         self.cursor.skip();
@@ -209,7 +209,7 @@ impl<'a> Parser<'a> {
     fn stepped(&mut self, left: Parsed, up: bool, depth: u32) -> Result<Parsed, Refusal>
         requires left { IsMeasured depth left }
         requires step { step_at (mark_at self.old.cursor) ≡ Some up }
-        ensures { Gives (λ p. IsOneBehind left self.old.cursor depth p self.new.cursor) (NoneBehind left depth self.old.cursor) result }
+        ensures { Yields (λ p. IsOneBehind left self.old.cursor depth p self.new.cursor) (NoneBehind left depth self.old.cursor) result }
     {
         self.allow(left.height, depth)?;
         self.cursor.skip();
@@ -232,7 +232,7 @@ impl<'a> Parser<'a> {
     #[cycle(parser)]
     fn primary(&mut self, depth: u32) -> Result<Parsed, Refusal>
         requires room { depth < greatest_height }
-        ensures { Gives (λ p. IsOperand self.old.cursor depth p self.new.cursor) (NoOperand depth self.old.cursor) result }
+        ensures { Yields (λ p. IsOperand self.old.cursor depth p self.new.cursor) (NoOperand depth self.old.cursor) result }
     {
         if self.cursor.stands(Punct::OpenParen) {
             return self.parenthesised(depth);
@@ -245,7 +245,7 @@ impl<'a> Parser<'a> {
 
     // A number or a character.
     fn constant(&mut self) -> Result<Parsed, Refusal>
-        ensures { Gives (λ p. IsConstant self.old.cursor p self.new.cursor) (constant_at self.old.cursor ≡ None) result }
+        ensures { Yields (λ p. IsConstant self.old.cursor p self.new.cursor) (constant_at self.old.cursor ≡ None) result }
     {
         let at = self.cursor.place();
         let Some(kind) = self.cursor.kind() else {
@@ -263,7 +263,7 @@ impl<'a> Parser<'a> {
     fn named(&mut self, depth: u32) -> Result<Parsed, Refusal>
         requires room { depth < greatest_height }
         requires name { IsSome (name_at self.old.cursor) }
-        ensures { Gives (λ p. IsOperand self.old.cursor depth p self.new.cursor) (NoOperand depth self.old.cursor) result }
+        ensures { Yields (λ p. IsOperand self.old.cursor depth p self.new.cursor) (NoOperand depth self.old.cursor) result }
     {
         let at = self.cursor.place();
         let name = self.cursor.take_name()?;
@@ -283,7 +283,7 @@ impl<'a> Parser<'a> {
     #[cycle(parser)]
     fn arguments(&mut self, depth: u32) -> Result<Arguments, Refusal>
         requires room { depth < greatest_height }
-        ensures { Gives (λ a. AreRead self.old.cursor depth a self.new.cursor) (NoArguments depth self.old.cursor) result }
+        ensures { Yields (λ a. AreRead self.old.cursor depth a self.new.cursor) (NoArguments depth self.old.cursor) result }
     {
         let mut arguments = Arguments {
             list: Vec::new(self.alloc),
@@ -309,7 +309,7 @@ impl<'a> Parser<'a> {
     fn parenthesised(&mut self, depth: u32) -> Result<Parsed, Refusal>
         requires room { depth < greatest_height }
         requires open { mark_at self.old.cursor ≡ Some marks.OpenParen }
-        ensures { Gives (λ p. IsOperand self.old.cursor depth p self.new.cursor) (NoOperand depth self.old.cursor) result }
+        ensures { Yields (λ p. IsOperand self.old.cursor depth p self.new.cursor) (NoOperand depth self.old.cursor) result }
     {
         let mut places = self.open_parentheses()?;
         let mut inner = self.expression(None, depth)?;

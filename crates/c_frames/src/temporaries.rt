@@ -93,7 +93,7 @@ fn larger(a: Result<u32, NoMemory>, b: Result<u32, NoMemory>) -> Result<u32, NoM
     Ok(a?.max(b?))
 }
 
-// An operator on two operands, of which so many are known.
+// An operator on two operands that want so many, unless their count wanted memory.
 fn binary(
     left: &TypedExpr,
     first: Result<u32, NoMemory>,

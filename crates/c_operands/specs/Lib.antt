@@ -1,1 +1,2 @@
 pub mod PairView
+pub mod ConstantWords

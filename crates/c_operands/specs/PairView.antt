@@ -1,6 +1,6 @@
--- The pure pairs of operands that the checker's stand for, and the words that constants have.
-use Rattle.std.specs.Prelude.{ℕ, Bool, not, if◌then◌else◌, Option, Some, None}
-use Rattle.c_tree.specs.TypedTree.{Expr, Kind}
+-- The pure pairs of operands that the checker's stand for.
+use Rattle.std.specs.Prelude.{ℕ, Bool, not, if◌then◌else◌}
+use Rattle.c_tree.specs.TypedTree.{Expr}
 use Rattle.c_tree.specs.Eval.{kind_of}
 use Rattle.c_tree.specs.View.{expr_of}
 use Rattle.c_operands.specs.declared.pairs.Pair as pairs
@@ -24,8 +24,3 @@ abbrev pub beside_void : ℕ → Expr → Expr → Outcome Pair
 beside_void at x y =
     if is_void_pointer (kind_of x) then Is (record { left = x; right = converted_like x y })
     else breaks (not (is_void_pointer (kind_of y))) Mismatch at (Is (record { left = converted_like y x; right = y }))
-
--- a word of a type, of which void has none
-abbrev pub valued : Kind → Option ℕ → Option ℕ
-valued None word = None
-valued (Some kind) word = word

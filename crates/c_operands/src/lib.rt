@@ -1,4 +1,4 @@
-//! What operators, conversions, assignments and calls make of typed operands: ISO 9899:1990 6.2 to 6.4.
+//! What operators, assignments and calls make of typed operands: ISO 9899:1990 6.2 to 6.4.
 //!
 //! No scope is known here: each function takes typed trees and gives one, or the rule that they break.
 #![tactic(auto)]

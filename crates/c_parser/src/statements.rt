@@ -453,7 +453,7 @@ fn inner_block(parser: &mut Parser<'_>, depth: u32) -> Result<Tall<Stmt>, Refusa
     Ok(block_over(at, body))
 }
 
-/// What stands behind the `{` of a block under so many nodes, and `}`.
+/// What stands behind the `{` of a block under so many nodes, and `}`. The height is the block's.
 #[cycle(statements)]
 pub(crate) fn body(parser: &mut Parser<'_>, depth: u32) -> Result<Tall<BlockBody>, Refusal>
     requires { depth < greatest_height }

@@ -1,4 +1,4 @@
--- What is known at a point of a run, where a word is taken from a port or an array gets its list.
+-- What is known at a point of a run, where a word is taken from a port.
 use Rattle.std.proofs.Common.{◌≡◌, ℕ, List, sym, ap, ◌∙◌}
 use Rattle.word_base.specs.Ports.{Input, Outputs}
 use Rattle.c_tree.specs.Store as runs

@@ -29,7 +29,7 @@ impl Inputs {
     }
 
     /// Takes the next word of a port, where there is one.
-    pub fn take(&mut self, port: u8) -> Option<u16>
+    pub(crate) fn take(&mut self, port: u8) -> Option<u16>
         ensures { MatchOption result
             (input_left self.old port ≡ [])
             (λ word. IsTaken (input_left self.old) port word (input_left self.new)) }

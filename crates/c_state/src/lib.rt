@@ -18,4 +18,4 @@ pub use names::Names;
 pub use operators::Operand;
 pub use state::State;
 pub use store::Store;
-pub use value::{Cell, Name, Spot, Stop, Value, bad_pointer, undefined};
+pub use value::{Cell, Name, Spot, Stop, Value, undefined};

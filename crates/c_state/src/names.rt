@@ -59,7 +59,7 @@ impl Names {
 }
 
 /// A static object: these are made first, in order, and live as long as the run.
-pub fn static_name(number: u32) -> Name
+pub(crate) fn static_name(number: u32) -> Name
     ensures { result.number ≡ number }
 {
     Name {

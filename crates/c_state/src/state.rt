@@ -11,6 +11,7 @@ use crate::value::{Cell, Spot, Stop, Value, bad_pointer, undefined};
 use c_tree::{ScalarType, points};
 use word_base::{Ending, PortWord, UndefinedKind};
 
+/// The objects, the input that is left, and the outputs so far, in their order.
 #[derive(Drop)]
 pub struct State {
     pub store: Store,

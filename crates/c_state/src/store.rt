@@ -61,7 +61,7 @@ impl Store {
     }
 
     /// How many cells an object has, while it lives.
-    pub fn length(&self, object: Name) -> Option<usize>
+    pub(crate) fn length(&self, object: Name) -> Option<usize>
         ensures { result ≡ option_map (λ o. length o.cells) ((store_of self.now).living object.number) }
     {
         let place = find(&self.objects, object)?;
@@ -69,7 +69,7 @@ impl Store {
     }
 
     /// A cell of an object that lives and is of the wanted kind.
-    pub fn cell(&self, object: Name, index: u16, is_pointer: bool) -> Option<Cell>
+    pub(crate) fn cell(&self, object: Name, index: u16, is_pointer: bool) -> Option<Cell>
         ensures { option_cell_of result ≡ runs.cell_of ((store_of self.now).living object.number) index is_pointer }
     {
         let place = find(&self.objects, object)?;

@@ -54,10 +54,10 @@ pub struct Spot {
 
 /// An object that lives.
 #[derive(Drop)]
-pub struct Living {
-    pub number: u64,
-    pub kind: ScalarType,
-    pub cells: Vec<Cell>,
+pub(crate) struct Living {
+    pub(crate) number: u64,
+    pub(crate) kind: ScalarType,
+    pub(crate) cells: Vec<Cell>,
 }
 
 /// Why a part of a run gives no value.
@@ -103,7 +103,7 @@ pub fn undefined(kind: UndefinedKind, at: u32) -> Stop
 }
 
 /// A pointer that points to no cell of the wanted kind, at a place.
-pub fn bad_pointer(at: u32) -> Stop
+pub(crate) fn bad_pointer(at: u32) -> Stop
     ensures { result ≡ stops.Undefined kinds.BadPointer at }
 {
     undefined(UndefinedKind::BadPointer, at)

@@ -95,6 +95,7 @@ fn fit(value: i32) -> Result<u16, UndefinedKind>
     }
 }
 
+// The product of two ints is always within 32 bits, so there is one.
 fn int_product(a: u16, b: u16) -> Result<u16, UndefinedKind>
     ensures { result ≡ answer (words.int_multiply a b) }
 {

@@ -26,8 +26,8 @@ file_of f = record {
 }
 
 -- a body, with the objects of its function
-abbrev pub body_of : bodies.TypedBody → Typed Stmt
-body_of b = record { tree = stmt_of b.tree.value; locals = map local_tree_of b.locals.items }
+abbrev pub typed_body_of : bodies.TypedBody → Typed Stmt
+typed_body_of b = record { tree = stmt_of b.tree.value; locals = map local_tree_of b.locals.items }
 
 -- the program of a file whose functions' objects stand for these
 abbrev pub made_of : List (Vec VarRef Global) → Contents → ProgramTree

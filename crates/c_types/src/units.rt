@@ -7,7 +7,7 @@ ghost use Rattle.c_objects.specs.InitialiserView.{starts_of};
 ghost use Rattle.c_rules.specs.Units as rules;
 ghost use Rattle.c_rules.specs.LocalView.{local_tree_of};
 ghost use Rattle.c_rules.specs.Statements as statements;
-ghost use Rattle.c_types.specs.View.{body_of, static_tree_of, file_of};
+ghost use Rattle.c_types.specs.View.{typed_body_of, static_tree_of, file_of};
 ghost use Rattle.c_rules.specs.declared.meaning.Declared.TheVariants as declares;
 ghost use Rattle.c_rules.specs.declared.meaning.ObjectType.TheVariants as objects;
 ghost use Rattle.c_rules.specs.Declarations.{parameters};
@@ -127,7 +127,7 @@ fn typed_body<'a>(
     locals: Vec<Local>,
     f: &'a FunctionDef,
 ) -> Result<TypedBody, Refusal>
-    ensures follows { Follows body_of (statements.typed_body kind (scope_of scopes.old) (map local_tree_of locals.items) (function_syntax_of f.now).declarations (function_syntax_of f.now).statements) result }
+    ensures follows { Follows typed_body_of (statements.typed_body kind (scope_of scopes.old) (map local_tree_of locals.items) (function_syntax_of f.now).declarations (function_syntax_of f.now).statements) result }
     ensures tables { (outer : Table) (rest : List Table) → around_of scopes.old ≡ outer ∷ rest → OnOk result (tables_of scopes.new ≡ outer ∷ rest) }
     ensures bodies { OnOk result ((scope_of scopes.new).bodies ≡ (scope_of scopes.old).bodies) }
 {

@@ -5,7 +5,7 @@ use Rattle.c_rules.specs.Scopes.{open_scope}
 use Rattle.c_rules.specs.Units.{with_parameters, parameter_locals}
 use Rattle.c_scopes.specs.Tables.{scope_of, tables_of}
 use Rattle.c_scopes.proofs.ScopesKept.{scope_kept}
-use Rattle.c_types.specs.View.{body_of, file_of}
+use Rattle.c_types.specs.View.{typed_body_of, file_of}
 use Rattle.c_types.proofs.UnitLemmas.{body_typed, function_pushed}
 use Rattle.c_types.proofs.units.File.body.Goals as goal
 
@@ -19,7 +19,7 @@ returns c =
     let kept : scope_of c.typed_body.new.scopes ≡ scope_of old =
     scope_kept c.typed_body.new.scopes old tables (c.in_ok-typed.ensures.bodies ∙ c.in_ok-declare_parameters.ensures.bodies ∙ c.in_ok-open.ensures.bodies) in
     body_typed (file_of c.args.self.now) (function_syntax_of f) c.args.kind c.args.kinds.now
-    (scope_of c.declare_parameters.new.scopes) (map local_tree_of c.in_ok-locals.locals.items) (body_of c.in_ok-typed.typed)
+    (scope_of c.declare_parameters.new.scopes) (map local_tree_of c.in_ok-locals.locals.items) (typed_body_of c.in_ok-typed.typed)
     (file_of (record { scopes = c.typed_body.new.scopes; statics = c.args.self.now.statics; functions = c.push.new.self }))
     (c.in_ok-declare_parameters.ensures.declared
     ∙ ap (λ s. with_parameters s 0 (map parameter_of list) c.args.kinds.now) c.in_ok-open.ensures.opened
@@ -28,6 +28,6 @@ returns c =
     ∙ ap (λ l. parameter_locals (map parameter_of l) c.args.kinds.now) c.as_slice-list.ensures)
     c.in_ok-typed.ensures.follows
     (function_pushed (file_of c.args.self.now) (scope_of c.typed_body.new.scopes) c.args.self.now.functions.items c.push.new.self.items _ f.name c.args.kind c.args.kinds.now
-    (body_of c.in_ok-typed.typed)
+    (typed_body_of c.in_ok-typed.typed)
     kept refl c.in_ok-push.ensures.items
-    (λ i. record { name = (c.in_ok-name.ensures ∙ c.as_str-name.ensures) i; result = c.args.kind; parameters = length c.args.kinds.now; locals = (body_of c.in_ok-typed.typed).locals; body = (body_of c.in_ok-typed.typed).tree }))
+    (λ i. record { name = (c.in_ok-name.ensures ∙ c.as_str-name.ensures) i; result = c.args.kind; parameters = length c.args.kinds.now; locals = (typed_body_of c.in_ok-typed.typed).locals; body = (typed_body_of c.in_ok-typed.typed).tree }))

@@ -4,6 +4,6 @@ use Rattle.c_expressions.specs.declared.fault.Refusal.{Refusal}
 use Rattle.c_expressions.specs.Refusals.{Refuses}
 
 -- what is so of a part that was read, and what a refusal for syntax tells
-pub record Gives {T : Type 0} (P : T → Type 0) (Q : Type 0) (result : Result T Refusal) : Type 0 where
+pub record Yields {T : Type 0} (P : T → Type 0) (Q : Type 0) (result : Result T Refusal) : Type 0 where
   pub parsed : IfOk result P
   pub refused : IfErr result (Refuses Q)
