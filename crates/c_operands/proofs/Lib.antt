@@ -1,2 +1,1 @@
 pub mod OperandLists
-pub mod WordLemmas

@@ -1,2 +1,1 @@
 pub mod PairView
-pub mod ConstantWords

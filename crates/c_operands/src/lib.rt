@@ -4,13 +4,11 @@
 #![tactic(auto)]
 
 mod arguments;
-mod constants;
 mod operands;
 mod pairs;
 mod writes;
 
 pub use arguments::{input, output, passed, wrong_count};
-pub use constants::constant;
 pub use operands::{behind, binary, both_true, either_true, negated, number, picked, sized, unary};
 pub use writes::{
     address, assigned, assigned_by, indexed, loaded, not_lvalue, stepped_after, stepped_before,

@@ -1,9 +1,9 @@
 use Rattle.std.proofs.Common.{◌∙◌, ap, Some}
 use Rattle.c_rules.specs.Constants.{word_of_one, tested, truth_of}
 use Rattle.c_tree.specs.View.{expr_of}
-use Rattle.c_operands.specs.ConstantWords.{valued}
-use Rattle.c_operands.proofs.WordLemmas.{wordless, of_shape, held, of_conversion, by_two, by_three}
-use Rattle.c_operands.proofs.constants.+word_of.Goals as goal
+use Rattle.c_constants.specs.ConstantWords.{valued}
+use Rattle.c_constants.proofs.WordLemmas.{wordless, of_shape, held, of_conversion, by_two, by_three}
+use Rattle.c_constants.proofs.constants.+word_of.Goals as goal
 
 pub returns-in_default : goal.returns-in_default
 returns-in_default t c =

@@ -3,7 +3,7 @@ ghost use Rattle.std.specs.Prelude.{◌≡◌};
 ghost use Rattle.c_syntax.specs.SyntaxView.{expression_of};
 ghost use Rattle.c_tree.specs.View.{expr_of};
 ghost use Rattle.c_rules.specs.Constants as constants;
-ghost use Rattle.c_operands.specs.ConstantWords.{valued};
+ghost use Rattle.c_constants.specs.ConstantWords.{valued};
 
 use c_syntax::{BinaryOp, Expr, ExprKind, UnaryOp};
 use c_tree::{

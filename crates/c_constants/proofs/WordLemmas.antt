@@ -10,7 +10,7 @@ use Rattle.c_tree.specs.declared.typed_expression.ExprForm.{ExprForm}
 use Rattle.c_tree.specs.TypedTree.{Expr, Kind, Node, Convert}
 use Rattle.c_tree.specs.View.{expr_of, form_of}
 use Rattle.c_rules.specs.Constants.{word_of}
-use Rattle.c_operands.specs.ConstantWords.{valued}
+use Rattle.c_constants.specs.ConstantWords.{valued}
 
 abbrev Held : Type 0
 Held = Box TypedExpr Global
