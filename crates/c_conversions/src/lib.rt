@@ -8,6 +8,6 @@ mod kinds;
 
 pub use conversions::{Operand, cast, conversion, given, in_box, null_of, word};
 pub use kinds::{
-    INT, UNSIGNED, class_of, common, is_void_pointer, pointed, pointer_to, same_kind,
-    same_type, starred,
+    INT, UNSIGNED, class_of, common, is_void_pointer, pointed, pointer_to, same_kind, same_type,
+    starred,
 };
