@@ -1,3 +1,4 @@
 pub mod Inputs
 pub mod Moves
+pub mod Puts
 pub mod Steps

@@ -1,5 +1,5 @@
 -- What the simulator's answers say of the machine: its steps and runs as docs/MACHINE.md has them.
-use Rattle.std.specs.Prelude.{ℕ, zero, suc}
+use Rattle.std.specs.Prelude.{◌≡◌, ◌<◌, ℕ, zero, suc, Bool, true, false}
 use Rattle.word_base.specs.Ports.{Outputs}
 use Rattle.c25_isa.specs.declared.event as types
 use Rattle.c25_isa.specs.declared.event.Event.TheVariants as code
@@ -33,3 +33,19 @@ behind (Trapped kind at) s = s
 abbrev pub state_after : ℕ → State → State
 state_after zero s = s
 state_after (suc m) s = state_after m (behind (step s) s)
+
+-- whether a step makes an output
+abbrev pub puts : Event → Bool
+puts (Ran t) = false
+puts (Put word t) = true
+puts (Over ending) = false
+puts (Trapped kind at) = false
+
+-- the state behind fewer than m steps from s, of which the next step makes an output
+pub record StandsBeforeOutput (m : ℕ) (s now : State) : Type 0 where
+  pub done : ℕ
+  pub fewer : done < m
+  pub is_behind : now ≡ state_after done s
+  pub word : ℕ × ℕ
+  pub next : State
+  pub step_is : step now ≡ Put word next

@@ -1,3 +1,4 @@
 pub mod MachineView
 pub mod Taken
+pub mod Rows
 pub mod Answers

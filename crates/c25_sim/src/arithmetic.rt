@@ -1,5 +1,5 @@
 //! What instructions compute.
-ghost use Rattle.std.specs.Prelude.{◌≡◌, ◌<◌, ◌*◌, ◌^◌};
+ghost use Rattle.std.specs.Prelude.{◌≡◌, ◌<◌, ◌*◌, ◌/◌, ◌^◌};
 ghost use Rattle.c25_isa.specs.Step as spec;
 
 use c25_isa::Change;
@@ -36,6 +36,22 @@ pub fn shifted_left(value: u32, shift: u8) -> u32
     ensures { result ≡ spec.wrap32 (value * 2 ^ shift) }
 {
     value.wrapping_mul(1 << shift)
+}
+
+/// The low half of a number, shifted to the left by at most 15.
+pub fn low_word(value: u32, shift: u8) -> u16
+    requires { shift < 16 }
+    ensures { result ≡ spec.wrap16 (value * 2 ^ shift) }
+{
+    (shifted_left(value, shift) % 0x1_0000) as u16
+}
+
+/// The high half of a number, shifted to the left by at most 15.
+pub fn high_word(value: u32, shift: u8) -> u16
+    requires { shift < 16 }
+    ensures { result ≡ spec.wrap32 (value * 2 ^ shift) / 65536 }
+{
+    (shifted_left(value, shift) / 0x1_0000) as u16
 }
 
 /// The low 32 bits of a number.

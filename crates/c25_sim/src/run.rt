@@ -1,12 +1,13 @@
 //! Machines, their steps and their runs.
-ghost use Rattle.std.specs.Prelude.{◌≡◌, ◌≢◌, ◌<◌, ◌≤◌, [], ℕ, Some, IfOk, OnOk, OnErr, IsTrue, slice_index_or, vec_len};
+ghost use Rattle.std.specs.Prelude.{◌≡◌, ◌≢◌, ◌<◌, [], ℕ, true, false, Some, IfOk, IfSome, OnSome, IsNone, OnOk, OnErr, IsTrue, slice_index_or, vec_len};
 ghost use Rattle.arrayvec.specs.ArrayVec.{array_vec_len};
 ghost use Rattle.word_base.specs.Ports.{input_of};
 ghost use Rattle.c25_isa.specs.Table.{IsInstr};
 ghost use Rattle.c25_isa.specs.StartView.{start_of};
 ghost use Rattle.c25_isa.specs.Step as spec;
 ghost use Rattle.c25_isa.specs.MachineRun.{reset, run_from};
-ghost use Rattle.c25_sim.specs.Answers.{event_of, reached_of, behind, state_after};
+ghost use Rattle.c25_sim.specs.Answers.{event_of, reached_of, behind, state_after, puts, StandsBeforeOutput};
+ghost use Rattle.c25_sim.specs.Rows.{puts_word};
 ghost use Rattle.c25_sim.specs.Taken.{of_sixteen};
 
 use crate::machine::Machine;
@@ -52,15 +53,31 @@ impl Machine {
         ensures event { spec.step (state_of self.old) ≡ event_of result (state_of self.new) }
         ensures state { state_of self.new ≡ behind (spec.step (state_of self.old)) (state_of self.old) }
     {
+        // With room for an output each step is done.
+        self.step_within(true).unwrap_or(Event::Ran)
+    }
+
+    // Does one step, unless it would make an output that there is no room for. It is built into the loop of a run for speed.
+    #[inline(always)]
+    fn step_within(&mut self, has_room: bool) -> Option<Event>
+        ensures waits { IsNone result → (has_room ≡ false) × (puts (spec.step (state_of self.old)) ≡ true)
+            × (state_of self.new ≡ state_of self.old) }
+        ensures event { IfSome result (λ e. spec.step (state_of self.old) ≡ event_of e (state_of self.new)) }
+        ensures state { OnSome result (state_of self.new ≡ behind (spec.step (state_of self.old)) (state_of self.old)) }
+        ensures kept { IfSome result (λ e. has_room ≡ false → puts (event_of e (state_of self.new)) ≡ false) }
+    {
         let first = self.program[usize::from(self.pc)];
         let second = self.program[usize::from(self.pc.wrapping_add(1))];
         let Some((instr, length)) = decode(first, second) else {
-            return self.trap(TrapKind::BadWord);
+            return Some(self.trap(TrapKind::BadWord));
         };
         if let Some(kind) = self.trap_at(&instr) {
-            return self.trap(kind);
+            return Some(self.trap(kind));
         }
-        self.perform(length, &instr)
+        if !has_room && is_out(&instr) {
+            return None;
+        }
+        Some(self.perform(length, &instr))
     }
 
     // Does an instruction at which no trap comes, and counts a pending repeat.
@@ -97,18 +114,20 @@ impl Machine {
         }
     }
 
-    /// Does so many steps, or fewer where the run ends or a trap comes. Where memory is wanting, the machine stands before a
-    /// step.
+    /// Does so many steps, or fewer where the run ends or a trap comes. Where memory is wanting for an output, the machine
+    /// stands before the step that makes it.
     pub fn run(&mut self, alloc: Global, steps: u64) -> Result<RunOutcome, NoMemory>
         ensures reached { IfOk result (λ r. run_from steps (state_of self.old) [] ≡ reached_of r.outs r.stop) }
         ensures state { OnOk result (state_of self.new ≡ state_after steps (state_of self.old)) }
-        ensures before_a_step { OnErr result
-            ((k : ℕ) × (k ≤ steps) × (state_of self.new ≡ state_after k (state_of self.old))) }
+        ensures before_an_output { OnErr result (StandsBeforeOutput steps (state_of self.old) (state_of self.new)) }
     {
         let mut outs: Vec<PortWord> = Vec::new(alloc);
         for i in 0..steps {
-            outs.reserve(1)?;
-            match self.step() {
+            let has_room = outs.reserve(1).is_ok();
+            let Some(event) = self.step_within(has_room) else {
+                return Err(NoMemory);
+            };
+            match event {
                 Event::Ran => {}
                 Event::Out(word) => outs.push(word)?,
                 Event::Ended(ending) => return Ok(outcome(outs, Stop::Ended(ending))),
@@ -117,6 +136,12 @@ impl Machine {
         }
         Ok(outcome(outs, Stop::Running))
     }
+}
+
+fn is_out(instr: &Instr) -> bool
+    ensures { result ≡ puts_word instr.now }
+{
+    matches!(instr, Instr::Out { .. })
 }
 
 fn outcome(outs: Vec<PortWord>, stop: Stop) -> RunOutcome

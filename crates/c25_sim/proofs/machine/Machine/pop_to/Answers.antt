@@ -1,0 +1,7 @@
+use Rattle.c25_sim.specs.MachineView.{state_of}
+use Rattle.c25_sim.proofs.Moves.{popped}
+use Rattle.c25_sim.proofs.machine.Machine.pop_to.Goals as goal
+
+pub returns-in-Some-clause-event : goal.returns-in-Some-clause-event
+returns-in-Some-clause-event c =
+    popped (state_of c.args.self.now) (state_of c.pop.new.self) c.args.length c.args.operand.now c.in-Some.word _ c.in-Some.ensures c.store.ensures
