@@ -13,16 +13,14 @@ use Rattle.c_tree.specs.declared.enclosing.Enclosing.{Enclosing}
 use Rattle.c_bodies.specs.Bodies.{behind_choices, choices_in, joined, parts_of}
 use Rattle.c_rules.specs.Outcome.{Outcome, Is, Broken}
 use Rattle.c_rules.specs.Statements.{LocalTree, Labelled, Typed, just, typed_choices}
-use Rattle.c_scopes.specs.Tables.{scope_of, tables_of}
-use Rattle.c_bodies.specs.BodyView.{locals_of}
-use Rattle.c_scopes.proofs.ScopesKept.{scope_kept}
+use Rattle.c_scopes.specs.Tables.{scope_of}
+use Rattle.c_bodies.specs.BodyView.{context_of, locals_of}
+use Rattle.c_scopes.proofs.ScopesKept.{innermost}
 
 -- what was typed of a list, what is left of it, and what stays as it was
 pub record ChoicesSoFar (first now : Body) (c : Enclosing) (all rest : List SwitchPart) (so_far : List Choice) (pointer : Bool) : Type 0 where
   pub typed : choices_in first c (parts_of all) ≡ behind_choices so_far pointer (choices_in now c (parts_of rest))
-  pub tables : tables_of now.scopes ≡ tables_of first.scopes
-  pub bodies : (scope_of now.scopes).bodies ≡ (scope_of first.scopes).bodies
-  pub returned : now.result ≡ first.result
+  pub kept : context_of now ≡ context_of first
 
 -- none at first
 pub none_behind : (o : Outcome (Typed Labelled)) → o ≡ behind_choices [] false o
@@ -49,9 +47,9 @@ one_more : (there : List Choice) (p : Bool) (x : Choice) (q : Bool) (o : Outcome
 one_more there p x q (Is r) = λ i. just (record { choices = joined_more there x r.tree.choices i; pointer = either_more p q r.tree.pointer i }) r.locals
 one_more there p x q (Broken rule at) = refl
 
-module _ (b n : Body) (tables : tables_of n.scopes ≡ tables_of b.scopes) (bodies : (scope_of n.scopes).bodies ≡ (scope_of b.scopes).bodies) (returned : n.result ≡ b.result) where
+module _ (b n : Body) (kept : context_of n ≡ context_of b) where
   pub choices_kept : (c : Enclosing) (ls : List LocalTree) (cs : tree.Choices) → typed_choices n.result (scope_of n.scopes) c ls cs ≡ typed_choices b.result (scope_of b.scopes) c ls cs
-  choices_kept c ls cs = λ i. typed_choices (returned i) (scope_kept n.scopes b.scopes tables bodies i) c ls cs
+  choices_kept c ls cs = λ i. typed_choices (kept i).result (innermost (kept i).scopes) c ls cs
 
 -- one choice of a list
 pub turn : (b n : Body) (c : Enclosing) (list : List SwitchPart) (i : ℕ) (s : SwitchPart) (there : List Choice) (p : Bool) (x : Choice) (q : Bool) → s ≡ get_or list i s → i < length list

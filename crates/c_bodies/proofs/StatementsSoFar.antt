@@ -31,18 +31,16 @@ use Rattle.c_bodies.specs.declared.statements.ForHead.{ForHead}
 use Rattle.c_rules.specs.Kinds.{is_void}
 use Rattle.c_rules.specs.Outcome.{Outcome, Is, Broken, ◌>>=◌, breaks}
 use Rattle.c_rules.specs.Statements.{LocalTree, Opened, Typed, just, before, declarations, typed_statement, typed_statements, is_void_test, optional}
-use Rattle.c_scopes.specs.Tables.{scope_of, tables_of}
+use Rattle.c_scopes.specs.Tables.{scope_of}
 use Rattle.c_rules.specs.Typing.{typing}
-use Rattle.c_bodies.specs.BodyView.{locals_of, opened_of, typed_in}
-use Rattle.c_scopes.proofs.ScopesKept.{scope_kept}
+use Rattle.c_bodies.specs.BodyView.{context_of, locals_of, opened_of, typed_in}
+use Rattle.c_scopes.proofs.ScopesKept.{innermost}
 use Rattle.c_bodies.proofs.SyntaxRows.{block_of}
 
 -- what was typed of a list, what is left of it, and what stays as it was
 pub record StatementsSoFar (first now : Body) (c : Enclosing) (all rest : List Stmt) (there so_far : List TypedStmt) : Type 0 where
   pub typed : behind there (statements_in first c (body_of all)) ≡ behind so_far (statements_in now c (body_of rest))
-  pub tables : tables_of now.scopes ≡ tables_of first.scopes
-  pub bodies : (scope_of now.scopes).bodies ≡ (scope_of first.scopes).bodies
-  pub returned : now.result ≡ first.result
+  pub kept : context_of now ≡ context_of first
 
 before_more : (there : List TypedStmt) (t : TypedStmt) (rest : Stmts) → before (map stmt_of there) (both (stmt_of t) rest) ≡ before (map stmt_of (there ++ t ∷ [])) rest
 before_more [] t rest = refl
@@ -90,38 +88,37 @@ pub arms_rest : (n m : Body) (c : Enclosing) (s : Statement) (at : ℕ) (x : Exp
     → tested_in m at x (If x p q) ≡ else_in n c at x p s
 arms_rest n m c s at x p q h = sym (ap (λ o. o >>= λ q. breaks (is_void (kind_of x)) Mismatch at (just (If x p q.tree) q.locals)) h)
 
-module _ (b n : Body) (tables : tables_of n.scopes ≡ tables_of b.scopes) (bodies : (scope_of n.scopes).bodies ≡ (scope_of b.scopes).bodies) where
+module _ (b n : Body) (kept : context_of n ≡ context_of b) where
   -- the test of a do behind its body
   pub do_rest : (c : Enclosing) (s : Statement) (e : Expression) (at : ℕ) (p : typed.Stmt) → statement_in b around.Loop s ≡ just p (locals_of n)
       → (typing (scope_of n.scopes) e >>= λ x. breaks (is_void (kind_of x)) Mismatch at (just (Do_while p x) (locals_of n))) ≡ statement_in b c (tree.DoWhile s e at)
   do_rest c s e at p h = sym
       (ap (λ o. o >>= λ q. typing (scope_of b.scopes) e >>= λ x. breaks (is_void (kind_of x)) Mismatch at (just (Do_while q.tree x) q.locals)) h
-      ∙ (λ i. typing (sym (scope_kept n.scopes b.scopes tables bodies) i) e >>= λ x. breaks (is_void (kind_of x)) Mismatch at (just (Do_while p x) (locals_of n))))
+      ∙ (λ i. typing (innermost (sym kept i).scopes) e >>= λ x. breaks (is_void (kind_of x)) Mismatch at (just (Do_while p x) (locals_of n))))
 
-  module _ (returned : n.result ≡ b.result) where
-    statements_kept : (c : Enclosing) (ls : List LocalTree) (ss : Statements) → typed_statements n.result (scope_of n.scopes) c ls ss ≡ typed_statements b.result (scope_of b.scopes) c ls ss
-    statements_kept c ls ss = λ i. typed_statements (returned i) (scope_kept n.scopes b.scopes tables bodies i) c ls ss
+  statements_kept : (c : Enclosing) (ls : List LocalTree) (ss : Statements) → typed_statements n.result (scope_of n.scopes) c ls ss ≡ typed_statements b.result (scope_of b.scopes) c ls ss
+  statements_kept c ls ss = λ i. typed_statements (kept i).result (innermost (kept i).scopes) c ls ss
 
-    statement_kept : (c : Enclosing) (ls : List LocalTree) (s : Statement) → typed_statement n.result (scope_of n.scopes) c ls s ≡ typed_statement b.result (scope_of b.scopes) c ls s
-    statement_kept c ls s = λ i. typed_statement (returned i) (scope_kept n.scopes b.scopes tables bodies i) c ls s
+  statement_kept : (c : Enclosing) (ls : List LocalTree) (s : Statement) → typed_statement n.result (scope_of n.scopes) c ls s ≡ typed_statement b.result (scope_of b.scopes) c ls s
+  statement_kept c ls s = λ i. typed_statement (kept i).result (innermost (kept i).scopes) c ls s
 
-    -- the else of an if behind its first arm
-    pub else_rest : (c : Enclosing) (e : Expression) (one other : Statement) (at : ℕ) (x : Expr) (p : typed.Stmt) → typing (scope_of b.scopes) e ≡ Is x → statement_in b c one ≡ just p (locals_of n)
-        → (statement_in n c other >>= λ q. breaks (is_void (kind_of x)) Mismatch at (just (If x p q.tree) q.locals)) ≡ statement_in b c (tree.IfElse e one other at)
-    else_rest c e one other at x p test h = sym
-        (ap (λ o. o >>= λ x. statement_in b c one >>= λ p. typed_statement b.result (scope_of b.scopes) c p.locals other >>= λ q. breaks (is_void (kind_of x)) Mismatch at (just (If x p.tree q.tree) q.locals)) test
-        ∙ ap (λ o. o >>= λ p. typed_statement b.result (scope_of b.scopes) c p.locals other >>= λ q. breaks (is_void (kind_of x)) Mismatch at (just (If x p.tree q.tree) q.locals)) h
-        ∙ ap (λ o. o >>= λ q. breaks (is_void (kind_of x)) Mismatch at (just (If x p q.tree) q.locals)) (sym (statement_kept c (locals_of n) other)))
+  -- the else of an if behind its first arm
+  pub else_rest : (c : Enclosing) (e : Expression) (one other : Statement) (at : ℕ) (x : Expr) (p : typed.Stmt) → typing (scope_of b.scopes) e ≡ Is x → statement_in b c one ≡ just p (locals_of n)
+      → (statement_in n c other >>= λ q. breaks (is_void (kind_of x)) Mismatch at (just (If x p q.tree) q.locals)) ≡ statement_in b c (tree.IfElse e one other at)
+  else_rest c e one other at x p test h = sym
+      (ap (λ o. o >>= λ x. statement_in b c one >>= λ p. typed_statement b.result (scope_of b.scopes) c p.locals other >>= λ q. breaks (is_void (kind_of x)) Mismatch at (just (If x p.tree q.tree) q.locals)) test
+      ∙ ap (λ o. o >>= λ p. typed_statement b.result (scope_of b.scopes) c p.locals other >>= λ q. breaks (is_void (kind_of x)) Mismatch at (just (If x p.tree q.tree) q.locals)) h
+      ∙ ap (λ o. o >>= λ q. breaks (is_void (kind_of x)) Mismatch at (just (If x p q.tree) q.locals)) (sym (statement_kept c (locals_of n) other)))
 
-    -- one statement of a list
-    pub turn : (c : Enclosing) (list : List Stmt) (i : ℕ) (s : Stmt) (there : List TypedStmt) (t : TypedStmt) → s ≡ get_or list i s → i < length list
-        → statement_in b c (statement_of s.kind s.at) ≡ just (stmt_of t) (locals_of n)
-        → behind there (statements_in b c (body_of (drop i list))) ≡ behind (there ++ t ∷ []) (statements_in n c (body_of (drop (i + 1) list)))
-    turn c list i s there t is within h =
-        ap (λ l. behind there (statements_in b c (body_of l))) (first_left list i s is within)
-        ∙ ap (λ o. behind there (o >>= λ p. typed_statements b.result (scope_of b.scopes) c p.locals (body_of (drop (i + 1) list)) >>= λ r. just (both p.tree r.tree) r.locals)) h
-        ∙ one_more there t (typed_statements b.result (scope_of b.scopes) c (locals_of n) (body_of (drop (i + 1) list)))
-        ∙ ap (behind (there ++ t ∷ [])) (sym (statements_kept c (locals_of n) (body_of (drop (i + 1) list))))
+  -- one statement of a list
+  pub turn : (c : Enclosing) (list : List Stmt) (i : ℕ) (s : Stmt) (there : List TypedStmt) (t : TypedStmt) → s ≡ get_or list i s → i < length list
+      → statement_in b c (statement_of s.kind s.at) ≡ just (stmt_of t) (locals_of n)
+      → behind there (statements_in b c (body_of (drop i list))) ≡ behind (there ++ t ∷ []) (statements_in n c (body_of (drop (i + 1) list)))
+  turn c list i s there t is within h =
+      ap (λ l. behind there (statements_in b c (body_of l))) (first_left list i s is within)
+      ∙ ap (λ o. behind there (o >>= λ p. typed_statements b.result (scope_of b.scopes) c p.locals (body_of (drop (i + 1) list)) >>= λ r. just (both p.tree r.tree) r.locals)) h
+      ∙ one_more there t (typed_statements b.result (scope_of b.scopes) c (locals_of n) (body_of (drop (i + 1) list)))
+      ∙ ap (behind (there ++ t ∷ [])) (sym (statements_kept c (locals_of n) (body_of (drop (i + 1) list))))
 
 -- the end of a list
 pub ended : (n : Body) (c : Enclosing) (list : List Stmt) (i : ℕ) (so_far : List TypedStmt) → length list ≤ i

@@ -27,9 +27,9 @@ use Rattle.c_rules.specs.Kinds.{class_of}
 use Rattle.c_rules.specs.Operands.{is_integer}
 use Rattle.c_rules.specs.Outcome.{Outcome, Is, ◌>>=◌, breaks}
 use Rattle.c_rules.specs.Statements.{LocalTree, Labelled, Typed, just, behind_case, behind_body, in_switch, repeats_label, typed_choices}
-use Rattle.c_scopes.specs.Tables.{scope_of, tables_of}
+use Rattle.c_scopes.specs.Tables.{scope_of}
 use Rattle.c_rules.specs.Typing.{typing, constant_typing, word_at}
-use Rattle.c_bodies.specs.BodyView.{locals_of, typed_in}
+use Rattle.c_bodies.specs.BodyView.{context_of, locals_of, typed_in}
 use Rattle.c_bodies.proofs.ChoicesSoFar.{choices_kept}
 use Rattle.c_rules.proofs.Turns.{first_left}
 use Rattle.c_bodies.proofs.SyntaxRows.{switch_of}
@@ -55,13 +55,13 @@ refused_here o n c list i s there p (refusals.Broken rule at) is within before h
     ∙ ap (behind_choices there p) (h (parts_of (drop (i + 1) list)))
 
 -- a statement among the choices
-pub body_typed : (b n : Body) → tables_of n.scopes ≡ tables_of b.scopes → (scope_of n.scopes).bodies ≡ (scope_of b.scopes).bodies → n.result ≡ b.result
+pub body_typed : (b n : Body) → context_of n ≡ context_of b
     → (c : Enclosing) (x : SwitchPart) (s : Stmt) (t : TypedStmt) → x ≡ part.Body s → statement_in b c (statement_of s.kind s.at) ≡ just (stmt_of t) (locals_of n)
     → (rest : tree.Choices) → choices_in b c (part_before x rest) ≡ behind_choices (choice.Body t ∷ []) false (choices_in n c rest)
-body_typed b n tables bodies returned c x s t is h rest =
+body_typed b n kept c x s t is h rest =
     ap (λ p. choices_in b c (part_before p rest)) is
     ∙ ap (λ o. o >>= λ p. typed_choices b.result (scope_of b.scopes) c p.locals rest >>= λ r. Is (behind_body p.tree r)) h
-    ∙ ap (λ o. o >>= λ r. Is (behind_body (stmt_of t) r)) (sym (choices_kept b n tables bodies returned c (locals_of n) rest))
+    ∙ ap (λ o. o >>= λ r. Is (behind_body (stmt_of t) r)) (sym (choices_kept b n kept c (locals_of n) rest))
 
 -- a label among the choices
 pub label_typed : (b : Body) (c : Enclosing) (x : SwitchPart) (label : syntax.Expr) (e : Expr) (w : ℕ) (p : Bool) → x ≡ part.Case label

@@ -6,10 +6,10 @@ ghost use Rattle.c_rules.specs.declared.fault.Rule.TheVariants as rule;
 ghost use Rattle.c_rules.specs.Answers.{Follows, Refuses};
 ghost use Rattle.c_rules.specs.Outcome.{Broken, breaks};
 ghost use Rattle.c_rules.specs.Statements as rules;
-ghost use Rattle.c_scopes.specs.Tables.{scope_of, around_of};
+ghost use Rattle.c_scopes.specs.Tables.{scope_of};
 ghost use Rattle.c_objects.specs.InitialiserView.{first_value, initialiser_of};
 ghost use Rattle.c_tree.specs.View.{stmt_of};
-ghost use Rattle.c_bodies.specs.BodyView.{opened_of};
+ghost use Rattle.c_bodies.specs.BodyView.{context_around, opened_of};
 
 use c_objects::{Initialiser, Start, add, boxed, plain, redeclared, started};
 use c_rules::{Declared, Local, ObjectType, Refusal, Rule, mismatch};
@@ -71,9 +71,7 @@ impl<'a> Body<'a> {
         item: &'a Item,
     ) -> Result<(), Refusal>
         ensures follows { Follows (λ _. opened_of self.new opening.new) (rules.block_item (opened_of self.old opening.old) base (item_of item.now)) result }
-        ensures around { OnOk result (around_of self.new.scopes ≡ around_of self.old.scopes) }
-        ensures bodies { (scope_of self.new.scopes).bodies ≡ (scope_of self.old.scopes).bodies }
-        ensures returned { self.new.result ≡ self.old.result }
+        ensures kept { OnOk result (context_around self.new ≡ context_around self.old) }
     {
         // No source that the parser gives has more objects than can be counted.
         let Ok(number) = u32::try_from(self.locals.len()) else {
@@ -115,8 +113,7 @@ impl<'a> Body<'a> {
         initialiser: Box<Initialiser>,
     ) -> Result<(), Refusal>
         ensures follows { Follows (λ _. opened_of self.new opening.new) (rules.declared_as (opened_of self.old opening.old) (scope_of self.old.scopes) reference (Declared.Object object_type) (item_of item.now) (initialiser_of initialiser.value)) result }
-        ensures scopes { self.new.scopes ≡ self.old.scopes }
-        ensures returned { self.new.result ≡ self.old.result }
+        ensures kept { OnOk result (context_around self.new ≡ context_around self.old) }
     {
         let alloc = self.scopes.alloc;
         let initialiser = Box::into_inner(initialiser);
@@ -140,9 +137,7 @@ impl<'a> Body<'a> {
         list: &'a [Item],
     ) -> Result<(), Refusal>
         ensures follows { Follows (λ _. opened_of self.new opening.new) (rules.block_items (opened_of self.old opening.old) base (map item_of list.now)) result }
-        ensures around { OnOk result (around_of self.new.scopes ≡ around_of self.old.scopes) }
-        ensures bodies { (scope_of self.new.scopes).bodies ≡ (scope_of self.old.scopes).bodies }
-        ensures returned { self.new.result ≡ self.old.result }
+        ensures kept { OnOk result (context_around self.new ≡ context_around self.old) }
     {
         for item in list {
             self.item(opening, base, item)?;
@@ -157,9 +152,7 @@ impl<'a> Body<'a> {
         list: &'a [Decl],
     ) -> Result<(), Refusal>
         ensures follows { Follows (λ _. opened_of self.new opening.new) (rules.declarations (opened_of self.old opening.old) (map declaration_of list.now)) result }
-        ensures around { OnOk result (around_of self.new.scopes ≡ around_of self.old.scopes) }
-        ensures bodies { (scope_of self.new.scopes).bodies ≡ (scope_of self.old.scopes).bodies }
-        ensures returned { self.new.result ≡ self.old.result }
+        ensures kept { OnOk result (context_around self.new ≡ context_around self.old) }
     {
         for declaration in list {
             let base = plain(&declaration.specs)?;

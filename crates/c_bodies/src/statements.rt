@@ -15,9 +15,9 @@ ghost use Rattle.c_rules.specs.Kinds.{is_void};
 ghost use Rattle.c_rules.specs.Typing.{constant_typing, typing};
 ghost use Rattle.c_rules.specs.Statements as rules;
 ghost use Rattle.c_rules.specs.Statements.{just};
-ghost use Rattle.c_scopes.specs.Tables.{around_of, scope_of, tables_of};
+ghost use Rattle.c_scopes.specs.Tables.{scope_of};
 ghost use Rattle.c_conversions.specs.OperandView.{operand_of};
-ghost use Rattle.c_bodies.specs.BodyView.{locals_of, typed_in};
+ghost use Rattle.c_bodies.specs.BodyView.{context_around, context_of, locals_of, typed_in};
 
 use crate::blocks::{Body, Opening};
 use crate::labels::{Labelled, switched};
@@ -54,9 +54,7 @@ impl<'a> Body<'a> {
         enclosing: Enclosing,
     ) -> Result<TypedStmt, Refusal>
         ensures follows { Follows (λ t. typed_in self.new (stmt_of t)) (statement_in self.old enclosing (statement_of s.now.kind s.now.at)) result }
-        ensures tables { OnOk result (tables_of self.new.scopes ≡ tables_of self.old.scopes) }
-        ensures bodies { (scope_of self.new.scopes).bodies ≡ (scope_of self.old.scopes).bodies }
-        ensures returned { self.new.result ≡ self.old.result }
+        ensures kept { OnOk result (context_of self.new ≡ context_of self.old) }
     {
         let at = s.at;
         match &s.kind {
@@ -92,9 +90,7 @@ impl<'a> Body<'a> {
     #[cycle(statements)]
     fn inner(&mut self, s: &'a Stmt, enclosing: Enclosing) -> Result<Box<TypedStmt>, Refusal>
         ensures follows { Follows (λ t. typed_in self.new (stmt_of t.value)) (statement_in self.old enclosing (statement_of s.now.kind s.now.at)) result }
-        ensures tables { OnOk result (tables_of self.new.scopes ≡ tables_of self.old.scopes) }
-        ensures bodies { (scope_of self.new.scopes).bodies ≡ (scope_of self.old.scopes).bodies }
-        ensures returned { self.new.result ≡ self.old.result }
+        ensures kept { OnOk result (context_of self.new ≡ context_of self.old) }
     {
         let typed = self.statement(s, enclosing)?;
         boxed(self.scopes.alloc, typed)
@@ -110,9 +106,7 @@ impl<'a> Body<'a> {
         at: u32,
     ) -> Result<TypedStmt, Refusal>
         ensures follows { Follows (λ t. typed_in self.new (stmt_of t)) (statement_in self.old enclosing (tree.Block (map declaration_of declarations.now) (body_of statements.now) at)) result }
-        ensures tables { OnOk result (tables_of self.new.scopes ≡ tables_of self.old.scopes) }
-        ensures bodies { (scope_of self.new.scopes).bodies ≡ (scope_of self.old.scopes).bodies }
-        ensures returned { self.new.result ≡ self.old.result }
+        ensures kept { OnOk result (context_of self.new ≡ context_of self.old) }
     {
         self.scopes.open()?;
         let block = self.block_here(declarations, statements, enclosing)?;
@@ -127,8 +121,7 @@ impl<'a> Body<'a> {
         statements: &'a [Stmt],
     ) -> Result<Box<TypedStmt>, Refusal>
         ensures follows { Follows (λ t. typed_in self.new (stmt_of t.value)) (rules.typed_body self.old.result (scope_of self.old.scopes) (locals_of self.old) (map declaration_of declarations.now) (body_of statements.now)) result }
-        ensures around { OnOk result (around_of self.new.scopes ≡ around_of self.old.scopes) }
-        ensures bodies { (scope_of self.new.scopes).bodies ≡ (scope_of self.old.scopes).bodies }
+        ensures kept { OnOk result (context_around self.new ≡ context_around self.old) }
     {
         let block = self.block_here(declarations, statements, Enclosing::Body)?;
         boxed(self.scopes.alloc, block)
@@ -143,9 +136,7 @@ impl<'a> Body<'a> {
         enclosing: Enclosing,
     ) -> Result<TypedStmt, Refusal>
         ensures follows { Follows (λ t. typed_in self.new (stmt_of t)) (block_in self.old enclosing (map declaration_of declarations.now) (body_of statements.now)) result }
-        ensures around { OnOk result (around_of self.new.scopes ≡ around_of self.old.scopes) }
-        ensures bodies { (scope_of self.new.scopes).bodies ≡ (scope_of self.old.scopes).bodies }
-        ensures returned { self.new.result ≡ self.old.result }
+        ensures kept { OnOk result (context_around self.new ≡ context_around self.old) }
     {
         let alloc = self.scopes.alloc;
         let mut opening = Opening {
@@ -170,9 +161,7 @@ impl<'a> Body<'a> {
     ) -> Result<(), Refusal>
         ensures typed { OnOk result (behind into.old.items (statements_in self.old enclosing (body_of list.now)) ≡ just (statement_list into.new.items) (locals_of self.new)) }
         ensures refused { IfErr result (Refuses (statements_in self.old enclosing (body_of list.now))) }
-        ensures tables { OnOk result (tables_of self.new.scopes ≡ tables_of self.old.scopes) }
-        ensures bodies { (scope_of self.new.scopes).bodies ≡ (scope_of self.old.scopes).bodies }
-        ensures returned { self.new.result ≡ self.old.result }
+        ensures kept { OnOk result (context_of self.new ≡ context_of self.old) }
     {
         for s in list {
             add(into, self.statement(s, enclosing)?)?;
@@ -209,9 +198,7 @@ impl<'a> Body<'a> {
         at: u32,
     ) -> Result<TypedStmt, Refusal>
         ensures follows { Follows (λ t. typed_in self.new (stmt_of t)) (statement_in self.old enclosing (tree.If (expression_of test.now) (statement_of yes.now.kind yes.now.at) at)) result }
-        ensures tables { OnOk result (tables_of self.new.scopes ≡ tables_of self.old.scopes) }
-        ensures bodies { (scope_of self.new.scopes).bodies ≡ (scope_of self.old.scopes).bodies }
-        ensures returned { self.new.result ≡ self.old.result }
+        ensures kept { OnOk result (context_of self.new ≡ context_of self.old) }
     {
         let test = self.tested(test)?;
         let yes = self.inner(yes, enclosing)?;
@@ -246,9 +233,7 @@ impl<'a> Body<'a> {
         at: u32,
     ) -> Result<TypedStmt, Refusal>
         ensures follows { Follows (λ t. typed_in self.new (stmt_of t)) (statement_in self.old enclosing (tree.IfElse (expression_of test.now) (statement_of yes.now.kind yes.now.at) (statement_of no.now.kind no.now.at) at)) result }
-        ensures tables { OnOk result (tables_of self.new.scopes ≡ tables_of self.old.scopes) }
-        ensures bodies { (scope_of self.new.scopes).bodies ≡ (scope_of self.old.scopes).bodies }
-        ensures returned { self.new.result ≡ self.old.result }
+        ensures kept { OnOk result (context_of self.new ≡ context_of self.old) }
     {
         let test = self.tested(test)?;
         let yes = self.inner(yes, enclosing)?;
@@ -266,9 +251,7 @@ impl<'a> Body<'a> {
         at: u32,
     ) -> Result<TypedStmt, Refusal>
         ensures follows { Follows (λ t. typed_in self.new (stmt_of t)) (else_in self.old enclosing at (expr_of test.value) (stmt_of yes.value) (statement_of no.now.kind no.now.at)) result }
-        ensures tables { OnOk result (tables_of self.new.scopes ≡ tables_of self.old.scopes) }
-        ensures bodies { (scope_of self.new.scopes).bodies ≡ (scope_of self.old.scopes).bodies }
-        ensures returned { self.new.result ≡ self.old.result }
+        ensures kept { OnOk result (context_of self.new ≡ context_of self.old) }
     {
         let no = self.inner(no, enclosing)?;
         self.two_armed(test, yes, no, at)
@@ -303,9 +286,7 @@ impl<'a> Body<'a> {
         at: u32,
     ) -> Result<TypedStmt, Refusal>
         ensures follows { Follows (λ t. typed_in self.new (stmt_of t)) (statement_in self.old enclosing (tree.Switch (expression_of value.now) (parts_of parts.now) place at)) result }
-        ensures tables { OnOk result (tables_of self.new.scopes ≡ tables_of self.old.scopes) }
-        ensures bodies { (scope_of self.new.scopes).bodies ≡ (scope_of self.old.scopes).bodies }
-        ensures returned { self.new.result ≡ self.old.result }
+        ensures kept { OnOk result (context_of self.new ≡ context_of self.old) }
     {
         let value = self.tested(value)?;
         let labelled = self.choices(parts, enclosing.in_switch())?;
@@ -320,9 +301,7 @@ impl<'a> Body<'a> {
         enclosing: Enclosing,
     ) -> Result<Labelled, Refusal>
         ensures follows { Follows (λ l. typed_in self.new (labelled_of l)) (choices_in self.old enclosing (parts_of parts.now)) result }
-        ensures tables { OnOk result (tables_of self.new.scopes ≡ tables_of self.old.scopes) }
-        ensures bodies { (scope_of self.new.scopes).bodies ≡ (scope_of self.old.scopes).bodies }
-        ensures returned { self.new.result ≡ self.old.result }
+        ensures kept { OnOk result (context_of self.new ≡ context_of self.old) }
     {
         let mut labelled = Labelled {
             choices: Vec::new(self.scopes.alloc),
@@ -346,9 +325,7 @@ impl<'a> Body<'a> {
     ) -> Result<LabelOrBody, Refusal>
         ensures typed { IfOk result (λ f. (rest : tree.Choices) → choices_in self.old enclosing (part_before part.now rest) ≡ behind_choices (f.choice ∷ []) f.pointer (choices_in self.new enclosing rest)) }
         ensures refused { IfErr result (λ f. (rest : tree.Choices) → Refuses (choices_in self.old enclosing (part_before part.now rest)) f) }
-        ensures tables { OnOk result (tables_of self.new.scopes ≡ tables_of self.old.scopes) }
-        ensures bodies { (scope_of self.new.scopes).bodies ≡ (scope_of self.old.scopes).bodies }
-        ensures returned { self.new.result ≡ self.old.result }
+        ensures kept { OnOk result (context_of self.new ≡ context_of self.old) }
     {
         match part {
             SwitchPart::Case(label) => {
@@ -374,9 +351,7 @@ impl<'a> Body<'a> {
     #[cycle(statements)]
     fn while_loop(&mut self, test: &Expr, body: &'a Stmt, at: u32) -> Result<TypedStmt, Refusal>
         ensures follows { Follows (λ t. typed_in self.new (stmt_of t)) (statement_in self.old enclosings.Loop (tree.While (expression_of test.now) (statement_of body.now.kind body.now.at) at)) result }
-        ensures tables { OnOk result (tables_of self.new.scopes ≡ tables_of self.old.scopes) }
-        ensures bodies { (scope_of self.new.scopes).bodies ≡ (scope_of self.old.scopes).bodies }
-        ensures returned { self.new.result ≡ self.old.result }
+        ensures kept { OnOk result (context_of self.new ≡ context_of self.old) }
     {
         let test = self.tested(test)?;
         let body = self.inner(body, Enclosing::Loop)?;
@@ -403,9 +378,7 @@ impl<'a> Body<'a> {
     #[cycle(statements)]
     fn do_loop(&mut self, body: &'a Stmt, test: &Expr, at: u32) -> Result<TypedStmt, Refusal>
         ensures follows { Follows (λ t. typed_in self.new (stmt_of t)) (statement_in self.old enclosings.Loop (tree.DoWhile (statement_of body.now.kind body.now.at) (expression_of test.now) at)) result }
-        ensures tables { OnOk result (tables_of self.new.scopes ≡ tables_of self.old.scopes) }
-        ensures bodies { (scope_of self.new.scopes).bodies ≡ (scope_of self.old.scopes).bodies }
-        ensures returned { self.new.result ≡ self.old.result }
+        ensures kept { OnOk result (context_of self.new ≡ context_of self.old) }
     {
         let body = self.inner(body, Enclosing::Loop)?;
         self.do_test(body, test, at)
@@ -434,9 +407,7 @@ impl<'a> Body<'a> {
         at: u32,
     ) -> Result<TypedStmt, Refusal>
         ensures follows { Follows (λ t. typed_in self.new (stmt_of t)) (statement_in self.old enclosings.Loop (tree.For (optional_of first.now) (optional_of test.now) (optional_of third.now) (statement_of body.now.kind body.now.at) at)) result }
-        ensures tables { OnOk result (tables_of self.new.scopes ≡ tables_of self.old.scopes) }
-        ensures bodies { (scope_of self.new.scopes).bodies ≡ (scope_of self.old.scopes).bodies }
-        ensures returned { self.new.result ≡ self.old.result }
+        ensures kept { OnOk result (context_of self.new ≡ context_of self.old) }
     {
         let first = self.optional(first)?;
         let test = self.optional(test)?;

@@ -1,4 +1,4 @@
--- The scope that a stack of tables stands for: ISO 9899:1990 6.1.2.1. The innermost table comes first.
+-- The scopes that a stack of tables stands for: ISO 9899:1990 6.1.2.1. The innermost one comes first.
 use Rattle.std.specs.Prelude.{ℕ, is_some, List, [], ◌∷◌, map, reverse, Option, Some, None}
 use Rattle.std.specs.Str.{bytes_eq}
 use Rattle.std.specs.Borrow.{Bor}
@@ -29,22 +29,31 @@ in_tables (t ∷ ts) name = or_else (in_table t name) (in_tables ts name)
 abbrev pub key_names : List (Bor (List ℕ)) → List (List ℕ)
 key_names keys = map (λ k. k.now) keys
 
--- the tables of the scopes, and of those around the innermost one
-abbrev pub tables_of : Scopes → List Table
-tables_of s = s.innermost ∷ reverse s.outer.items
+-- the scope of a table within others, in a source with these bodies
+abbrev pub scope_in : List (List ℕ) → Table → List Table → Scope
+scope_in bodies t ts = record {
+  meaning = in_tables (t ∷ ts);
+  here = λ name. is_some (in_table t name);
+  bodies = bodies;
+}
 
-abbrev pub around_of : Scopes → List Table
-around_of s = reverse s.outer.items
+-- each scope with those around it
+abbrev pub scopes_in : List (List ℕ) → List Table → List Scope
+scopes_in bodies [] = []
+scopes_in bodies (t ∷ ts) = scope_in bodies t ts ∷ scopes_in bodies ts
 
--- the tables without the innermost one, where one is around it
+-- the innermost scope, those around it, and all of them
+abbrev pub scope_of : Scopes → Scope
+scope_of s = scope_in (key_names s.bodies.keys) s.innermost (reverse s.outer.items)
+
+abbrev pub around_of : Scopes → List Scope
+around_of s = scopes_in (key_names s.bodies.keys) (reverse s.outer.items)
+
+abbrev pub scopes_of : Scopes → List Scope
+scopes_of s = scope_of s ∷ around_of s
+
+-- the scopes without the innermost one, where one is around it
 abbrev pub closed : {A : Type 0} → List A → List A
 closed [] = []
-closed (t ∷ []) = t ∷ []
-closed (t ∷ u ∷ us) = u ∷ us
-
-abbrev pub scope_of : Scopes → Scope
-scope_of s = record {
-  meaning = in_tables (tables_of s);
-  here = λ name. is_some (in_table s.innermost name);
-  bodies = key_names s.bodies.keys;
-}
+closed (s ∷ []) = s ∷ []
+closed (s ∷ t ∷ ts) = t ∷ ts

@@ -5,7 +5,7 @@ ghost use Rattle.c_syntax.specs.SyntaxView.{expression_of, array_of, parameter_o
 ghost use Rattle.c_rules.specs.declared.fault.Refusal.TheVariants as refusals;
 ghost use Rattle.c_rules.specs.Declarations as rules;
 ghost use Rattle.c_rules.specs.Statements.{with_named_object};
-ghost use Rattle.c_scopes.specs.Tables.{scope_of, tables_of, around_of};
+ghost use Rattle.c_scopes.specs.Tables.{scope_of, scopes_of, around_of};
 
 use crate::call_arguments::word_of;
 use crate::expressions::constant_tree;
@@ -80,7 +80,6 @@ pub(crate) fn declare_single<'a>(
 ) -> Result<(), Refusal>
     ensures declared { OnOk result (scope_of scopes.new ≡ rules.with_single (scope_of scopes.old) name.now reference kind) }
     ensures around { around_of scopes.new ≡ around_of scopes.old }
-    ensures bodies { (scope_of scopes.new).bodies ≡ (scope_of scopes.old).bodies }
     ensures memory { IfErr result (λ f. f ≡ refusals.NoMemory) }
 {
     match name {
@@ -103,7 +102,6 @@ pub(crate) fn parameter_types<'a>(
 ) -> Result<Vec<ScalarType>, Refusal>
     ensures follows { Follows (λ kinds. kinds.items) (rules.parameters (scope_of scopes.old) naming (map parameter_of list.now)) result }
     ensures around { around_of scopes.new ≡ around_of scopes.old }
-    ensures bodies { (scope_of scopes.new).bodies ≡ (scope_of scopes.old).bodies }
 {
     let mut kinds = Vec::new(scopes.alloc);
     for parameter in list {
@@ -122,10 +120,7 @@ fn prototype<'a>(
     parameters: &'a Params,
 ) -> Result<Declared, Refusal>
     ensures follows { Follows (λ d. d) (rules.prototype (scope_of scopes.old) result_kind (parameters_of parameters.now)) result }
-    ensures tables { OnOk result (tables_of scopes.new ≡ tables_of scopes.old) }
-    ensures scope { OnOk result (scope_of scopes.new ≡ scope_of scopes.old) }
-    ensures around { OnOk result (around_of scopes.new ≡ around_of scopes.old) }
-    ensures bodies { (scope_of scopes.new).bodies ≡ (scope_of scopes.old).bodies }
+    ensures kept { OnOk result (scopes_of scopes.new ≡ scopes_of scopes.old) }
 {
     scopes.open()?;
     let kinds = parameter_types(scopes, Naming::Free, parameters.list.as_slice())?;
@@ -143,10 +138,7 @@ pub fn declarator<'a>(
     item: &'a Item,
 ) -> Result<Declared, Refusal>
     ensures follows { Follows (λ d. d) (rules.declarator (scope_of scopes.old) base (item_form_of item.now.kind) item.now.stars (initial_of item.now.init)) result }
-    ensures tables { OnOk result (tables_of scopes.new ≡ tables_of scopes.old) }
-    ensures scope { OnOk result (scope_of scopes.new ≡ scope_of scopes.old) }
-    ensures around { OnOk result (around_of scopes.new ≡ around_of scopes.old) }
-    ensures bodies { (scope_of scopes.new).bodies ≡ (scope_of scopes.old).bodies }
+    ensures kept { OnOk result (scopes_of scopes.new ≡ scopes_of scopes.old) }
 {
     let kind = starred(base, item.stars);
     match &item.kind {
@@ -169,7 +161,6 @@ pub fn declare_object<'a>(
 ) -> Result<(), Refusal>
     ensures declared { OnOk result (scope_of scopes.new ≡ with_named_object (scope_of scopes.old) name.now reference declared.now) }
     ensures around { around_of scopes.new ≡ around_of scopes.old }
-    ensures bodies { (scope_of scopes.new).bodies ≡ (scope_of scopes.old).bodies }
     ensures memory { IfErr result (λ f. f ≡ refusals.NoMemory) }
 {
     match declared {

@@ -3,7 +3,7 @@ ghost use Rattle.c_rules.specs.Answers.{Follows};
 ghost use Rattle.std.specs.Prelude.{◌≡◌, ◌&&◌, ◌||◌, map, IfOk, IfErr, OnOk};
 ghost use Rattle.c_tree.specs.declared.program.VarRef.{VarRef};
 ghost use Rattle.c_syntax.specs.SyntaxView.{initial_of, parameter_of};
-ghost use Rattle.c_scopes.specs.Tables.{scope_of, tables_of, around_of};
+ghost use Rattle.c_scopes.specs.Tables.{scope_of, scopes_of, around_of};
 ghost use Rattle.c_rules.specs.Units as rules;
 ghost use Rattle.c_objects.specs.InitialiserView.{starts_of};
 ghost use Rattle.c_rules.specs.declared.meaning.Declared.TheVariants as declares;
@@ -37,7 +37,6 @@ pub fn declare_static<'a>(
     ensures allowed { IfOk result (λ b. b ≡ rules.may_declare (scope_of scopes.old) name.now (declares.Object object_type)) }
     ensures declared { OnOk result (scope_of scopes.new ≡ rules.with_declared (scope_of scopes.old) name.now number (declares.Object object_type)) }
     ensures around { around_of scopes.new ≡ around_of scopes.old }
-    ensures bodies { (scope_of scopes.new).bodies ≡ (scope_of scopes.old).bodies }
     ensures memory { IfErr result (λ f. f ≡ refusals.NoMemory) }
 {
     let allowed = !is_port(name) && agrees_object(scopes.find(name), object_type);
@@ -63,7 +62,6 @@ pub fn declare_function<'a>(
     ensures allowed { IfOk result (λ b. b ≡ rules.may_declare (scope_of scopes.old) name.now (declares.Function function)) }
     ensures declared { OnOk result (scope_of scopes.new ≡ rules.with_declared (scope_of scopes.old) name.now 0 (declares.Function function)) }
     ensures around { around_of scopes.new ≡ around_of scopes.old }
-    ensures bodies { (scope_of scopes.new).bodies ≡ (scope_of scopes.old).bodies }
     ensures memory { IfErr result (λ f. f ≡ refusals.NoMemory) }
 {
     let allowed = !is_port(name) && agrees_function(scopes.find(name), &function);
@@ -81,7 +79,6 @@ pub fn declare_parameters<'a>(
 ) -> Result<(), Refusal>
     ensures declared { OnOk result (scope_of scopes.new ≡ rules.with_parameters (scope_of scopes.old) 0 (map parameter_of list.now) kinds.now) }
     ensures around { around_of scopes.new ≡ around_of scopes.old }
-    ensures bodies { (scope_of scopes.new).bodies ≡ (scope_of scopes.old).bodies }
     ensures memory { IfErr result (λ f. f ≡ refusals.NoMemory) }
 {
     for (n, kind) in kinds.iter().enumerate() {
@@ -99,8 +96,7 @@ pub fn defined_parameters<'a>(
     list: &'a [Param],
 ) -> Result<Vec<ScalarType>, Refusal>
     ensures follows { Follows (λ kinds. kinds.items) (parameters (open_scope (scope_of scopes.old)) Needed (map parameter_of list.now)) result }
-    ensures same { OnOk result (scope_of scopes.new ≡ scope_of scopes.old) }
-    ensures tables { OnOk result (tables_of scopes.new ≡ tables_of scopes.old) }
+    ensures kept { OnOk result (scopes_of scopes.new ≡ scopes_of scopes.old) }
 {
     scopes.open()?;
     let kinds = parameter_types(scopes, Naming::Needed, list)?;

@@ -3,7 +3,7 @@ ghost use Rattle.std.specs.Prelude.{◌≡◌, option_copied, IfErr, OnOk};
 ghost use Rattle.c_syntax.specs.SyntaxView.{expression_of};
 ghost use Rattle.c_rules.specs.declared.fault.Refusal.TheVariants as refusals;
 ghost use Rattle.c_rules.specs.Scopes as rules;
-ghost use Rattle.c_scopes.specs.Tables.{scope_of, key_names, tables_of, around_of, closed};
+ghost use Rattle.c_scopes.specs.Tables.{scope_of, key_names, scopes_of, around_of, closed};
 ghost use Rattle.c_rules.specs.Typing as typing;
 
 use c_rules::{Meaning, ObjectType, Refusal};
@@ -39,8 +39,7 @@ impl<'a> Scopes<'a> {
     /// Opens a scope within the innermost one.
     pub fn open(&mut self) -> Result<(), Refusal>
         ensures opened { OnOk result (scope_of self.new ≡ rules.open_scope (scope_of self.old)) }
-        ensures around { OnOk result (around_of self.new ≡ tables_of self.old) }
-        ensures bodies { (scope_of self.new).bodies ≡ (scope_of self.old).bodies }
+        ensures around { OnOk result (around_of self.new ≡ scopes_of self.old) }
         ensures memory { IfErr result (λ f. f ≡ refusals.NoMemory) }
     {
         let inner = mem::replace(&mut self.innermost, IndexMap::new(self.alloc));
@@ -50,8 +49,7 @@ impl<'a> Scopes<'a> {
 
     /// Closes the innermost scope, where one is around it.
     pub fn close(&mut self)
-        ensures closed { tables_of self.new ≡ closed (tables_of self.old) }
-        ensures bodies { (scope_of self.new).bodies ≡ (scope_of self.old).bodies }
+        ensures { scopes_of self.new ≡ closed (scopes_of self.old) }
     {
         if let Some(table) = self.outer.pop() {
             drop(mem::replace(&mut self.innermost, table));
@@ -62,7 +60,6 @@ impl<'a> Scopes<'a> {
     pub(crate) fn declare(&mut self, name: &'a str, meaning: Meaning) -> Result<(), Refusal>
         ensures declared { OnOk result (scope_of self.new ≡ rules.declare (scope_of self.old) name.now meaning) }
         ensures around { around_of self.new ≡ around_of self.old }
-        ensures bodies { (scope_of self.new).bodies ≡ (scope_of self.old).bodies }
         ensures memory { IfErr result (λ f. f ≡ refusals.NoMemory) }
     {
         self.innermost.insert(name, meaning)?;

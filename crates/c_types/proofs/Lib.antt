@@ -1,2 +1,3 @@
 pub mod UnitLemmas
+pub mod FunctionLemmas
 pub mod ProgramLemmas

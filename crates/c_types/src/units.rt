@@ -2,7 +2,8 @@
 ghost use Rattle.std.specs.Prelude.{◌≡◌, ◌||◌, List, ◌∷◌, map, IfOk, OnOk, unwrap_or, []};
 ghost use Rattle.c_syntax.specs.SyntaxView.{item_of, initial_of, function_syntax_of, external_of, parameter_of, unit_of};
 ghost use Rattle.c_rules.specs.Answers.{Follows, Refuses};
-ghost use Rattle.c_scopes.specs.Tables.{Table, around_of, key_names, scope_of, tables_of};
+ghost use Rattle.c_scopes.specs.Tables.{around_of, key_names, scope_of, scopes_of};
+ghost use Rattle.c_rules.specs.Scopes.{Scope};
 ghost use Rattle.c_objects.specs.InitialiserView.{starts_of};
 ghost use Rattle.c_rules.specs.Units as rules;
 ghost use Rattle.c_rules.specs.LocalView.{local_tree_of};
@@ -128,8 +129,7 @@ fn typed_body<'a>(
     f: &'a FunctionDef,
 ) -> Result<TypedBody, Refusal>
     ensures follows { Follows typed_body_of (statements.typed_body kind (scope_of scopes.old) (map local_tree_of locals.items) (function_syntax_of f.now).declarations (function_syntax_of f.now).statements) result }
-    ensures tables { (outer : Table) (rest : List Table) → around_of scopes.old ≡ outer ∷ rest → OnOk result (tables_of scopes.new ≡ outer ∷ rest) }
-    ensures bodies { OnOk result ((scope_of scopes.new).bodies ≡ (scope_of scopes.old).bodies) }
+    ensures kept { (outer : Scope) (rest : List Scope) → around_of scopes.old ≡ outer ∷ rest → OnOk result (scopes_of scopes.new ≡ outer ∷ rest) }
 {
     let alloc = scopes.alloc;
     let declarations = f.declarations.as_slice();

@@ -26,5 +26,4 @@ loop-parameter-preserved c =
     record {
       typed = parameter_typed whole (scope_of c.loop-parameter.scopes) c.args.naming c.parameter-item.result (drop i list) (drop (i + 1) list) c.loop-parameter.kinds.items c.loop-parameter.invariant.typed split c.in_ok-kind.kind (scope_of c.declare_single.new.scopes) c.push.new.self.items c.in_ok-kind.ensures c.in_ok-declare_single.ensures.declared c.in_ok-push.ensures.items;
       around = c.declare_single.ensures.around ∙ c.loop-parameter.invariant.around;
-      bodies = c.declare_single.ensures.bodies ∙ c.loop-parameter.invariant.bodies;
     }

@@ -7,5 +7,4 @@ abbrev pub invariant-loop-parameter : goal.invariant-loop-parameter
 invariant-loop-parameter l = record {
   typed : ParametersSoFar (scope_of l.initial.scopes) l.naming l.list (scope_of l.scopes) (drop l.parameter-index l.list) l.kinds.items;
   around : around_of l.scopes ≡ around_of l.initial.scopes;
-  bodies : (scope_of l.scopes).bodies ≡ (scope_of l.initial.scopes).bodies;
 }

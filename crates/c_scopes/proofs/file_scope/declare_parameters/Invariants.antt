@@ -8,5 +8,4 @@ abbrev pub invariant-loop-n : goal.invariant-loop-n
 invariant-loop-n l = record {
   declared : with_parameters (scope_of l.initial.scopes) 0 (map parameter_of l.list) l.kinds ≡ with_parameters (scope_of l.scopes) l.n (map parameter_of (drop l.n l.list)) (drop l.n l.kinds);
   around : around_of l.scopes ≡ around_of l.initial.scopes;
-  bodies : (scope_of l.scopes).bodies ≡ (scope_of l.initial.scopes).bodies;
 }

@@ -1,4 +1,4 @@
-use Rattle.std.proofs.Common.{◌∙◌, ap, sym, map, reverse}
+use Rattle.std.proofs.Common.{◌∙◌, ap, sym, map}
 use Rattle.c_syntax.specs.SyntaxView.{declaration_of, body_of}
 use Rattle.c_rules.specs.LocalView.{local_tree_of}
 use Rattle.c_rules.specs.Statements.{typed_body}
@@ -15,11 +15,8 @@ returns-clause-follows c =
     ∙ ap (λ x. typed_body c.args.kind (scope_of x) locals (map declaration_of c.as_slice-declarations.result.now) (body_of c.as_slice-statements.result.now)) (sym c.replace.ensures.value)
     ∙ c.in_ok-tree.ensures.follows
 
-pub returns-clause-tables : goal.returns-clause-tables
-returns-clause-tables c = λ outer rest around.
-    c.close.ensures.closed
-    ∙ closed_again c.body.new.self.scopes.innermost outer rest (reverse c.body.new.self.scopes.outer.items)
-    (c.in_ok-tree.ensures.around ∙ ap around_of c.replace.ensures.value ∙ around)
-
-pub returns-clause-bodies : goal.returns-clause-bodies
-returns-clause-bodies c = c.close.ensures.bodies ∙ c.in_ok-tree.ensures.bodies ∙ ap (λ x. (scope_of x).bodies) c.replace.ensures.value
+pub returns-clause-kept : goal.returns-clause-kept
+returns-clause-kept c = λ outer rest around.
+    c.close.ensures
+    ∙ closed_again (scope_of c.body.new.self.scopes) outer rest (around_of c.body.new.self.scopes)
+    (ap (λ k. k.scopes) c.in_ok-tree.ensures.kept ∙ ap around_of c.replace.ensures.value ∙ around)

@@ -4,6 +4,8 @@ use Rattle.c_tree.specs.View.{expr_of, stmt_of}
 use Rattle.std.specs.Prelude.{map}
 use Rattle.c_tree.specs.declared.enclosing.Enclosing.TheVariants as around
 use Rattle.c_rules.specs.Answers.{Refuses}
+use Rattle.c_scopes.specs.Tables.{scope_of, around_of}
+use Rattle.c_scopes.proofs.ScopesKept.{closed_again}
 use Rattle.c_bodies.specs.Bodies.{behind, behind_choices, choices_in, labelled_of, parts_of, statements_in}
 use Rattle.c_bodies.proofs.StatementsSoFar.{turn, ended, refused_here, block_typed, block_follows, do_rest, else_rest, if_rest, arms_rest, while_rest, for_rest, form_follows, same_follows}
 use Rattle.c_bodies.proofs.ChoicesSoFar.{none_behind, turn as choice_turn, ended as choices_ended}
@@ -13,7 +15,15 @@ use Rattle.c_bodies.proofs.blocks.Body.+statements.Goals as goal
 pub block_here-returns-clause-follows : goal.block_here-returns-clause-follows
 block_here-returns-clause-follows t c =
     block_typed c.args.self.now c.declarations.new.self c.statements.new.self (record { declared = c.new.result; statements = c.new-2.result }) c.declarations.new.opening c.statements.new.into c.args.enclosing (map declaration_of c.args.declarations.now) (body_of c.args.statements.now)
-    c.new.ensures.items c.new-2.ensures.items c.in_ok-declarations.ensures.returned c.in_ok-declarations.ensures.follows c.in_ok-statements.ensures.typed
+    c.new.ensures.items c.new-2.ensures.items (ap (λ k. k.result) c.in_ok-declarations.ensures.kept) c.in_ok-declarations.ensures.follows c.in_ok-statements.ensures.typed
+
+pub block-returns-clause-kept : goal.block-returns-clause-kept
+block-returns-clause-kept t c = λ i. record {
+  scopes = (c.close.ensures
+      ∙ closed_again (scope_of c.block_here.new.self.scopes) (scope_of c.args.self.now.scopes) (around_of c.args.self.now.scopes) (around_of c.block_here.new.self.scopes)
+      (ap (λ k. k.scopes) c.in_ok-block.ensures.kept ∙ c.in_ok-open.ensures.around)) i;
+  result = (c.in_ok-block.ensures.kept i).result;
+}
 
 pub statement-returns-in-Block-clause-follows : goal.statement-returns-in-Block-clause-follows
 statement-returns-in-Block-clause-follows t c =
@@ -42,12 +52,10 @@ statement-returns-in-For-clause-follows t c =
 pub statements-loop-s-preserved : goal.statements-loop-s-preserved
 statements-loop-s-preserved t c = record {
   typed = c.loop-s.invariant.typed
-      ∙ turn c.loop-s.self c.statement.new.self c.in_ok-statement.ensures.tables c.in_ok-statement.ensures.bodies c.in_ok-statement.ensures.returned
+      ∙ turn c.loop-s.self c.statement.new.self c.in_ok-statement.ensures.kept
       c.args.enclosing c.args.list.now c.loop-s.s-index c.s-item.result c.loop-s.into.items c.in_ok-statement.field-0 c.s-item.is c.loop-s-test.true c.in_ok-statement.ensures.follows
       ∙ ap (λ l. behind l (statements_in c.statement.new.self c.args.enclosing (body_of (drop (c.loop-s.s-index + 1) c.args.list.now)))) (sym c.in_ok-add.ensures.items);
-  tables = c.in_ok-statement.ensures.tables ∙ c.loop-s.invariant.tables;
-  bodies = c.in_ok-statement.ensures.bodies ∙ c.loop-s.invariant.bodies;
-  returned = c.in_ok-statement.ensures.returned ∙ c.loop-s.invariant.returned;
+  kept = c.in_ok-statement.ensures.kept ∙ c.loop-s.invariant.kept;
 }
 
 pub statements-returns-clause-typed : goal.statements-returns-clause-typed
@@ -63,13 +71,13 @@ statements-returns-in_err-statement-clause-refused t c =
 pub do_loop-returns-clause-follows : goal.do_loop-returns-clause-follows
 do_loop-returns-clause-follows t c =
     same_follows _ _ c.inner.new.self c.do_test.result
-    (do_rest c.args.self.now c.inner.new.self c.in_ok-body.ensures.tables c.in_ok-body.ensures.bodies around.Loop (statement_of c.args.body.now.kind c.args.body.now.at) (expression_of c.args.test.now) c.args.at (stmt_of c.in_ok-body.body.value) c.in_ok-body.ensures.follows)
+    (do_rest c.args.self.now c.inner.new.self c.in_ok-body.ensures.kept around.Loop (statement_of c.args.body.now.kind c.args.body.now.at) (expression_of c.args.test.now) c.args.at (stmt_of c.in_ok-body.body.value) c.in_ok-body.ensures.follows)
     c.do_test.ensures
 
 pub either-returns-clause-follows : goal.either-returns-clause-follows
 either-returns-clause-follows t c =
     same_follows _ _ c.otherwise.new.self c.otherwise.result
-    (else_rest c.args.self.now c.inner.new.self c.in_ok-yes.ensures.tables c.in_ok-yes.ensures.bodies c.in_ok-yes.ensures.returned c.args.enclosing (expression_of c.args.test.now) (statement_of c.args.yes.now.kind c.args.yes.now.at) (statement_of c.args.no.now.kind c.args.no.now.at) c.args.at (expr_of c.in_ok-test.test.value) (stmt_of c.in_ok-yes.yes.value) c.in_ok-test.ensures c.in_ok-yes.ensures.follows)
+    (else_rest c.args.self.now c.inner.new.self c.in_ok-yes.ensures.kept c.args.enclosing (expression_of c.args.test.now) (statement_of c.args.yes.now.kind c.args.yes.now.at) (statement_of c.args.no.now.kind c.args.no.now.at) c.args.at (expr_of c.in_ok-test.test.value) (stmt_of c.in_ok-yes.yes.value) c.in_ok-test.ensures c.in_ok-yes.ensures.follows)
     c.otherwise.ensures.follows
 
 pub choice-returns-clause-follows : goal.choice-returns-clause-follows
@@ -104,9 +112,7 @@ pub choices-loop-part-init : goal.choices-loop-part-init
 choices-loop-part-init t c = record {
   typed = none_behind (choices_in c.args.self.now c.args.enclosing (parts_of c.args.parts.now))
       ∙ ap (λ l. behind_choices l false (choices_in c.args.self.now c.args.enclosing (parts_of c.args.parts.now))) (sym c.new.ensures.items);
-  tables = refl;
-  bodies = refl;
-  returned = refl;
+  kept = refl;
 }
 
 pub choices-loop-part-preserved : goal.choices-loop-part-preserved
@@ -115,9 +121,7 @@ choices-loop-part-preserved t c = record {
       ∙ choice_turn c.loop-part.self c.label_or_body.new.self c.args.enclosing c.args.parts.now c.loop-part.part-index c.part-item.result c.loop-part.labelled.choices.items c.loop-part.labelled.pointer
       c.in_ok-found.found.choice c.in_ok-found.found.pointer c.part-item.is c.loop-part-test.true c.in_ok-found.ensures.typed
       ∙ ap (λ l. behind_choices l (c.loop-part.labelled.pointer || c.in_ok-found.found.pointer) (choices_in c.label_or_body.new.self c.args.enclosing (parts_of (drop (c.loop-part.part-index + 1) c.args.parts.now)))) (sym c.in_ok-add.ensures.items);
-  tables = c.in_ok-found.ensures.tables ∙ c.loop-part.invariant.tables;
-  bodies = c.in_ok-found.ensures.bodies ∙ c.loop-part.invariant.bodies;
-  returned = c.in_ok-found.ensures.returned ∙ c.loop-part.invariant.returned;
+  kept = c.in_ok-found.ensures.kept ∙ c.loop-part.invariant.kept;
 }
 
 pub choices-returns-clause-follows : goal.choices-returns-clause-follows

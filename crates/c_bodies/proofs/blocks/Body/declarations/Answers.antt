@@ -11,9 +11,7 @@ loop-declaration-preserved c = record {
   typed = declaration_typed (opened_of c.loop-declaration.self c.loop-declaration.opening) (declarations (opened_of c.args.self.now c.args.opening.now) (map declaration_of c.args.list.now))
       c.args.list.now c.loop-declaration.declaration-index c.declaration-item.result c.declaration-item.is c.loop-declaration-test.true c.loop-declaration.invariant.typed
       c.in_ok-base.base c.as_slice.result.now c.in_ok-base.ensures c.as_slice.ensures (opened_of c.items.new.self c.items.new.opening) c.in_ok-items.ensures.follows;
-  around = c.in_ok-items.ensures.around ∙ c.loop-declaration.invariant.around;
-  bodies = c.in_ok-items.ensures.bodies ∙ c.loop-declaration.invariant.bodies;
-  value = c.in_ok-items.ensures.returned ∙ c.loop-declaration.invariant.value;
+  kept = c.in_ok-items.ensures.kept ∙ c.loop-declaration.invariant.kept;
 }
 
 pub returns-clause-follows : goal.returns-clause-follows

@@ -10,9 +10,7 @@ pub loop-item-preserved : goal.loop-item-preserved
 loop-item-preserved c = record {
   typed = item_typed (opened_of c.loop-item.self c.loop-item.opening) c.args.base (block_items (opened_of c.args.self.now c.args.opening.now) c.args.base (map item_of c.args.list.now))
       c.args.list.now c.loop-item.item-index c.item-item.result c.item-item.is c.loop-item-test.true c.loop-item.invariant.typed (opened_of c.item.new.self c.item.new.opening) c.in_ok-item.ensures.follows;
-  around = c.in_ok-item.ensures.around ∙ c.loop-item.invariant.around;
-  bodies = c.in_ok-item.ensures.bodies ∙ c.loop-item.invariant.bodies;
-  value = c.in_ok-item.ensures.returned ∙ c.loop-item.invariant.value;
+  kept = c.in_ok-item.ensures.kept ∙ c.loop-item.invariant.kept;
 }
 
 pub returns-clause-follows : goal.returns-clause-follows

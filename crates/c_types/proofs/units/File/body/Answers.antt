@@ -1,10 +1,10 @@
-use Rattle.std.proofs.Common.{◌≡◌, ◌∙◌, ap, refl, length, map, reverse}
+use Rattle.std.proofs.Common.{◌≡◌, ◌∙◌, ap, refl, length, map}
 use Rattle.c_syntax.specs.SyntaxView.{function_syntax_of, parameter_of}
 use Rattle.c_rules.specs.LocalView.{local_tree_of}
 use Rattle.c_rules.specs.Scopes.{open_scope}
 use Rattle.c_rules.specs.Units.{with_parameters, parameter_locals}
-use Rattle.c_scopes.specs.Tables.{scope_of, tables_of}
-use Rattle.c_scopes.proofs.ScopesKept.{scope_kept}
+use Rattle.c_scopes.specs.Tables.{around_of, scope_of}
+use Rattle.c_scopes.proofs.ScopesKept.{innermost}
 use Rattle.c_types.specs.View.{typed_body_of, file_of}
 use Rattle.c_types.proofs.UnitLemmas.{body_typed, function_pushed}
 use Rattle.c_types.proofs.units.File.body.Goals as goal
@@ -14,10 +14,8 @@ returns c =
     let f = c.args.f.now in
     let old = c.args.self.now.scopes in
     let list = c.as_slice-list.result.now in
-    let tables : tables_of c.typed_body.new.scopes ≡ tables_of old =
-    c.in_ok-typed.ensures.tables old.innermost (reverse old.outer.items) (c.in_ok-declare_parameters.ensures.around ∙ c.in_ok-open.ensures.around) in
     let kept : scope_of c.typed_body.new.scopes ≡ scope_of old =
-    scope_kept c.typed_body.new.scopes old tables (c.in_ok-typed.ensures.bodies ∙ c.in_ok-declare_parameters.ensures.bodies ∙ c.in_ok-open.ensures.bodies) in
+    ap innermost (c.in_ok-typed.ensures.kept (scope_of old) (around_of old) (c.in_ok-declare_parameters.ensures.around ∙ c.in_ok-open.ensures.around)) in
     body_typed (file_of c.args.self.now) (function_syntax_of f) c.args.kind c.args.kinds.now
     (scope_of c.declare_parameters.new.scopes) (map local_tree_of c.in_ok-locals.locals.items) (typed_body_of c.in_ok-typed.typed)
     (file_of (record { scopes = c.typed_body.new.scopes; statics = c.args.self.now.statics; functions = c.push.new.self }))
