@@ -275,6 +275,10 @@ all_same (line ∷ all) one two g h =
     ∙ ap (λ p. h.front ++ p) (all_same all g.back h.back g.others h.others)
     ∙ sym h.joined
 
+-- lines give one list
+pub one_port_text : (bytes : List ℕ) (one two : List (ℕ × ℕ)) → PortText bytes one → PortText bytes two → one ≡ two
+one_port_text bytes one two g h = all_same (lines bytes) one two g h
+
 pub given_same : (bytes rest : List ℕ) (number : ℕ) (puts : List (ℕ × ℕ)) → GivenSoFar bytes rest number puts → rest ≡ [] → (other : List (ℕ × ℕ)) → PortText bytes other → puts ≡ other
 given_same bytes rest number puts s none other p = all_same (lines bytes) puts other (given_end bytes rest number puts s none) p
 

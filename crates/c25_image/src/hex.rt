@@ -1,5 +1,5 @@
 //! Words in hexadecimal digits.
-ghost use Rattle.std.specs.Prelude.{◌≡◌, ◌≢◌, ◌<◌, ◌^◌, ◌∷◌, ◌++◌, ℕ, List, MatchOption, OnOk};
+ghost use Rattle.std.specs.Prelude.{◌≡◌, ◌≢◌, ◌<◌, ◌^◌, ◌∷◌, ◌++◌, ℕ, List, MatchOption, OnOk, OnErr};
 ghost use Rattle.c25_image.specs.Hex.{hex_digit, hex4};
 
 use word_base::NoMemory;
@@ -19,9 +19,10 @@ fn digit_of(value: u16) -> u8
     }
 }
 
-/// Puts a word as four lower-case hexadecimal digits behind a text.
+/// Puts a word as four lower-case hexadecimal digits behind a text, which is as it was where memory is wanting.
 pub fn push_hex(text: &mut Vec<u8>, word: u16) -> Result<(), NoMemory>
-    ensures { OnOk result (text.new.items ≡ text.old.items ++ hex4 word) }
+    ensures put { OnOk result (text.new.items ≡ text.old.items ++ hex4 word) }
+    ensures kept { OnErr result (text.new.items ≡ text.old.items) }
 {
     text.extend_from_slice(&[
         digit_of(word / 4096),

@@ -1,51 +1,90 @@
--- The fetches of a file and of a port file, in this order, and when they are refused (docs/COMMANDS.md, "run" and "means").
-use Rattle.std.specs.Prelude.{◌≡◌, ℕ, ◌≤◌, Bool, IsTrue, List, length, Option, Some}
-use Rattle.cc_shelf.specs.Counts.{Counts}
-use Rattle.cc_shelf.specs.Files.{Files}
-use Rattle.c25_image.specs.PortText.{IsFirstBad}
-use Rattle.cc_driver.specs.Build.{ReadCause, LongCause}
-use Rattle.cc_text.specs.declared.fault.FileFault.{FileFault}
-use Rattle.cc_text.specs.declared.fault.FileFault.TheVariants.{Read, TooLong, BadLine, BadRange, TooManyWords}
-use Rattle.cc_text.specs.declared.fault.RunFault.{RunFault}
-use Rattle.cc_text.specs.declared.fault.RunFault.TheVariants as fault
+-- The fetches of a command's files, in their order, and when they are refused (docs/COMMANDS.md).
+use Rattle.std.specs.Prelude.{◌≡◌, ℕ, ◌+◌, ◌<◌, ◌≤◌, Bool, true, false, IsTrue, List, [], ◌∷◌, ◌++◌, length, map, Some, None}
+use Rattle.cc_shelf.specs.Counts.{FetchFailed, RoseBy}
+use Rattle.cc_shelf.specs.Stock.{Fetch}
+use Rattle.cc_shelf.specs.ShelfAnswers.{NoFetchFailed}
+use Rattle.cc_shelf.specs.declared.shelf.ShelfFault.{ShelfFault}
+use Rattle.cc_shelf.specs.declared.shelf.ShelfFault.TheVariants as shelf_faults
+use Rattle.cc_text.specs.declared.refusal.FileFault.{FileFault}
+use Rattle.cc_text.specs.declared.refusal.FileFault.TheVariants.{Read, TooLong, Image, Ports}
+use Rattle.cc_text.specs.Refusals.{Why, OfFile, OfMemory}
+use Rattle.cc_driver.specs.World.{Shelves}
 
--- the greatest length of a port file, in bytes
-abbrev pub ports_limit : ℕ
-ports_limit = 16777216
+-- a file that is wanted: its name, and the greatest length that it may have, in bytes
+pub record Wanted : Type 0 where
+  pub name : List ℕ
+  pub limit : ℕ
 
--- a file was told, and is no longer than its limit
-pub record IsFetched (files : Files) (name : List ℕ) (limit : ℕ) (bytes : List ℕ) : Type 0 where
-  pub told : files name ≡ Some bytes
-  pub fits : length bytes ≤ limit
+abbrev pub wanted : List ℕ → ℕ → Wanted
+wanted name limit = record { name = name; limit = limit }
 
--- both files were told and fit, and this holds of their bytes
-pub record AreFetched (files : Files) (name : List ℕ) (limit : ℕ) (ports : List ℕ) (P : List ℕ → List ℕ → Type 0) : Type 0 where
-  pub bytes : List ℕ
-  pub port_bytes : List ℕ
-  pub fetched : IsFetched files name limit bytes
-  pub ports_fetched : IsFetched files ports ports_limit port_bytes
-  pub holds : P bytes port_bytes
+-- these are the bytes of a file: no more than it may have, and those that were told
+pub record IsFetched (shelf : Shelves) (file : Wanted) (bytes : List ℕ) : Type 0 where
+  pub told : IsTrue shelf.tells → shelf.before.files file.name ≡ Some bytes
+  pub fits : length bytes ≤ file.limit
 
--- why a fetch is refused
-abbrev pub FetchCause : Bool → Option (List ℕ) → ℕ → Counts → Counts → FileFault → Type 0
-FetchCause tells held limit before now Read = ReadCause tells held before now
-FetchCause tells held limit before now TooLong = LongCause tells held limit before now
-FetchCause tells held limit before now (BadLine line) = ⊥
-FetchCause tells held limit before now (BadRange line) = ⊥
-FetchCause tells held limit before now (TooManyWords count) = ⊥
+-- each of these has bytes
+abbrev pub AreFetched : Shelves → List Wanted → Type 0
+AreFetched shelf [] = Unit {0}
+AreFetched shelf (w ∷ ws) = ((bytes : List ℕ) × IsFetched shelf w bytes) × AreFetched shelf ws
 
--- the bytes are no port file, for this reason
-abbrev pub AreBadPorts : FileFault → List ℕ → Type 0
-AreBadPorts Read bytes = ⊥
-AreBadPorts TooLong bytes = ⊥
-AreBadPorts (BadLine line) bytes = IsFirstBad bytes line
-AreBadPorts (BadRange line) bytes = ⊥
-AreBadPorts (TooManyWords count) bytes = ⊥
+-- a fetch of a file, and whether it failed
+abbrev pub fetch_of : Bool → Wanted → Fetch
+fetch_of failed file = record { name = file.name; failed = failed }
 
--- which file a fetch refuses: the first, or else the ports
-abbrev pub FetchesRefused : Bool → Files → List ℕ → ℕ → List ℕ → Counts → Counts → RunFault → Type 0
-FetchesRefused tells files name limit ports before now (fault.File why) = FetchCause tells (files name) limit before now why
-FetchesRefused tells files name limit ports before now (fault.Ports why) =
-    (IsTrue tells → (bytes : List ℕ) × IsFetched files name limit bytes)
-    × FetchCause tells (files ports) ports_limit before now why
-FetchesRefused tells files name limit ports before now fault.NoMemory = Unit {0}
+-- these fetches and no others were asked for, in this order
+abbrev pub AreAsked : Shelves → List Fetch → Type 0
+AreAsked shelf fetches = IsTrue shelf.tells → shelf.now.fetched ≡ shelf.before.fetched ++ fetches
+
+-- these files and no others were asked for, and no fetch failed
+pub record NoneFailed (shelf : Shelves) (files : List Wanted) : Type 0 where
+  pub asked : AreAsked shelf (map (fetch_of false) files)
+  pub count : NoFetchFailed shelf.before.counts shelf.now.counts
+
+-- a file is longer than its limit, as it was told or as it was read
+pub record IsLong (shelf : Shelves) (file : Wanted) : Type 0 where
+  pub told : IsTrue shelf.tells → (bytes : List ℕ) × (shelf.before.files file.name ≡ Some bytes) × (file.limit < length bytes)
+  pub not_told : shelf.tells ≡ false → RoseBy (file.limit + 1) shelf.before.counts.bytes_read shelf.now.counts.bytes_read
+
+-- why a fetch is refused: it failed, or else there is no such file, or it is too long
+abbrev pub FetchCause : Shelves → Wanted → Bool → FileFault → Type 0
+FetchCause shelf file true Read = FetchFailed shelf.before.counts shelf.now.counts
+FetchCause shelf file true TooLong = ⊥
+FetchCause shelf file true (Image why) = ⊥
+FetchCause shelf file true (Ports why) = ⊥
+FetchCause shelf file false Read = IsTrue shelf.tells × (shelf.before.files file.name ≡ None)
+FetchCause shelf file false TooLong = IsLong shelf file
+FetchCause shelf file false (Image why) = ⊥
+FetchCause shelf file false (Ports why) = ⊥
+
+-- the refusal to which a fault of the shelf leads
+abbrev pub of_shelf_fault : List ℕ → ShelfFault → Why
+of_shelf_fault name shelf_faults.Failed = OfFile name Read
+of_shelf_fault name shelf_faults.Absent = OfFile name Read
+of_shelf_fault name (shelf_faults.TooLong at_least) = OfFile name TooLong
+of_shelf_fault name shelf_faults.NoMemory = OfMemory
+
+-- one file can't be fetched: those before it were, it was the last one that was asked for, and it is the one that is named
+pub record FileRefused (shelf : Shelves) (files : List Wanted) (why : Why) : Type 0 where
+  pub before : List Wanted
+  pub last : Wanted
+  pub behind : List Wanted
+  pub parts : files ≡ before ++ last ∷ behind
+  pub fetched : AreFetched shelf before
+  pub failed : Bool
+  pub asked : AreAsked shelf (map (fetch_of false) before ++ fetch_of failed last ∷ [])
+  pub fault : FileFault
+  pub cause : FetchCause shelf last failed fault
+  pub named : why ≡ OfFile last.name fault
+
+-- memory was wanting behind the fetches of some of the files
+pub record FetchesStopped (shelf : Shelves) (files : List Wanted) : Type 0 where
+  pub before : List Wanted
+  pub behind : List Wanted
+  pub parts : files ≡ before ++ behind
+  pub none_failed : NoneFailed shelf before
+
+-- why not all of the files were fetched
+pub data NotFetched (shelf : Shelves) (files : List Wanted) (why : Why) : Type 0 where
+  AtFile : FileRefused shelf files why → NotFetched shelf files why
+  ForMemory : why ≡ OfMemory → FetchesStopped shelf files → NotFetched shelf files why

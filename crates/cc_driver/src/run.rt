@@ -1,50 +1,52 @@
-//! The run of an image on port input.
-ghost use Rattle.std.specs.Prelude.{◌≡◌, IfOk, IfErr, IsTrue};
-ghost use Rattle.cc_shelf.specs.Files.{Unchanged};
-ghost use Rattle.cc_driver.specs.Run.{Ran, RunsTo, BytesRefused, RunRefused};
+//! `run IMG PORTS [--steps M]`.
+ghost use Rattle.std.specs.Prelude.{◌≢◌, IfOk, IfErr};
+ghost use Rattle.cc_words.specs.Asked.{ToRun};
+ghost use Rattle.cc_text.specs.Refusals.{why_of, OfMemory};
+ghost use Rattle.cc_text.specs.Answers.{answered};
+ghost use Rattle.cc_driver.specs.World.{shelves};
+ghost use Rattle.cc_driver.specs.Run.{RunsTo, RunRefused};
+ghost use Rattle.cc_driver.specs.Work.{WorkDone, WorkRefused, NothingStored};
 
-use crate::files::fetch_both;
+use crate::shelf::{Fetched, IMAGE_LIMIT, fetch_both};
 use c25_image::{read_image, read_ports};
-use c25_isa::{RunOutcome, Start};
+use c25_isa::Start;
 use c25_sim::Machine;
 use cc_shelf::Shelf;
-use cc_text::RunFault;
+use cc_text::{Answer, Refusal, run_answer};
+use cc_words::Run;
 use std::alloc::Global;
 
-/// The greatest length of an image's text, in bytes.
-const IMAGE_LIMIT: u64 = 4_194_304;
-
 // Runs the image of one text on the ports of another.
-fn run_texts(
-    alloc: Global,
-    image_text: &[u8],
-    port_text: &[u8],
-    steps: u64,
-) -> Result<RunOutcome, RunFault>
-    ensures done { IfOk result (λ r. RunsTo image_text.now port_text.now steps r.outs r.stop) }
-    ensures refused { IfErr result (BytesRefused image_text.now port_text.now) }
+fn run<'a>(alloc: Global, asked: &Run<'a>, files: &Fetched) -> Result<Answer, Refusal<'a>>
+    ensures done { IfOk result (λ a. RunsTo files.now.bytes.items files.now.ports.items asked.now.steps (answered a)) }
+    // A refusal has its cause, unless memory is wanting.
+    ensures refused { IfErr result (λ r. why_of r ≢ OfMemory
+        → RunRefused asked.now.image.now asked.now.ports.now files.now.bytes.items files.now.ports.items (why_of r)) }
 {
-    let image = read_image(alloc, image_text)?;
-    let ports = read_ports(alloc, port_text)?;
+    let image = match read_image(alloc, &files.bytes) {
+        Ok(image) => image,
+        Err(fault) => return Err(Refusal::of_image(asked.image, fault)),
+    };
+    let ports = match read_ports(alloc, &files.ports) {
+        Ok(ports) => ports,
+        Err(fault) => return Err(Refusal::of_ports(asked.ports, fault)),
+    };
     let start = Start::zero(alloc, &image)?;
     let mut machine = Machine::new(alloc, start, ports)?;
-    Ok(machine.run(alloc, steps)?)
+    let outcome = machine.run(alloc, asked.steps)?;
+    Ok(run_answer(alloc, &outcome, asked.steps)?)
 }
 
-/// Runs the image of one name on the ports of another, from zeros and for so many steps.
-pub fn run<F: Shelf>(
+/// Runs an image from zeros.
+pub(crate) fn answer<'a, F: Shelf>(
     alloc: Global,
-    image: &str,
-    ports: &str,
-    steps: u64,
+    asked: &Run<'a>,
     shelf: &mut F,
-) -> Result<RunOutcome, RunFault>
-    ensures done { IfOk result (λ r. IsTrue F.tells → Ran (F.file shelf.old) image.now ports.now steps r.outs r.stop) }
-    ensures refused { IfErr result
-        (RunRefused F.tells (F.file shelf.old) image.now ports.now (F.counts shelf.old) (F.counts shelf.new)) }
-    ensures unchanged { Unchanged (F.file shelf.old) (F.file shelf.new) }
-    ensures no_store { (F.counts shelf.new).store_faults ≡ (F.counts shelf.old).store_faults }
+) -> Result<Answer, Refusal<'a>>
+    ensures done { IfOk result (λ a. WorkDone (ToRun asked.now.image.now asked.now.ports.now asked.now.steps) (shelves F.tells (F.stock shelf.old) (F.stock shelf.new)) (answered a)) }
+    ensures refused { IfErr result (λ r. WorkRefused (ToRun asked.now.image.now asked.now.ports.now asked.now.steps) (shelves F.tells (F.stock shelf.old) (F.stock shelf.new)) (why_of r)) }
+    ensures stored { NothingStored (shelves F.tells (F.stock shelf.old) (F.stock shelf.new)) }
 {
-    let files = fetch_both(alloc, image, IMAGE_LIMIT, ports, shelf)?;
-    run_texts(alloc, &files.bytes, &files.ports, steps)
+    let files = fetch_both(alloc, shelf, asked.image, IMAGE_LIMIT, asked.ports)?;
+    run(alloc, asked, &files)
 }

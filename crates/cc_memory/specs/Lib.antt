@@ -1,2 +1,4 @@
 pub mod Held
-pub mod MemCounts
+pub mod Fetches
+pub mod MemStock
+pub mod MemOutput

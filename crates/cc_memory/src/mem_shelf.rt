@@ -1,8 +1,10 @@
 //! A shelf in memory.
-ghost use Rattle.std.specs.Prelude.{◌≡◌, ◌≢◌, ◌≤◌, [], List, ℕ, Some, None, true, MatchOption, OnOk, OnErr, IfOk, IfErr, IsErrOf, IsTrue, ◌↔◌, Contains, vec_len};
+ghost use Rattle.std.specs.Prelude.{◌≡◌, ◌≢◌, ◌≤◌, [], ◌∷◌, ◌++◌, List, ℕ, Some, None, true, MatchOption, MatchResult, OnOk, OnErr, IfOk, IfErr, IsErrOf, IsTrue, ◌↔◌, ◌⊎◌, Contains, vec_len};
+ghost use Rattle.cc_shelf.specs.Asked.{Asked};
 ghost use Rattle.cc_shelf.specs.ShelfAnswers.{FetchRefused, StoreRefused, AfterFetch, AfterStore};
 ghost use Rattle.cc_shelf.specs.Counts.{raised};
 ghost use Rattle.cc_shelf.specs.Files.{Unchanged};
+ghost use Rattle.cc_memory.specs.Fetches.{fetches_of};
 ghost use Rattle.cc_memory.specs.Held.{held, NamesDiffer, FirstAt};
 
 use cc_shelf::{Shelf, ShelfFault};
@@ -16,8 +18,16 @@ pub struct MemFile {
     pub bytes: Vec<u8>,
 }
 
-/// A shelf that tells its files, whose names differ. `fail_at` has the numbers, from 0, of the
-/// calls that are to fail, fetches and stores counted together; a failed one changes no file.
+// A fetch: the name that it asked for, and whether it failed.
+#[derive(Debug, Drop)]
+struct MemFetch {
+    name: Text,
+    failed: bool,
+}
+
+/// A shelf that tells its files, whose names differ, and its fetches. `fail_at` has the numbers,
+/// from 0, of the calls that are to fail, fetches and stores counted together; a failed one changes
+/// no file.
 #[derive(Debug, Drop)]
 pub struct MemShelf {
     pub files: Vec<MemFile>,
@@ -26,6 +36,7 @@ pub struct MemShelf {
     pub store_faults: u64,
     pub read: u64,
     pub fail_at: Vec<u64>,
+    fetched: Vec<MemFetch>,
     ghost names_differ: { NamesDiffer files.items },
 }
 
@@ -41,12 +52,29 @@ fn place_of(files: &[MemFile], name: &str) -> Option<usize>
     None
 }
 
+// Puts a fetch behind those before it. For want of memory they stay as they were.
+fn keep_fetch(
+    fetches: &mut Vec<MemFetch>,
+    alloc: Global,
+    name: &str,
+    failed: bool,
+) -> Result<(), NoMemory>
+    ensures { MatchResult result
+        (λ _. fetches_of fetches.new.items ≡ fetches_of fetches.old.items ++ record { name = name.now; failed = failed } ∷ [])
+        (λ _. fetches.new.items ≡ fetches.old.items) }
+{
+    let name = Text::copy_of(alloc, name)?;
+    fetches.push(MemFetch { name, failed })?;
+    Ok(())
+}
+
 impl MemShelf {
-    ghost use Rattle.cc_memory.specs.MemCounts.{counts_of};
+    ghost use Rattle.cc_memory.specs.MemStock.{counts_of};
 
     /// A shelf without files, before its first call.
     pub fn new(alloc: Global, fail_at: Vec<u64>) -> Self
         ensures empty { result.files.items ≡ [] }
+        ensures fetched { result.fetched.items ≡ [] }
         ensures calls { result.calls ≡ 0 }
         ensures counts { counts_of result ≡ record { fetch_faults = 0; store_faults = 0; bytes_read = 0 } }
         ensures fail_at { result.fail_at ≡ fail_at }
@@ -58,6 +86,7 @@ impl MemShelf {
             store_faults: 0,
             read: 0,
             fail_at,
+            fetched: Vec::new(alloc),
         }
     }
 
@@ -67,6 +96,7 @@ impl MemShelf {
         ensures told { OnOk result (held self.new.files.items name.now ≡ Some bytes.now) }
         ensures others { (n : List ℕ) → n ≢ name.now → held self.new.files.items n ≡ held self.old.files.items n }
         ensures memory { OnErr result (Unchanged (held self.old.files.items) (held self.new.files.items)) }
+        ensures fetched { self.new.fetched ≡ self.old.fetched }
         ensures calls { self.new.calls ≡ self.old.calls }
         ensures counts { counts_of self.new ≡ counts_of self.old }
         ensures fail_at { self.new.fail_at ≡ self.old.fail_at }
@@ -86,6 +116,7 @@ impl MemShelf {
         ensures fails { IsTrue result ↔ Contains self.old.fail_at.items self.old.calls }
         ensures calls { self.new.calls ≡ raised self.old.calls 1 }
         ensures files { self.new.files ≡ self.old.files }
+        ensures fetched { self.new.fetched ≡ self.old.fetched }
         ensures counts { counts_of self.new ≡ counts_of self.old }
         ensures fail_at { self.new.fail_at ≡ self.old.fail_at }
     {
@@ -96,32 +127,36 @@ impl MemShelf {
 }
 
 impl Shelf for MemShelf {
-    ghost use Rattle.cc_memory.specs.MemCounts.{counts_of};
+    ghost use Rattle.cc_memory.specs.MemStock.{counts_of, stock_of};
     ghost use Rattle.std.specs.Prelude.{true};
 
     ghost tells = { true };
 
-    ghost file = { λ s n. held s.files.items n };
-
-    ghost counts = { counts_of };
+    ghost stock = { stock_of };
 
     fn fetch(&mut self, alloc: Global, name: &str, max: u64) -> Result<Vec<u8>, ShelfFault>
         ensures unchanged { Unchanged (held self.old.files.items) (held self.new.files.items) }
         ensures length { IfOk result (λ bytes. vec_len bytes ≤ max) }
         ensures told { IfOk result (λ bytes. held self.old.files.items name.now ≡ Some bytes.items) }
-        ensures refused { IfErr result
-            (FetchRefused true (held self.old.files.items name.now) max (counts_of self.old) (counts_of self.new)) }
+        ensures refused { IfErr result (FetchRefused true name.now max (stock_of self.old) (stock_of self.new)) }
         ensures counts { AfterFetch (counts_of self.old) (counts_of self.new) }
+        ensures success { OnOk result (self.new.fetch_faults ≡ self.old.fetch_faults) }
+        ensures asked { Asked true name.now (stock_of self.old) (stock_of self.new) result }
 
         // Calls are counted. One fails exactly where its number is in `fail_at`, and else it counts no fault.
         ensures calls { self.new.calls ≡ raised self.old.calls 1 }
-        ensures fails { IsErrOf result ShelfFault.Failed ↔ Contains self.old.fail_at.items self.old.calls }
+        ensures fails { IsErrOf result ShelfFault.Failed → Contains self.old.fail_at.items self.old.calls }
+        ensures to_fail { Contains self.old.fail_at.items self.old.calls
+            → IsErrOf result ShelfFault.Failed ⊎ IsErrOf result ShelfFault.NoMemory }
         ensures fault { IsErrOf result ShelfFault.Failed → self.new.fetch_faults ≡ raised self.old.fetch_faults 1 }
         ensures no_fault { ¬ Contains self.old.fail_at.items self.old.calls → self.new.fetch_faults ≡ self.old.fetch_faults }
         ensures read { IfOk result (λ bytes. self.new.read ≡ raised self.old.read (vec_len bytes)) }
+        ensures unread { OnErr result (self.new.read ≡ self.old.read) }
         ensures fail_at { self.new.fail_at ≡ self.old.fail_at }
     {
-        if self.count_call() {
+        let is_to_fail = self.count_call();
+        keep_fetch(&mut self.fetched, alloc, name, is_to_fail)?;
+        if is_to_fail {
             self.fetch_faults = self.fetch_faults.saturating_add(1);
             return Err(ShelfFault::Failed);
         }
@@ -144,6 +179,8 @@ impl Shelf for MemShelf {
         ensures memory { IsErrOf result ShelfFault.NoMemory → Unchanged (held self.old.files.items) (held self.new.files.items) }
         ensures refused { IfErr result (StoreRefused (counts_of self.old) (counts_of self.new)) }
         ensures counts { AfterStore (counts_of self.old) (counts_of self.new) }
+        ensures success { OnOk result (self.new.store_faults ≡ self.old.store_faults) }
+        ensures asked { self.new.fetched.items ≡ self.old.fetched.items }
 
         // As above, and a call that fails changes no file.
         ensures calls { self.new.calls ≡ raised self.old.calls 1 }

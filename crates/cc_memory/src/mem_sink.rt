@@ -34,19 +34,18 @@ impl MemSink {
 }
 
 impl Sink for MemSink {
+    ghost use Rattle.cc_memory.specs.MemOutput.{output_of};
     ghost use Rattle.std.specs.Prelude.{true};
 
     ghost tells = { true };
 
-    ghost bytes = { λ s. s.bytes.items };
-
-    ghost faults = { λ s. s.faults };
+    ghost output = { output_of };
 
     fn put(&mut self, _alloc: Global, piece: &[u8]) -> Result<(), SinkFault>
         ensures told { OnOk result (self.new.bytes.items ≡ self.old.bytes.items ++ piece.now) }
-        ensures refused { IfErr result
-            (PutRefused true piece.now self.old.bytes.items self.new.bytes.items self.old.faults self.new.faults) }
+        ensures refused { IfErr result (PutRefused true piece.now (output_of self.old) (output_of self.new)) }
         ensures later { self.old.faults ≤ self.new.faults }
+        ensures success { OnOk result (self.new.faults ≡ self.old.faults) }
 
         // Calls are counted. One fails exactly where its number is in `fail_at`, then puts nothing, and else counts no fault.
         ensures calls { self.new.calls ≡ raised self.old.calls 1 }

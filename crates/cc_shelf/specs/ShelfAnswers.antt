@@ -1,25 +1,36 @@
 -- When a shelf gives each refusal, and what its calls make of its counts (docs/COMMANDS.md, "Faults").
-use Rattle.std.specs.Prelude.{◌≡◌, ℕ, ◌<◌, ◌≤◌, Bool, false, IsTrue, List, length, Option, Some, None, ⊤}
+use Rattle.std.specs.Prelude.{◌≡◌, ℕ, ◌<◌, ◌≤◌, Bool, false, IsTrue, List, length, Some, None}
 use Rattle.cc_shelf.specs.Counts.{Counts, FetchFailed, StoreFailed, RoseBy}
+use Rattle.cc_shelf.specs.Stock.{Stock}
 use Rattle.cc_shelf.specs.declared.shelf.ShelfFault.{ShelfFault}
 use Rattle.cc_shelf.specs.declared.shelf.ShelfFault.TheVariants.{Failed, Absent, TooLong, NoMemory}
 
--- when a fetch of at most `max` bytes is refused so, by what is held under the name
-abbrev pub FetchRefused : Bool → Option (List ℕ) → ℕ → Counts → Counts → ShelfFault → Type 0
-FetchRefused tells held max before now Failed = FetchFailed before now
-FetchRefused tells held max before now Absent = IsTrue tells × (held ≡ None) × (now.fetch_faults ≡ before.fetch_faults)
-FetchRefused tells held max before now (TooLong at_least) =
+-- no fetch failed between the two
+abbrev pub NoFetchFailed : Counts → Counts → Type 0
+NoFetchFailed before now = now.fetch_faults ≡ before.fetch_faults
+
+-- no store failed between the two
+abbrev pub NoStoreFailed : Counts → Counts → Type 0
+NoStoreFailed before now = now.store_faults ≡ before.store_faults
+
+-- when a fetch of at most `max` bytes of this name is refused so
+abbrev pub FetchRefused : Bool → List ℕ → ℕ → Stock → Stock → ShelfFault → Type 0
+FetchRefused tells name max before now Failed = FetchFailed before.counts now.counts
+FetchRefused tells name max before now Absent =
+    IsTrue tells × (before.files name ≡ None) × NoFetchFailed before.counts now.counts
+FetchRefused tells name max before now (TooLong at_least) =
     (max < at_least)
-    × (IsTrue tells → (bytes : List ℕ) × (held ≡ Some bytes) × (at_least ≤ length bytes))
-    × (tells ≡ false → RoseBy at_least before.bytes_read now.bytes_read)
-FetchRefused tells held max before now NoMemory = ⊤
+    × (IsTrue tells → (bytes : List ℕ) × (before.files name ≡ Some bytes) × (at_least ≤ length bytes))
+    × (tells ≡ false → RoseBy at_least before.counts.bytes_read now.counts.bytes_read)
+    × NoFetchFailed before.counts now.counts
+FetchRefused tells name max before now NoMemory = NoFetchFailed before.counts now.counts
 
 -- when a store is refused so
 abbrev pub StoreRefused : Counts → Counts → ShelfFault → Type 0
 StoreRefused before now Failed = StoreFailed before now
 StoreRefused before now Absent = ⊥
 StoreRefused before now (TooLong at_least) = ⊥
-StoreRefused before now NoMemory = ⊤
+StoreRefused before now NoMemory = NoStoreFailed before now
 
 -- the counts behind a fetch
 pub record AfterFetch (before now : Counts) : Type 0 where

@@ -34,13 +34,13 @@ impl<'a, R: Files> FileShelf<'a, R> {
 }
 
 impl<'a, R: Files> Shelf for FileShelf<'a, R> {
-    ghost use Rattle.std.specs.Prelude.{false, None};
+    ghost use Rattle.std.specs.Prelude.{false};
+    ghost use Rattle.cc_shelf.specs.Stock.{untold_stock};
 
     ghost tells = { false };
 
-    ghost file = { λ _ _. None };
-
-    ghost counts = { λ s. record { fetch_faults = s.fetch_faults; store_faults = s.store_faults; bytes_read = s.read } };
+    ghost stock = { λ s. untold_stock
+        (record { fetch_faults = s.fetch_faults; store_faults = s.store_faults; bytes_read = s.read }) };
 
     fn fetch(&mut self, alloc: Global, name: &str, max: u64) -> Result<Vec<u8>, ShelfFault> {
         let Ok(mut file) = fs::open(self.rt, name) else {

@@ -1,5 +1,8 @@
 //! A sink over standard output.
-ghost use Rattle.std.specs.Prelude.{◌≡◌};
+ghost use Rattle.std.specs.Prelude.{◌≡◌, ◌≤◌, ◌++◌, false, IfErr, OnOk, IsOkUnless, IsTrue};
+ghost use Rattle.cc_shelf.specs.Counts.{raised};
+ghost use Rattle.cc_shelf.specs.Output.{untold_output};
+ghost use Rattle.cc_shelf.specs.SinkAnswers.{PutRefused};
 
 use crate::sink::{Sink, SinkFault};
 use crate::stream::write_whole;
@@ -10,28 +13,43 @@ use std::io;
 #[derive(Drop)]
 pub struct OutSink<'a, R: Print> {
     rt: &'a R,
+    pub calls: u64,
     pub faults: u64,
 }
 
 impl<'a, R: Print> OutSink<'a, R> {
     /// The sink before its first call.
     pub fn new(rt: &'a R) -> Self
-        ensures { result.faults ≡ 0 }
+        ensures calls { result.calls ≡ 0 }
+        ensures faults { result.faults ≡ 0 }
     {
-        OutSink { rt, faults: 0 }
+        OutSink {
+            rt,
+            calls: 0,
+            faults: 0,
+        }
     }
 }
 
 impl<'a, R: Print> Sink for OutSink<'a, R> {
-    ghost use Rattle.std.specs.Prelude.{false, []};
-
     ghost tells = { false };
 
-    ghost bytes = { λ _. [] };
+    ghost output = { λ s. untold_output s.calls s.faults };
 
-    ghost faults = { λ s. s.faults };
+    fn put(&mut self, _alloc: Global, piece: &[u8]) -> Result<(), SinkFault>
+        ensures told { OnOk result (IsTrue false
+            → (untold_output self.new.calls self.new.faults).bytes
+            ≡ (untold_output self.old.calls self.old.faults).bytes ++ piece.now) }
+        ensures refused { IfErr result (PutRefused false piece.now
+            (untold_output self.old.calls self.old.faults) (untold_output self.new.calls self.new.faults)) }
+        ensures counted { self.new.calls ≡ raised self.old.calls 1 }
+        ensures later { self.old.faults ≤ self.new.faults }
+        ensures success { OnOk result (self.new.faults ≡ self.old.faults) }
 
-    fn put(&mut self, _alloc: Global, piece: &[u8]) -> Result<(), SinkFault> {
+        // It takes no memory.
+        ensures never { IsOkUnless result SinkFault.Failed }
+    {
+        self.calls = self.calls.saturating_add(1);
         let mut out = io::writer(self.rt);
         if write_whole(&mut out, piece) {
             return Ok(());

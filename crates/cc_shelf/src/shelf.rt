@@ -1,8 +1,9 @@
 //! The files that the commands read and write.
-ghost use Rattle.std.specs.Prelude.{◌≡◌, ◌≢◌, ◌≤◌, List, ℕ, Bool, Option, Some, IfOk, IfErr, OnOk, IsTrue, IsErrOf, vec_len};
-ghost use Rattle.cc_shelf.specs.Counts.{Counts};
+ghost use Rattle.std.specs.Prelude.{◌≡◌, ◌≢◌, ◌≤◌, List, ℕ, Bool, Some, IfOk, IfErr, OnOk, IsTrue, IsErrOf, vec_len};
+ghost use Rattle.cc_shelf.specs.Asked.{Asked};
 ghost use Rattle.cc_shelf.specs.Files.{Unchanged};
-ghost use Rattle.cc_shelf.specs.ShelfAnswers.{FetchRefused, StoreRefused, AfterFetch, AfterStore};
+ghost use Rattle.cc_shelf.specs.ShelfAnswers.{FetchRefused, StoreRefused, AfterFetch, AfterStore, NoFetchFailed, NoStoreFailed};
+ghost use Rattle.cc_shelf.specs.Stock.{Stock};
 
 use std::alloc::{AllocError, AllocFailed, Global};
 use word_base::NoMemory;
@@ -49,32 +50,33 @@ impl From<NoMemory> for ShelfFault {
     }
 }
 
-/// Files under names. A shelf may tell what it holds, and then contracts speak of it. It counts
-/// its failed fetches, its failed stores and the bytes that it read; each count stays at its
-/// greatest value once it stands there.
+/// Files under names. A shelf may tell what it holds, which names fetches asked for and which of
+/// these failed, and then contracts speak of them. It counts its failed fetches, its failed stores
+/// and the bytes that it read; each count stays at its greatest value once it stands there.
 pub trait Shelf {
-    /// Whether the shelf tells its files.
+    /// Whether the shelf tells its files and its fetches.
     ghost tells: { Bool };
 
-    /// What is held under a name. Where the shelf doesn't tell, it means nothing.
-    ghost file: { Self → List ℕ → Option (List ℕ) };
-
-    ghost counts: { Self → Counts };
+    /// What it holds. Where the shelf doesn't tell, only the counts mean something.
+    ghost stock: { Self → Stock };
 
     /// The bytes of a file, of which there are at most `max`.
     fn fetch(&mut self, alloc: Global, name: &str, max: u64) -> Result<Vec<u8>, ShelfFault>
-        ensures unchanged { Unchanged (file self.old) (file self.new) }
+        ensures unchanged { Unchanged (stock self.old).files (stock self.new).files }
         ensures length { IfOk result (λ bytes. vec_len bytes ≤ max) }
-        ensures told { IfOk result (λ bytes. IsTrue tells → file self.old name.now ≡ Some bytes.items) }
-        ensures refused { IfErr result
-            (FetchRefused tells (file self.old name.now) max (counts self.old) (counts self.new)) }
-        ensures counts { AfterFetch (counts self.old) (counts self.new) };
+        ensures told { IfOk result (λ bytes. IsTrue tells → (stock self.old).files name.now ≡ Some bytes.items) }
+        ensures refused { IfErr result (FetchRefused tells name.now max (stock self.old) (stock self.new)) }
+        ensures counts { AfterFetch (stock self.old).counts (stock self.new).counts }
+        ensures success { OnOk result (NoFetchFailed (stock self.old).counts (stock self.new).counts) }
+        ensures asked { Asked tells name.now (stock self.old) (stock self.new) result };
 
     /// Makes the name hold the bytes. Where it fails, that name may hold anything.
     fn store(&mut self, alloc: Global, name: &str, bytes: &[u8]) -> Result<(), ShelfFault>
-        ensures told { OnOk result (IsTrue tells → file self.new name.now ≡ Some bytes.now) }
-        ensures others { (n : List ℕ) → n ≢ name.now → file self.new n ≡ file self.old n }
-        ensures memory { IsErrOf result ShelfFault.NoMemory → Unchanged (file self.old) (file self.new) }
-        ensures refused { IfErr result (StoreRefused (counts self.old) (counts self.new)) }
-        ensures counts { AfterStore (counts self.old) (counts self.new) };
+        ensures told { OnOk result (IsTrue tells → (stock self.new).files name.now ≡ Some bytes.now) }
+        ensures others { (n : List ℕ) → n ≢ name.now → (stock self.new).files n ≡ (stock self.old).files n }
+        ensures memory { IsErrOf result ShelfFault.NoMemory → Unchanged (stock self.old).files (stock self.new).files }
+        ensures refused { IfErr result (StoreRefused (stock self.old).counts (stock self.new).counts) }
+        ensures counts { AfterStore (stock self.old).counts (stock self.new).counts }
+        ensures success { OnOk result (NoStoreFailed (stock self.old).counts (stock self.new).counts) }
+        ensures asked { IsTrue tells → (stock self.new).fetched ≡ (stock self.old).fetched };
 }

@@ -1,5 +1,7 @@
 //! Where the commands put their lines.
-ghost use Rattle.std.specs.Prelude.{◌≡◌, ◌≤◌, ◌++◌, List, ℕ, Bool, IfErr, OnOk, IsTrue};
+ghost use Rattle.std.specs.Prelude.{◌≡◌, ◌≤◌, ◌++◌, Bool, IfErr, OnOk, IsTrue};
+ghost use Rattle.cc_shelf.specs.Counts.{raised};
+ghost use Rattle.cc_shelf.specs.Output.{Output};
 ghost use Rattle.cc_shelf.specs.SinkAnswers.{PutRefused};
 
 use std::alloc::{AllocError, Global};
@@ -23,21 +25,20 @@ impl From<AllocError> for SinkFault {
 }
 
 /// An output that is put piece by piece. A sink may tell the bytes that were put, and then
-/// contracts speak of them. It counts its faults; the count stays at its greatest value once it
-/// stands there.
+/// contracts speak of them. It counts its puts, whatever they answer, and its faults; each count
+/// stays at its greatest value once it stands there.
 pub trait Sink {
     /// Whether the sink tells what was put.
     ghost tells: { Bool };
 
-    /// The bytes put. Where the sink doesn't tell, it means nothing.
-    ghost bytes: { Self → List ℕ };
-
-    ghost faults: { Self → ℕ };
+    /// What came of the puts. Where the sink doesn't tell, only the counts mean something.
+    ghost output: { Self → Output };
 
     /// Puts a piece behind those before it. A failed put may leave a prefix of the piece there.
     fn put(&mut self, alloc: Global, piece: &[u8]) -> Result<(), SinkFault>
-        ensures told { OnOk result (IsTrue tells → bytes self.new ≡ bytes self.old ++ piece.now) }
-        ensures refused { IfErr result
-            (PutRefused tells piece.now (bytes self.old) (bytes self.new) (faults self.old) (faults self.new)) }
-        ensures later { faults self.old ≤ faults self.new };
+        ensures told { OnOk result (IsTrue tells → (output self.new).bytes ≡ (output self.old).bytes ++ piece.now) }
+        ensures refused { IfErr result (PutRefused tells piece.now (output self.old) (output self.new)) }
+        ensures counted { (output self.new).calls ≡ raised (output self.old).calls 1 }
+        ensures later { (output self.old).faults ≤ (output self.new).faults }
+        ensures success { OnOk result ((output self.new).faults ≡ (output self.old).faults) };
 }

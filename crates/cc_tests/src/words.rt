@@ -1,5 +1,5 @@
 //! Words whose request no run shows: an empty name, which no file has.
-use cc_words::{Request, requested};
+use cc_words::{Build, Means, Request, Run, requested};
 use std::alloc::Global;
 use std::test::Fail;
 
@@ -7,21 +7,25 @@ use std::test::Fail;
 fn shown(alloc: Global, request: &Option<Request>) -> Result<String, Fail> {
     Ok(match request {
         None => String::from_str(alloc, "refused")?,
-        Some(Request::Build { source, image }) => format!(in alloc; "build {source} {image}")?,
-        Some(
-            Request::Run {
+        Some(Request::Build(Build { source, image })) => {
+            format!(in alloc; "build {source} {image}")?
+        }
+        Some(Request::Run(asked)) => {
+            let Run {
                 image,
                 ports,
                 steps,
-            },
-        ) => format!(in alloc; "run {image} {ports} {steps}")?,
-        Some(
-            Request::Means {
+            } = asked;
+            format!(in alloc; "run {image} {ports} {steps}")?
+        }
+        Some(Request::Means(asked)) => {
+            let Means {
                 source,
                 ports,
                 turns,
-            },
-        ) => format!(in alloc; "means {source} {ports} {turns}")?,
+            } = asked;
+            format!(in alloc; "means {source} {ports} {turns}")?
+        }
     })
 }
 

@@ -1,5 +1,5 @@
-pub mod SourceFaults
-pub mod CommandFaults
-pub mod Line
+pub mod SourceText
+pub mod Refusals
+pub mod Answers
 pub mod RunText
 pub mod MeansText

@@ -1,5 +1,5 @@
 -- The statuses and the lines of what a source means (docs/COMMANDS.md, "means").
-use Rattle.std.specs.Prelude.{ℕ, List, ◌++◌, codes, decimal}
+use Rattle.std.specs.Prelude.{ℕ, List, ◌++◌, codes, decimal, Some}
 use Rattle.word_base.specs.declared.outcome.UndefinedKind.{UndefinedKind}
 use Rattle.word_base.specs.declared.outcome.UndefinedKind.TheVariants as kinds
 use Rattle.word_base.specs.declared.outcome.Outcome.{Outcome}
@@ -7,10 +7,8 @@ use Rattle.word_base.specs.declared.outcome.Outcome.TheVariants.{Ended, More, Un
 use Rattle.word_base.specs.Outcome.{outputs_of}
 use Rattle.c25_image.specs.Lines.{with_feed}
 use Rattle.c25_image.specs.OutsText.{outs_text}
-use Rattle.cc_text.specs.RunText.{ending_line, running_line, fault_line, fault_status}
-use Rattle.cc_text.specs.SourceFaults.{source_line}
-use Rattle.cc_text.specs.declared.fault.MeansFault.{MeansFault}
-use Rattle.cc_text.specs.declared.fault.MeansFault.TheVariants as means
+use Rattle.cc_text.specs.RunText.{ending_line, running_line}
+use Rattle.cc_text.specs.Answers.{Answered}
 
 abbrev pub undefined_kind_name : UndefinedKind → List ℕ
 undefined_kind_name kinds.Overflow = codes "overflow"
@@ -39,11 +37,6 @@ outcome_status (Ended outs ending) = 0
 outcome_status (More outs) = 6
 outcome_status (Undefined outs kind at) = 10
 
--- the line of a refusal
-abbrev pub means_line : List ℕ → List ℕ → MeansFault → List ℕ
-means_line source ports (means.Files why) = fault_line source ports why
-means_line source ports (means.Source why) = source_line why
-
-abbrev pub means_status : MeansFault → ℕ
-means_status (means.Files why) = fault_status why
-means_status (means.Source why) = 1
+-- what an evaluation answers whose loops had so many turns
+abbrev pub means_answer : ℕ → Outcome → Answered
+means_answer turns outcome = record { text = Some (outcome_text turns outcome); status = outcome_status outcome }

@@ -1,5 +1,5 @@
 -- The statuses and the lines of a run (docs/COMMANDS.md, "run").
-use Rattle.std.specs.Prelude.{ℕ, List, ◌++◌, codes, decimal}
+use Rattle.std.specs.Prelude.{ℕ, List, ◌++◌, codes, decimal, Some}
 use Rattle.word_base.specs.declared.outcome.Ending.{Ending}
 use Rattle.word_base.specs.declared.outcome.Ending.TheVariants.{Returned, InputEnded}
 use Rattle.word_base.specs.Ports.{Outputs}
@@ -10,10 +10,7 @@ use Rattle.c25_isa.specs.declared.event.Stop.TheVariants as stop
 use Rattle.c25_image.specs.Hex.{hex4}
 use Rattle.c25_image.specs.Lines.{with_feed}
 use Rattle.c25_image.specs.OutsText.{outs_text}
-use Rattle.cc_text.specs.declared.fault.FileFault.{FileFault}
-use Rattle.cc_text.specs.declared.fault.FileFault.TheVariants.{Read, TooLong, BadLine, BadRange, TooManyWords}
-use Rattle.cc_text.specs.declared.fault.RunFault.{RunFault}
-use Rattle.cc_text.specs.declared.fault.RunFault.TheVariants as fault
+use Rattle.cc_text.specs.Answers.{Answered}
 
 abbrev pub trap_name : TrapKind → List ℕ
 trap_name trap.BadWord = codes "bad-word"
@@ -52,28 +49,6 @@ stop_status (stop.Ended ending) = 0
 stop_status (stop.Trap kind at) = 7
 stop_status stop.Running = 6
 
--- the line that refuses a file
-abbrev pub file_line : List ℕ → FileFault → List ℕ
-file_line name Read = codes "read fault: " ++ (name ++ codes "\n")
-file_line name TooLong = codes "file refused: " ++ (name ++ codes " too long\n")
-file_line name (BadLine line) = codes "file refused: " ++ (name ++ (codes " bad line " ++ (decimal line ++ codes "\n")))
-file_line name (BadRange line) = codes "file refused: " ++ (name ++ (codes " bad range line " ++ (decimal line ++ codes "\n")))
-file_line name (TooManyWords count) = codes "file refused: " ++ (name ++ (codes " too long " ++ (decimal count ++ codes "\n")))
-
--- the line that refuses a run on the files of these names
-abbrev pub fault_line : List ℕ → List ℕ → RunFault → List ℕ
-fault_line name ports (fault.File why) = file_line name why
-fault_line name ports (fault.Ports why) = file_line ports why
-fault_line name ports fault.NoMemory = codes "want of memory\n"
-
-abbrev pub file_status : FileFault → ℕ
-file_status Read = 3
-file_status TooLong = 9
-file_status (BadLine line) = 9
-file_status (BadRange line) = 9
-file_status (TooManyWords count) = 9
-
-abbrev pub fault_status : RunFault → ℕ
-fault_status (fault.File why) = file_status why
-fault_status (fault.Ports why) = file_status why
-fault_status fault.NoMemory = 5
+-- what a run of so many steps answers that put these outputs and stands here
+abbrev pub run_answer : ℕ → Outputs → Stop → Answered
+run_answer steps outs stands = record { text = Some (answer_text steps outs stands); status = stop_status stands }

@@ -1,12 +1,17 @@
-//! What a command says: why it is refused, with the line of each refusal, and the texts of what runs and sources come to (docs/COMMANDS.md).
+//! What a command says: why it is refused, with the line and the status of each refusal, and what runs and sources come to
+//! (docs/COMMANDS.md).
 #![tactic(auto)]
 
-mod fault;
-mod line;
+mod answer;
 mod means_text;
+mod refusal;
+mod refusal_text;
 mod run_text;
+mod source_text;
 
-pub use fault::{BuildFault, FileFault, FrontFault, MeansFault, RunFault, SourceFault};
-pub use line::{report, report_means, report_run, say};
-pub use means_text::outcome_text;
-pub use run_text::answer_text;
+pub use answer::Answer;
+pub use means_text::means_answer;
+pub use refusal::{FileFault, Refusal};
+pub use refusal_text::file_line;
+pub use run_text::run_answer;
+pub use source_text::source_line;

@@ -1,8 +1,10 @@
 //! The text of what a source means.
 ghost use Rattle.std.specs.Prelude.{◌≡◌, ◌++◌, IfOk, OnOk};
-ghost use Rattle.cc_text.specs.MeansText.{undefined_kind_name, undefined_line, outcome_line, outcome_text};
+ghost use Rattle.cc_text.specs.MeansText.{undefined_kind_name, undefined_line, outcome_line, outcome_status, means_answer};
+ghost use Rattle.cc_text.specs.Answers.{answered};
 ghost use Rattle.word_base.specs.Outcome.{outputs_of};
 
+use crate::answer::Answer;
 use crate::run_text::{push_ending, push_running};
 use c25_image::{push_decimal, write_outs};
 use std::alloc::Global;
@@ -54,12 +56,26 @@ fn push_outcome(text: &mut Vec<u8>, outcome: &Outcome, turns: u32) -> Result<(),
     }
 }
 
-/// The outputs of what a source means within so many turns, and the line behind them.
-pub fn outcome_text(alloc: Global, outcome: &Outcome, turns: u32) -> Result<Vec<u8>, NoMemory>
-    ensures { IfOk result (λ text. text.items ≡ outcome_text turns outcome.now) }
+// The status of an evaluation whose answer was put.
+fn outcome_status(outcome: &Outcome) -> u8
+    ensures { result ≡ outcome_status outcome.now }
+{
+    match outcome {
+        Outcome::Ended { .. } => 0,
+        Outcome::More { .. } => 6,
+        Outcome::Undefined { .. } => 10,
+    }
+}
+
+/// What an evaluation answers whose loops had so many turns: the outputs and the line behind them, and the status.
+pub fn means_answer(alloc: Global, outcome: &Outcome, turns: u32) -> Result<Answer, NoMemory>
+    ensures { IfOk result (λ a. answered a ≡ means_answer turns outcome.now) }
 {
     let mut text = write_outs(alloc, outputs_of(outcome))?;
     push_outcome(&mut text, outcome, turns)?;
     text.push(b'\n')?;
-    Ok(text)
+    Ok(Answer {
+        text: Some(text),
+        status: outcome_status(outcome),
+    })
 }

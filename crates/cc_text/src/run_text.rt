@@ -1,7 +1,9 @@
 //! The text that a run puts.
 ghost use Rattle.std.specs.Prelude.{◌≡◌, ◌++◌, IfOk, OnOk};
-ghost use Rattle.cc_text.specs.RunText.{trap_name, ending_line, trap_line, running_line, stop_line, answer_text};
+ghost use Rattle.cc_text.specs.RunText.{trap_name, ending_line, trap_line, running_line, stop_line, stop_status, run_answer};
+ghost use Rattle.cc_text.specs.Answers.{answered};
 
+use crate::answer::Answer;
 use c25_image::{push_decimal, push_hex, write_outs};
 use c25_isa::{RunOutcome, Stop, TrapKind};
 use std::alloc::Global;
@@ -72,12 +74,26 @@ fn push_stop(text: &mut Vec<u8>, stop: Stop, steps: u64) -> Result<(), NoMemory>
     }
 }
 
-/// The outputs of a run of so many steps, and the line behind them.
-pub fn answer_text(alloc: Global, outcome: &RunOutcome, steps: u64) -> Result<Vec<u8>, NoMemory>
-    ensures { IfOk result (λ text. text.items ≡ answer_text steps outcome.now.outs outcome.now.stop) }
+// The status of a run whose answer was put.
+fn stop_status(stop: Stop) -> u8
+    ensures { result ≡ stop_status stop }
+{
+    match stop {
+        Stop::Ended(_) => 0,
+        Stop::Trap { .. } => 7,
+        Stop::Running => 6,
+    }
+}
+
+/// What a run of so many steps answers: its outputs and the line behind them, and the status.
+pub fn run_answer(alloc: Global, outcome: &RunOutcome, steps: u64) -> Result<Answer, NoMemory>
+    ensures { IfOk result (λ a. answered a ≡ run_answer steps outcome.now.outs outcome.now.stop) }
 {
     let mut text = write_outs(alloc, outcome.outs.words())?;
     push_stop(&mut text, outcome.stop, steps)?;
     text.push(b'\n')?;
-    Ok(text)
+    Ok(Answer {
+        text: Some(text),
+        status: stop_status(outcome.stop),
+    })
 }

@@ -25,9 +25,9 @@ pub data Asked : Type 0 where
 
 -- a request, as what it asks for
 abbrev pub told : Request → Asked
-told (request.Build source image) = ToBuild source.now image.now
-told (request.Run image ports steps) = ToRun image.now ports.now steps
-told (request.Means source ports turns) = ToEvaluate source.now ports.now turns
+told (request.Build asked) = ToBuild asked.source.now asked.image.now
+told (request.Run asked) = ToRun asked.image.now asked.ports.now asked.steps
+told (request.Means asked) = ToEvaluate asked.source.now asked.ports.now asked.turns
 
 -- the text writes a number in decimal, from 1 to the greatest; a plus may stand first
 abbrev pub is_number_to : ℕ → Text → Bool

@@ -1,9 +1,15 @@
-//! What the words of a command line ask for.
+//! What the words of a command line ask for. A command has a module, with what it asks for and how `clap` reads that.
 #![tactic(auto)]
 
 mod asked;
+mod build;
 mod commands;
+mod means;
 mod plain;
+mod run;
 
 pub use asked::{Request, requested};
+pub use build::Build;
+pub use means::Means;
 pub use plain::plain_words;
+pub use run::Run;

@@ -1,0 +1,135 @@
+-- Fetches one behind another.
+use Rattle.std.proofs.Common.{true≢false, ◌≡◌, ◌∙◌, ◌≤◌, ◌++◌, ◌+◌, ℕ, Bool, true, false, List, [], ◌∷◌, map, refl, sym, ap, subst, inl, inr, arith, append_assoc, append-nil}
+use Rattle.std.specs.Prelude.{◌⊎◌, Result, Err}
+use Rattle.cc_shelf.specs.Counts.{RoseBy}
+use Rattle.cc_shelf.specs.Files.{Unchanged}
+use Rattle.cc_shelf.specs.Stock.{Stock, Fetch}
+use Rattle.cc_shelf.specs.Asked.{Asked, MayAsk}
+use Rattle.cc_shelf.specs.ShelfAnswers.{AfterFetch, FetchRefused}
+use Rattle.cc_shelf.specs.declared.shelf.ShelfFault.{ShelfFault}
+use Rattle.cc_shelf.specs.declared.shelf.ShelfFault.TheVariants as shelf_faults
+use Rattle.cc_text.specs.declared.refusal.FileFault.{FileFault}
+use Rattle.cc_text.specs.declared.refusal.FileFault.TheVariants.{Read, TooLong, Image, Ports}
+use Rattle.cc_text.specs.Refusals.{Why, OfFile, OfMemory}
+use Rattle.cc_driver.specs.World.{Shelves, shelves}
+use Rattle.cc_driver.specs.Fetches.{Wanted, wanted, of_shelf_fault, fetch_of, IsFetched, AreFetched, AreAsked, NoneFailed, FetchCause, NotFetched, AtFile, ForMemory}
+
+-- what rose by so many rose by fewer
+rose_less : (m n a b : ℕ) → m ≤ n → RoseBy n a b → RoseBy m a b
+rose_less m n a b less rose = omega (arith, less, rose)
+
+-- one fetch is refused
+one_refused : (shelf : Shelves) (w : Wanted) (failed : Bool) (fault : FileFault) → FetchCause shelf w failed fault → AreAsked shelf (fetch_of failed w ∷ []) → NotFetched shelf (w ∷ []) (OfFile w.name fault)
+one_refused shelf w failed fault cause asked = AtFile (record {
+  before = [];
+  last = w;
+  behind = [];
+  parts = refl;
+  fetched = tt {0};
+  failed = failed;
+  asked = asked;
+  fault = fault;
+  cause = cause;
+  named = refl;
+})
+
+append-none : (xs ys : List Fetch) → ys ≡ xs → ys ≡ xs ++ []
+append-none xs ys e = e ∙ sym (append-nil xs)
+
+-- one fetch found no memory
+one_stopped : (tells : Bool) (before now : Stock) (w : Wanted) → now.counts.fetch_faults ≡ before.counts.fetch_faults → MayAsk tells w.name before now → NotFetched (shelves tells before now) (w ∷ []) OfMemory
+one_stopped false before now w count may = ForMemory refl (record { before = []; behind = w ∷ []; parts = refl; none_failed = record { asked = λ t. absurd (true≢false (sym t)); count = count } })
+one_stopped true before now w count may = go (may refl)
+  where
+    go : (now.fetched ≡ before.fetched ++ fetch_of false w ∷ []) ⊎ (now.fetched ≡ before.fetched) → NotFetched (shelves true before now) (w ∷ []) OfMemory
+    go (inl e) = ForMemory refl (record { before = w ∷ []; behind = []; parts = refl; none_failed = record { asked = λ t. e; count = count } })
+    go (inr e) = ForMemory refl (record { before = []; behind = w ∷ []; parts = refl; none_failed = record { asked = λ t. append-none before.fetched now.fetched e; count = count } })
+
+refused_as : (T : Type 0) (tells : Bool) (before now : Stock) (name : List ℕ) (limit : ℕ) (fault : ShelfFault) → FetchRefused tells name limit before now fault
+    → Asked {T = T} tells name before now (Err fault) → NotFetched (shelves tells before now) (wanted name limit ∷ []) (of_shelf_fault name fault)
+refused_as T tells before now name limit shelf_faults.Failed r asked = one_refused (shelves tells before now) (wanted name limit) true Read r asked
+refused_as T tells before now name limit shelf_faults.Absent r asked = one_refused (shelves tells before now) (wanted name limit) false Read (r.0, r.1) asked
+refused_as T tells before now name limit (shelf_faults.TooLong at_least) r asked = one_refused (shelves tells before now) (wanted name limit) false TooLong (record {
+  told = λ t. let h = r.1 t in (h.0, h.1, omega (arith, r.0, h.2));
+  not_told = λ t. rose_less (limit + 1) at_least before.counts.bytes_read now.counts.bytes_read (omega (arith, r.0)) (r.2 t);
+}) asked
+refused_as T tells before now name limit shelf_faults.NoMemory r asked = one_stopped tells before now (wanted name limit) r asked
+
+-- a fetch that the shelf refuses
+pub fetch_refused : {T : Type 0} (answer : Result T ShelfFault) (tells : Bool) (before now : Stock) (name : List ℕ) (limit : ℕ) (fault : ShelfFault) → answer ≡ Err fault
+    → FetchRefused tells name limit before now fault → Asked tells name before now answer → NotFetched (shelves tells before now) (wanted name limit ∷ []) (of_shelf_fault name fault)
+fetch_refused {T} answer tells before now name limit fault is r asked = refused_as T tells before now name limit fault r (subst (λ x. Asked tells name before now x) is asked)
+
+-- a file of the first one's files is refused, and so it is of more files
+pub first_refused : (shelf : Shelves) (w v : Wanted) (why : Why) → NotFetched shelf (w ∷ []) why → NotFetched shelf (w ∷ v ∷ []) why
+first_refused shelf w v why (AtFile r) = AtFile (record {
+  before = r.before;
+  last = r.last;
+  behind = r.behind ++ v ∷ [];
+  parts = ap (λ ws. ws ++ v ∷ []) r.parts ∙ append_assoc r.before (r.last ∷ r.behind) (v ∷ []);
+  fetched = r.fetched;
+  failed = r.failed;
+  asked = r.asked;
+  fault = r.fault;
+  cause = r.cause;
+  named = r.named;
+})
+first_refused shelf w v why (ForMemory e s) = ForMemory e (record {
+  before = s.before;
+  behind = s.behind ++ v ∷ [];
+  parts = ap (λ ws. ws ++ v ∷ []) s.parts ∙ append_assoc s.before s.behind (v ∷ []);
+  none_failed = s.none_failed;
+})
+
+rose_later : (n a b c : ℕ) → a ≤ b → RoseBy n b c → RoseBy n a c
+rose_later n a b c later rose = omega (arith, later, rose)
+
+module _ (tells : Bool) (first between last : Stock) (same : Unchanged first.files between.files) (counts : AfterFetch first.counts between.counts) where
+  pub fetched_before : (w : Wanted) (bytes : List ℕ) → IsFetched (shelves tells between last) w bytes → IsFetched (shelves tells first last) w bytes
+  fetched_before w bytes f = record { told = λ t. sym (same w.name) ∙ f.told t; fits = f.fits }
+
+  still_fetched : (ws : List Wanted) → AreFetched (shelves tells between last) ws → AreFetched (shelves tells first last) ws
+  still_fetched [] t = tt {0}
+  still_fetched (w ∷ ws) t = ((t.0.0, fetched_before w t.0.0 t.0.1), still_fetched ws t.1)
+
+  still_asked : (w : Wanted) (fs : List Fetch) → AreAsked (shelves tells first between) (fetch_of false w ∷ []) → AreAsked (shelves tells between last) fs → AreAsked (shelves tells first last) (fetch_of false w ∷ fs)
+  still_asked w fs one more = λ t. more t ∙ ap (λ names. names ++ fs) (one t) ∙ append_assoc first.fetched (fetch_of false w ∷ []) fs
+
+  still_cause : (w : Wanted) (failed : Bool) (fault : FileFault) → FetchCause (shelves tells between last) w failed fault → FetchCause (shelves tells first last) w failed fault
+  still_cause w true Read c = rose_later 1 first.counts.fetch_faults between.counts.fetch_faults last.counts.fetch_faults counts.fetch_faults c
+  still_cause w true TooLong c = absurd c
+  still_cause w true (Image why) c = absurd c
+  still_cause w true (Ports why) c = absurd c
+  still_cause w false Read c = (c.0, sym (same w.name) ∙ c.1)
+  still_cause w false TooLong long = record {
+    told = λ t. let l = long.told t in (l.0, sym (same w.name) ∙ l.1, l.2);
+    not_told = λ t. rose_later (w.limit + 1) first.counts.bytes_read between.counts.bytes_read last.counts.bytes_read counts.bytes_read (long.not_told t);
+  }
+  still_cause w false (Image why) c = absurd c
+  still_cause w false (Ports why) c = absurd c
+
+  -- a file is fetched, and then others are, or as many as there is memory for
+  pub both_asked : (w : Wanted) (ws : List Wanted) → NoneFailed (shelves tells first between) (w ∷ []) → NoneFailed (shelves tells between last) ws → NoneFailed (shelves tells first last) (w ∷ ws)
+  both_asked w ws one more = record { asked = still_asked w (map (fetch_of false) ws) one.asked more.asked; count = more.count ∙ one.count }
+
+  -- behind a file that was fetched another one is refused
+  pub second_refused : (w v : Wanted) (why : Why) → ((bytes : List ℕ) × IsFetched (shelves tells first last) w bytes) → NoneFailed (shelves tells first between) (w ∷ [])
+      → NotFetched (shelves tells between last) (v ∷ []) why → NotFetched (shelves tells first last) (w ∷ v ∷ []) why
+  second_refused w v why fetched one (AtFile r) = AtFile (record {
+    before = w ∷ r.before;
+    last = r.last;
+    behind = r.behind;
+    parts = ap (λ ws. w ∷ ws) r.parts;
+    fetched = (fetched, still_fetched r.before r.fetched);
+    failed = r.failed;
+    asked = still_asked w (map (fetch_of false) r.before ++ fetch_of r.failed r.last ∷ []) one.asked r.asked;
+    fault = r.fault;
+    cause = still_cause r.last r.failed r.fault r.cause;
+    named = r.named;
+  })
+  second_refused w v why fetched one (ForMemory e s) = ForMemory e (record {
+    before = w ∷ s.before;
+    behind = s.behind;
+    parts = ap (λ ws. w ∷ ws) s.parts;
+    none_failed = both_asked w s.before one s.none_failed;
+  })

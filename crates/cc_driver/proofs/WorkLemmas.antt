@@ -1,0 +1,135 @@
+-- The work of commands from their parts.
+use Rattle.std.proofs.Common.{inl, inr, ◌≡◌, ◌≢◌, ◌∙◌, ℕ, Bool, List, [], ◌∷◌, Option, Some, None, Ok, Err, IfOk, refl, sym, ap, subst, append-nil}
+use Rattle.std.specs.Prelude.{Result, IfErr, IsErrAnd}
+use Rattle.cc_shelf.specs.Counts.{Rose}
+use Rattle.cc_shelf.specs.Stock.{Stock}
+use Rattle.cc_words.specs.Asked.{Asked, ToBuild}
+use Rattle.c25_isa.specs.Image.{Contents}
+use Rattle.c25_image.specs.ImageText.{image_text}
+use Rattle.c25_image.specs.ImageFaults.{IsWhole, Says}
+use Rattle.c25_image.specs.PortText.{PortSays}
+use Rattle.c25_image.specs.declared.fault.ImageFault.{ImageFault}
+use Rattle.c25_image.specs.declared.fault.ImageFault.TheVariants as image_faults
+use Rattle.c25_image.specs.declared.fault.PortFault.{PortFault}
+use Rattle.c25_image.specs.declared.fault.PortFault.TheVariants as port_faults
+use Rattle.cc_fault.specs.declared.fault.BuildFault.{BuildFault}
+use Rattle.cc_fault.specs.declared.fault.BuildFault.TheVariants as build_faults
+use Rattle.cc_compile.specs.Compiles.{IsBuilt}
+use Rattle.cc_text.specs.declared.answer.Answer.{Answer}
+use Rattle.cc_text.specs.declared.refusal.Refusal.{Refusal}
+use Rattle.cc_text.specs.Answers.{answered}
+use Rattle.cc_text.specs.Refusals.{Why, OfFile, OfSource, OfStore, OfMemory, why_of, of_build_fault, of_image_fault, of_port_fault}
+use Rattle.cc_driver.specs.World.{Shelves, shelves}
+use Rattle.cc_driver.specs.Fetches.{Wanted, IsFetched, NoneFailed, ForMemory}
+use Rattle.cc_driver.specs.Build.{source_file, quiet}
+use Rattle.cc_driver.specs.Run.{RunRefused, BadImage, ArePortsRefused}
+use Rattle.cc_driver.specs.Commands.{files_of, stores_under, Rejects}
+use Rattle.cc_driver.specs.Work.{NothingStored, WorkRefused, WorkLeaves, StoreStopped, AtFetch, AtFiles, AtStore, AtMemory}
+
+-- ---- refusals that are passed on
+
+-- as they are
+pub passed_on : {A : Type 0} (r : Result A Refusal) (given : Refusal) (P : Why → Type 0) → IsErrAnd r (λ e. e ≡ given) → P (why_of given) → IfErr r (λ e. P (why_of e))
+passed_on (Ok a) given P is h = absurd is
+passed_on (Err e) given P is h = subst (λ x. P (why_of x)) (sym is) h
+
+-- as a refusal that says the same
+pub passed_for : {A : Type 0} (r : Result A Refusal) (why : Why) (P : Why → Type 0) → IsErrAnd r (λ e. why_of e ≡ why) → P why → IfErr r (λ e. P (why_of e))
+passed_for (Ok a) why P is h = absurd is
+passed_for (Err e) why P is h = subst P (sym is) h
+
+-- ---- faults of the parts
+
+pub image_fault_of : (image ports i p : List ℕ) (fault : ImageFault) (why : Why) → Says i fault → why ≡ of_image_fault image fault → why ≢ OfMemory → RunRefused image ports i p why
+image_fault_of image ports i p (image_faults.BadLine line) why says e some = BadImage (image_faults.BadLine line) (λ f. cc) says e
+image_fault_of image ports i p (image_faults.TooLong count) why says e some = BadImage (image_faults.TooLong count) (λ f. cc) says e
+image_fault_of image ports i p (image_faults.BadRange line) why says e some = BadImage (image_faults.BadRange line) (λ f. cc) says e
+image_fault_of image ports i p image_faults.NoMemory why says e some = absurd (some e)
+
+pub port_fault_of : (ports p : List ℕ) (fault : PortFault) (why : Why) → PortSays p fault → why ≡ of_port_fault ports fault → why ≢ OfMemory → ArePortsRefused ports p why
+port_fault_of ports p (port_faults.BadLine line) why says e some = record { fault = port_faults.BadLine line; some = λ f. cc; says = says; is = e }
+port_fault_of ports p port_faults.NoMemory why says e some = absurd (some e)
+
+pub build_fault_of : (fault : BuildFault) (why : Why) → why ≡ of_build_fault fault → why ≢ OfMemory → (fault ≢ build_faults.NoMemory) × (why ≡ OfSource fault)
+build_fault_of (build_faults.Lex l) why e some = (λ f. cc, e)
+build_fault_of (build_faults.Parse l) why e some = (λ f. cc, e)
+build_fault_of (build_faults.Types l) why e some = (λ f. cc, e)
+build_fault_of build_faults.NotYet why e some = (λ f. cc, e)
+build_fault_of build_faults.NoMemory why e some = absurd (some e)
+
+-- ---- refused work
+
+-- what the fetched files are refused for, unless memory is wanting
+pub files_refuse : (what : Asked) (shelf : Shelves) (why : Why) → NoneFailed shelf (files_of what) → NothingStored shelf → (why ≢ OfMemory → Rejects what shelf why)
+    → WorkRefused what shelf why
+files_refuse what shelf (OfFile name fault) fetched kept r = AtFiles fetched (r (λ e. cc)) kept
+files_refuse what shelf (OfSource fault) fetched kept r = AtFiles fetched (r (λ e. cc)) kept
+files_refuse what shelf OfStore fetched kept r = AtFiles fetched (r (λ e. cc)) kept
+files_refuse what shelf OfMemory fetched kept r = AtMemory refl fetched kept
+
+module _ (tells : Bool) (first between last : Stock) where
+  -- fetches, and then calls among which there is none
+  pub still_none_failed : (ws : List Wanted) → NoneFailed (shelves tells first between) ws → NoneFailed (shelves tells between last) [] → NoneFailed (shelves tells first last) ws
+  still_none_failed ws one more = record { asked = λ t. more.asked t ∙ append-nil between.fetched ∙ one.asked t; count = more.count ∙ one.count }
+
+  fetched_first : (w : Wanted) (bytes : List ℕ) → IsFetched (shelves tells first between) w bytes → IsFetched (shelves tells first last) w bytes
+  fetched_first w bytes f = record { told = f.told; fits = f.fits }
+
+  pub nothing_both : NothingStored (shelves tells first between) → NothingStored (shelves tells between last) → NothingStored (shelves tells first last)
+  nothing_both one two = record { files = λ n. two.files n ∙ one.files n; faults = two.faults ∙ one.faults }
+
+  -- a store is refused behind the fetch
+  pub store_refused : (source image bytes : List ℕ) (contents : Contents) (why : Why) → IsFetched (shelves tells first between) (source_file source) bytes → IsBuilt bytes contents → IsWhole contents
+      → NoneFailed (shelves tells first between) (source_file source ∷ []) → NothingStored (shelves tells first between)
+      → NoneFailed (shelves tells between last) [] → StoreStopped (shelves tells between last) why → WorkRefused (ToBuild source image) (shelves tells first last) why
+  store_refused source image bytes contents why fetched built whole asked kept none (inl failed) = AtStore failed.0 (record {
+    fetched = still_none_failed (source_file source ∷ []) asked none;
+    name = image;
+    stores = refl;
+    answer = quiet;
+    stored = Some (image_text contents);
+    comes = record {
+      bytes = bytes;
+      fetched = fetched_first (source_file source) bytes fetched;
+      holds = record { image = contents; built = built; whole = whole; text = refl; quiet_is = refl };
+    };
+    failed = subst (λ n. Rose n last.counts.store_faults) kept.faults failed.1;
+  })
+  store_refused source image bytes contents why fetched built whole asked kept none (inr memory) =
+      AtMemory memory.0 (still_none_failed (source_file source ∷ []) asked none) (nothing_both kept memory.1)
+
+-- without memory for the words nothing is asked for
+pub stopped_first : (what : Asked) (tells : Bool) (s : Stock) → WorkRefused what (shelves tells s s) OfMemory
+stopped_first what tells s = AtFetch (ForMemory refl (record {
+  before = [];
+  behind = files_of what;
+  parts = refl;
+  none_failed = record { asked = λ t. sym (append-nil s.fetched); count = refl };
+})) (record { files = λ n. refl; faults = refl })
+
+-- ---- what work leaves
+
+pub build_leaves : (source image : List ℕ) (shelf : Shelves) (result : Result Answer Refusal) → ((n : List ℕ) → n ≢ image → shelf.now.files n ≡ shelf.before.files n) → IfOk result (λ a. answered a ≡ quiet)
+    → WorkLeaves (ToBuild source image) shelf result
+build_leaves source image shelf result others silent = record {
+  others = λ n other. others n (λ e. other (ap Some e));
+  silent = λ name e. silent;
+  no_store = λ e. cc;
+}
+
+pub nothing_leaves : (what : Asked) (shelf : Shelves) (result : Result Answer Refusal) → stores_under what ≡ None → NothingStored shelf → WorkLeaves what shelf result
+nothing_leaves what shelf result none kept = record {
+  others = λ n other. kept.files n;
+  silent = λ name e. let k : None ≡ Some name = sym none ∙ e in cc;
+  no_store = λ e. kept;
+}
+
+-- ---- words
+
+-- words ask for one thing
+pub one_asked : (o : Option Asked) (a b : Asked) → Some a ≡ o → o ≡ Some b → a ≡ b
+one_asked o a b e f = let k : Some a ≡ Some b = e ∙ f in cc
+
+-- and then not for nothing
+pub something_asked : (o : Option Asked) (a : Asked) → Some a ≡ o → o ≢ None
+something_asked o a e n = let k : Some a ≡ None = e ∙ n in cc

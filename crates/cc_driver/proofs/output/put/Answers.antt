@@ -1,0 +1,8 @@
+use Rattle.std.proofs.Common.{ℕ, List, subst}
+use Rattle.cc_driver.specs.World.{sinks}
+use Rattle.cc_driver.specs.Puts.{TextPut}
+use Rattle.cc_driver.proofs.output.put.Goals as goal
+
+pub returns-in-Some : goal.returns-in-Some
+returns-in-Some g c =
+    rw c.in-Some.is (subst (λ (t : List ℕ). TextPut t c.args.answer.now.status (sinks g.K.Sink.tells (g.K.Sink.output c.args.out.now) (g.K.Sink.output c.put_text.new.out)) c.put_text.result) c.deref.ensures.value c.put_text.ensures)

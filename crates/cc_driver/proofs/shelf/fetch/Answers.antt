@@ -1,0 +1,8 @@
+use Rattle.cc_driver.proofs.ShelfLemmas.{fetch_refused}
+use Rattle.cc_driver.proofs.shelf.fetch.Goals as goal
+
+pub returns-in-Err-clause-refused : goal.returns-in-Err-clause-refused
+returns-in-Err-clause-refused g c =
+    rw c.not_fetched.ensures
+    (fetch_refused c.fetch.result g.F.Shelf.tells (g.F.Shelf.stock c.args.shelf.now) (g.F.Shelf.stock c.fetch.new.self) c.args.name.now c.args.limit c.in-Err.fault c.in-Err.is c.in-Err.ensures.refused
+    c.fetch.ensures.asked)

@@ -1,0 +1,103 @@
+//! The files of commands.
+ghost use Rattle.std.specs.Prelude.{◌≡◌, ◌≢◌, [], ◌∷◌, List, ℕ, Some, IfOk, OnOk, IfErr, IsTrue};
+ghost use Rattle.cc_shelf.specs.ShelfAnswers.{AfterFetch};
+ghost use Rattle.cc_text.specs.Refusals.{why_of};
+ghost use Rattle.cc_driver.specs.World.{shelves};
+ghost use Rattle.cc_driver.specs.Fetches.{wanted, of_shelf_fault, IsFetched, NoneFailed, NotFetched};
+ghost use Rattle.cc_driver.specs.Work.{NothingStored, StoreStopped};
+ghost use Rattle.cc_driver.specs.Run.{ports_file};
+
+use cc_shelf::{Shelf, ShelfFault};
+use cc_text::{FileFault, Refusal};
+use std::alloc::Global;
+
+/// The greatest length of a source, in bytes.
+pub(crate) const SOURCE_LIMIT: u64 = 1_048_576;
+
+/// The greatest length of an image's text, in bytes.
+pub(crate) const IMAGE_LIMIT: u64 = 4_194_304;
+
+/// The greatest length of a port file, in bytes.
+const PORTS_LIMIT: u64 = 16_777_216;
+
+// Why a command is refused whose file of this name can't be fetched.
+fn not_fetched<'a>(name: &'a str, fault: ShelfFault) -> Refusal<'a>
+    ensures { why_of result ≡ of_shelf_fault name.now fault }
+{
+    match fault {
+        ShelfFault::Failed | ShelfFault::Absent => Refusal::File {
+            name,
+            why: FileFault::Read,
+        },
+        ShelfFault::TooLong { .. } => Refusal::File {
+            name,
+            why: FileFault::TooLong,
+        },
+        ShelfFault::NoMemory => Refusal::NoMemory,
+    }
+}
+
+/// Fetches a file of at most so many bytes.
+pub(crate) fn fetch<'a, F: Shelf>(
+    alloc: Global,
+    shelf: &mut F,
+    name: &'a str,
+    limit: u64,
+) -> Result<Vec<u8>, Refusal<'a>>
+    ensures fetched { IfOk result (λ bytes. IsFetched (shelves F.tells (F.stock shelf.old) (F.stock shelf.new)) (wanted name.now limit) bytes.items) }
+    ensures asked { OnOk result (NoneFailed (shelves F.tells (F.stock shelf.old) (F.stock shelf.new)) (wanted name.now limit ∷ [])) }
+    ensures refused { IfErr result (λ r. NotFetched (shelves F.tells (F.stock shelf.old) (F.stock shelf.new)) (wanted name.now limit ∷ []) (why_of r)) }
+    ensures stored { NothingStored (shelves F.tells (F.stock shelf.old) (F.stock shelf.new)) }
+    ensures counts { AfterFetch (F.stock shelf.old).counts (F.stock shelf.new).counts }
+{
+    match shelf.fetch(alloc, name, limit) {
+        Ok(bytes) => Ok(bytes),
+        Err(fault) => Err(not_fetched(name, fault)),
+    }
+}
+
+/// The bytes of a file and of a port file.
+#[derive(Debug, Drop)]
+pub(crate) struct Fetched {
+    pub(crate) bytes: Vec<u8>,
+    pub(crate) ports: Vec<u8>,
+}
+
+/// Fetches a file of at most so many bytes, and then a port file.
+pub(crate) fn fetch_both<'a, F: Shelf>(
+    alloc: Global,
+    shelf: &mut F,
+    name: &'a str,
+    limit: u64,
+    ports: &'a str,
+) -> Result<Fetched, Refusal<'a>>
+    ensures file { IfOk result (λ both. IsFetched (shelves F.tells (F.stock shelf.old) (F.stock shelf.new)) (wanted name.now limit) both.bytes.items) }
+    ensures ports { IfOk result (λ both. IsFetched (shelves F.tells (F.stock shelf.old) (F.stock shelf.new)) (ports_file ports.now) both.ports.items) }
+    ensures asked { OnOk result (NoneFailed (shelves F.tells (F.stock shelf.old) (F.stock shelf.new)) (wanted name.now limit ∷ ports_file ports.now ∷ [])) }
+    ensures refused { IfErr result (λ r. NotFetched (shelves F.tells (F.stock shelf.old) (F.stock shelf.new)) (wanted name.now limit ∷ ports_file ports.now ∷ []) (why_of r)) }
+    ensures stored { NothingStored (shelves F.tells (F.stock shelf.old) (F.stock shelf.new)) }
+{
+    let bytes = fetch(alloc, shelf, name, limit)?;
+    let ports = fetch(alloc, shelf, ports, PORTS_LIMIT)?;
+    Ok(Fetched { bytes, ports })
+}
+
+/// Stores a file.
+pub(crate) fn store<'a, F: Shelf>(
+    alloc: Global,
+    shelf: &mut F,
+    name: &str,
+    bytes: &[u8],
+) -> Result<(), Refusal<'a>>
+    ensures held { OnOk result (IsTrue F.tells → (F.stock shelf.new).files name.now ≡ Some bytes.now) }
+    ensures faults { OnOk result ((F.stock shelf.new).counts.store_faults ≡ (F.stock shelf.old).counts.store_faults) }
+    ensures refused { IfErr result (λ r. StoreStopped (shelves F.tells (F.stock shelf.old) (F.stock shelf.new)) (why_of r)) }
+    ensures asked { NoneFailed (shelves F.tells (F.stock shelf.old) (F.stock shelf.new)) [] }
+    ensures others { (n : List ℕ) → n ≢ name.now → (F.stock shelf.new).files n ≡ (F.stock shelf.old).files n }
+{
+    match shelf.store(alloc, name, bytes) {
+        Ok(()) => Ok(()),
+        Err(ShelfFault::NoMemory) => Err(Refusal::NoMemory),
+        Err(_) => Err(Refusal::Store),
+    }
+}

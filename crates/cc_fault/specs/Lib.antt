@@ -1,0 +1,2 @@
+pub mod PartFaults
+pub mod SourceFaults

@@ -1,0 +1,12 @@
+-- All that a contract may say of a sink at one moment.
+use Rattle.std.specs.Prelude.{ℕ, List, []}
+
+-- the bytes put so far, and the counts of puts and of faults
+pub record Output : Type 0 where
+  pub bytes : List ℕ
+  pub calls : ℕ
+  pub faults : ℕ
+
+-- of a sink that tells only its counts
+abbrev pub untold_output : ℕ → ℕ → Output
+untold_output calls faults = record { bytes = []; calls = calls; faults = faults }

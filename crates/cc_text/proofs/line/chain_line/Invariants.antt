@@ -1,7 +1,0 @@
-use Rattle.std.proofs.Common.{◌≡◌, ◌++◌, drop}
-use Rattle.std.specs.Prelude.{codes, string_bytes}
-use Rattle.cc_text.specs.SourceFaults.{spaced}
-use Rattle.cc_text.proofs.line.chain_line.Given as goal
-
-abbrev pub invariant-loop-name : goal.invariant-loop-name
-invariant-loop-name l = string_bytes l.line ++ spaced (drop l.name-index l.chain) ≡ codes "source refused: recursion" ++ spaced l.chain

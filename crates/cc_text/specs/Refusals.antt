@@ -1,0 +1,71 @@
+-- Why a command is refused, with the line and the status of each refusal (docs/COMMANDS.md, "Statuses and lines").
+use Rattle.std.specs.Prelude.{ℕ, List, [], ◌++◌, codes, decimal}
+use Rattle.c25_image.specs.declared.fault.ImageFault.{ImageFault}
+use Rattle.c25_image.specs.declared.fault.ImageFault.TheVariants as image_faults
+use Rattle.c25_image.specs.declared.fault.PortFault.{PortFault}
+use Rattle.c25_image.specs.declared.fault.PortFault.TheVariants as port_faults
+use Rattle.cc_fault.specs.declared.fault.BuildFault.{BuildFault}
+use Rattle.cc_fault.specs.declared.fault.BuildFault.TheVariants as build_faults
+use Rattle.cc_text.specs.declared.refusal.FileFault.{FileFault}
+use Rattle.cc_text.specs.declared.refusal.FileFault.TheVariants.{Read, TooLong, Image, Ports}
+use Rattle.cc_text.specs.declared.refusal.Refusal.{Refusal}
+use Rattle.cc_text.specs.declared.refusal.Refusal.TheVariants as refusal
+
+-- a file of a name is refused, the source for its fault, the store failed, or memory was wanting
+pub data Why : Type 0 where
+  OfFile : List ℕ → FileFault → Why
+  OfSource : BuildFault → Why
+  OfStore : Why
+  OfMemory : Why
+
+-- a refusal in memory, as what it says
+abbrev pub why_of : Refusal → Why
+why_of (refusal.File name why) = OfFile name.now why
+why_of (refusal.Source why) = OfSource why
+why_of refusal.Store = OfStore
+why_of refusal.NoMemory = OfMemory
+
+-- the refusal that a fault of a part leads to: want of memory in a part is want of memory
+abbrev pub of_build_fault : BuildFault → Why
+of_build_fault build_faults.NoMemory = OfMemory
+of_build_fault why = OfSource why
+
+abbrev pub of_image_fault : List ℕ → ImageFault → Why
+of_image_fault name image_faults.NoMemory = OfMemory
+of_image_fault name why = OfFile name (Image why)
+
+abbrev pub of_port_fault : List ℕ → PortFault → Why
+of_port_fault name port_faults.NoMemory = OfMemory
+of_port_fault name why = OfFile name (Ports why)
+
+-- the line that refuses an image; want of memory has none
+abbrev pub image_line : List ℕ → ImageFault → List ℕ
+image_line name (image_faults.BadLine line) = codes "file refused: " ++ (name ++ (codes " bad line " ++ (decimal line ++ codes "\n")))
+image_line name (image_faults.TooLong count) = codes "file refused: " ++ (name ++ (codes " too long " ++ (decimal count ++ codes "\n")))
+image_line name (image_faults.BadRange line) = codes "file refused: " ++ (name ++ (codes " bad range line " ++ (decimal line ++ codes "\n")))
+image_line name image_faults.NoMemory = []
+
+-- the line that refuses a port file; want of memory has none
+abbrev pub port_line : List ℕ → PortFault → List ℕ
+port_line name (port_faults.BadLine line) = codes "file refused: " ++ (name ++ (codes " bad line " ++ (decimal line ++ codes "\n")))
+port_line name port_faults.NoMemory = []
+
+-- the line that refuses a file
+abbrev pub file_line : List ℕ → FileFault → List ℕ
+file_line name Read = codes "read fault: " ++ (name ++ codes "\n")
+file_line name TooLong = codes "file refused: " ++ (name ++ codes " too long\n")
+file_line name (Image why) = image_line name why
+file_line name (Ports why) = port_line name why
+
+-- 3 for a file that can't be read, and else 9
+abbrev pub file_status : FileFault → ℕ
+file_status Read = 3
+file_status TooLong = 9
+file_status (Image why) = 9
+file_status (Ports why) = 9
+
+abbrev pub refusal_status : Why → ℕ
+refusal_status (OfFile name why) = file_status why
+refusal_status (OfSource why) = 1
+refusal_status OfStore = 4
+refusal_status OfMemory = 5

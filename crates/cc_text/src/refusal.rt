@@ -1,0 +1,106 @@
+//! Why a command is refused.
+ghost use Rattle.std.specs.Prelude.{◌≡◌};
+ghost use Rattle.cc_text.specs.Refusals.{why_of, of_image_fault, of_port_fault, refusal_status, file_status};
+
+use c25_image::{ImageFault, PortFault};
+use cc_fault::BuildFault;
+use word_base::NoMemory;
+
+/// Why a file is refused.
+#[derive(Clone, Copy, Debug, PartialEq, Eq)]
+pub enum FileFault {
+    /// It couldn't be read, or there is none.
+    Read,
+    /// It is longer than its limit.
+    TooLong,
+    /// It is no image.
+    Image(ImageFault),
+    /// It is no port file.
+    Ports(PortFault),
+}
+
+impl FileFault {
+    fn status(self) -> u8
+        ensures { result ≡ file_status self }
+    {
+        match self {
+            FileFault::Read => 3,
+            FileFault::TooLong | FileFault::Image(_) | FileFault::Ports(_) => 9,
+        }
+    }
+}
+
+/// Why a command is refused. Want of memory in a part is `NoMemory` here, and stands in none of the others.
+#[derive(Debug, Drop)]
+pub enum Refusal<'a> {
+    /// One of its files, of this name.
+    File { name: &'a str, why: FileFault },
+    /// The source isn't compiled.
+    Source(BuildFault),
+    /// The store failed.
+    Store,
+    NoMemory,
+}
+
+impl<'a> Refusal<'a> {
+    /// A file of this name is no image.
+    pub fn of_image(name: &'a str, fault: ImageFault) -> Self
+        ensures { why_of result ≡ of_image_fault name.now fault }
+    {
+        match fault {
+            ImageFault::NoMemory => Refusal::NoMemory,
+            why => Refusal::File {
+                name,
+                why: FileFault::Image(why),
+            },
+        }
+    }
+
+    /// A file of this name is no port file.
+    pub fn of_ports(name: &'a str, fault: PortFault) -> Self
+        ensures { why_of result ≡ of_port_fault name.now fault }
+    {
+        match fault {
+            PortFault::NoMemory => Refusal::NoMemory,
+            why => Refusal::File {
+                name,
+                why: FileFault::Ports(why),
+            },
+        }
+    }
+
+    /// The status of a command that is refused so.
+    pub fn status(&self) -> u8
+        ensures { result ≡ refusal_status (why_of self.now) }
+    {
+        match self {
+            Refusal::File { why, .. } => why.status(),
+            Refusal::Source(_) => 1,
+            Refusal::Store => 4,
+            Refusal::NoMemory => 5,
+        }
+    }
+}
+
+impl<'a> From<NoMemory> for Refusal<'a> {
+    ghost use Rattle.cc_text.specs.Refusals.{why_of, OfMemory};
+
+    ghost from_gives = { λ _ e. why_of e ≡ OfMemory };
+
+    fn from(_: NoMemory) -> Self {
+        Refusal::NoMemory
+    }
+}
+
+impl<'a> From<BuildFault> for Refusal<'a> {
+    ghost use Rattle.cc_text.specs.Refusals.{why_of, of_build_fault};
+
+    ghost from_gives = { λ given e. why_of e ≡ of_build_fault given };
+
+    fn from(fault: BuildFault) -> Self {
+        match fault {
+            BuildFault::NoMemory => Refusal::NoMemory,
+            why => Refusal::Source(why),
+        }
+    }
+}

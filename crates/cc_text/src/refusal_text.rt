@@ -1,0 +1,50 @@
+//! The line that refuses a file.
+ghost use Rattle.std.specs.Prelude.{◌≡◌, IfOk, string_bytes};
+ghost use Rattle.cc_text.specs.Refusals.{file_line, image_line, port_line};
+
+use crate::refusal::FileFault;
+use c25_image::{ImageFault, PortFault};
+use std::alloc::Global;
+use word_base::NoMemory;
+
+// The line that refuses an image.
+fn image_line(alloc: Global, name: &str, fault: ImageFault) -> Result<String, NoMemory>
+    ensures { IfOk result (λ line. string_bytes line ≡ image_line name.now fault) }
+{
+    match fault {
+        ImageFault::BadLine { line } => {
+            Ok(format!(in alloc; "file refused: {name} bad line {line}\n")?)
+        }
+        ImageFault::TooLong { count } => {
+            Ok(format!(in alloc; "file refused: {name} too long {count}\n")?)
+        }
+        ImageFault::BadRange { line } => {
+            Ok(format!(in alloc; "file refused: {name} bad range line {line}\n")?)
+        }
+        ImageFault::NoMemory => Err(NoMemory),
+    }
+}
+
+// The line that refuses a port file.
+fn port_line(alloc: Global, name: &str, fault: PortFault) -> Result<String, NoMemory>
+    ensures { IfOk result (λ line. string_bytes line ≡ port_line name.now fault) }
+{
+    match fault {
+        PortFault::BadLine { line } => {
+            Ok(format!(in alloc; "file refused: {name} bad line {line}\n")?)
+        }
+        PortFault::NoMemory => Err(NoMemory),
+    }
+}
+
+/// The line that refuses a file of a name, with its line feed. Want of memory is no fault of one, and has none.
+pub fn file_line(alloc: Global, name: &str, fault: FileFault) -> Result<String, NoMemory>
+    ensures { IfOk result (λ line. string_bytes line ≡ file_line name.now fault) }
+{
+    match fault {
+        FileFault::Read => Ok(format!(in alloc; "read fault: {name}\n")?),
+        FileFault::TooLong => Ok(format!(in alloc; "file refused: {name} too long\n")?),
+        FileFault::Image(why) => image_line(alloc, name, why),
+        FileFault::Ports(why) => port_line(alloc, name, why),
+    }
+}
