@@ -20,8 +20,8 @@ use Rattle.cc_driver.proofs.CommandLemmas.{comes_told, refuses_told, comes_one, 
 text_decides : (text : Option (List ℕ)) (ends : ℕ) (sink : Sinks) (status : ℕ) → PutsText text ends sink status → (IsSome text → ¬ Rose sink.before.faults sink.now.faults)
     → (status ≡ ends) ⊎ (status ≡ 5)
 text_decides None ends sink status put whole = inl put.0
-text_decides (Some text) ends sink status (PutWhole e same put) whole = inl e
-text_decides (Some text) ends sink status (PutPart e failed part) whole = absurd (whole refl failed)
+text_decides (Some text) ends sink status (PutWhole e calls same put) whole = inl e
+text_decides (Some text) ends sink status (PutPart e calls failed part) whole = absurd (whole refl failed)
 text_decides (Some text) ends sink status (PutNothing e calls line) whole = inr e
 
 same_either : (a b s : ℕ) → a ≡ b → (b ≡ s) ⊎ (b ≡ 5) → (a ≡ s) ⊎ (a ≡ 5)
@@ -64,7 +64,7 @@ module _ (what : Asked) (shelf : Shelves) (tells : IsTrue shelf.tells) where
     missing w true (Image why) c = absurd c
     missing w true (Ports why) c = absurd c
     missing w false Read c = NoFile c.1 refl
-    missing w false TooLong c = let l = c.told tells in LongFile l.0 l.1 l.2 refl
+    missing w false TooLong c = let l = c.0.told tells in LongFile l.0 l.1 l.2 refl
     missing w false (Image why) c = absurd c
     missing w false (Ports why) c = absurd c
 
@@ -78,7 +78,7 @@ module _ (what : Asked) (shelf : Shelves) (tells : IsTrue shelf.tells) where
     work_wrong why s (AtFetch n kept) l = fetch_wrong why s n l
     work_wrong why s (AtFiles fetched r kept) l = inl (refuses_first why s r l)
     work_wrong why s (AtStore e r) l = absurd (nothing_wrong r.answer r.stored s r.comes l)
-    work_wrong why s (AtMemory e fetched kept) l = inr (ap refusal_status e)
+    work_wrong why s (AtMemory e asked fetched kept) l = inr (ap refusal_status e)
 
     -- where the files come to something, it's refused at its store alone
     fetch_right : (why : Why) (answer : Answered) (stored : Option (List ℕ)) → NotFetched shelf (files_of what) why → Comes what shelf answer stored → refusal_status why ≡ 5
@@ -91,7 +91,7 @@ module _ (what : Asked) (shelf : Shelves) (tells : IsTrue shelf.tells) where
     work_right why answer stored store (AtFetch n kept) c = fetch_right why answer stored n c
     work_right why answer stored store (AtFiles fetched r kept) c = absurd (comes_not what shelf tells answer stored why c r)
     work_right why answer stored store (AtStore e r) c = absurd (store (subst IsSome (sym r.stores) refl) r.failed)
-    work_right why answer stored store (AtMemory e fetched kept) c = ap refusal_status e
+    work_right why answer stored store (AtMemory e asked fetched kept) c = ap refusal_status e
 
 pub answers_decide : (what : Asked) (shelf : Shelves) (sink : Sinks) (status : ℕ) → Answers what shelf sink status → Decided what shelf sink status
 answers_decide what shelf sink status (IsDone answer work put) = record {

@@ -17,7 +17,7 @@ nothing_stored : (what : Asked) (shelf : Shelves) (why : Why) → WorkRefused wh
 nothing_stored what shelf why (AtFetch n kept) other = kept
 nothing_stored what shelf why (AtFiles asked r kept) other = kept
 nothing_stored what shelf why (AtStore e r) other = absurd (other (ap refusal_status e))
-nothing_stored what shelf why (AtMemory e asked kept) other = kept
+nothing_stored what shelf why (AtMemory e asked fetched kept) other = kept
 
 pub refused_leaves : (what : Asked) (shelf : Shelves) (refusal : Refusal) (status : ℕ) → WorkLeaves what shelf (Err refusal) → WorkRefused what shelf (why_of refusal)
     → status ≡ refusal_status (why_of refusal) → Leaves what shelf status

@@ -1,5 +1,5 @@
 -- What puts make of a sink.
-use Rattle.std.proofs.Common.{◌≡◌, ◌∙◌, ℕ, Bool, subst, ap, List, ◌++◌, take, Ok, Err, OnOk, IfErr, IsTrue}
+use Rattle.std.proofs.Common.{arith, ◌≡◌, ◌∙◌, ℕ, Bool, subst, ap, List, ◌++◌, take, Ok, Err, OnOk, IfErr, IsTrue}
 use Rattle.std.specs.Prelude.{Result}
 use Rattle.cc_shelf.specs.Counts.{Rose}
 use Rattle.cc_shelf.specs.Output.{Output}
@@ -14,18 +14,22 @@ pub line_put : (tells : Bool) (line : List ℕ) (before now : Output) (r : Resul
     → IfErr r (PutRefused tells line before now) → IsTrue tells → LinePut line before now
 line_put tells line before now (Ok u) told success refused t = Whole (told t) success
 line_put tells line before now (Err Failed) told success refused t = let part = refused.1 t in Part refused.0 part.0 part.1
-line_put tells line before now (Err NoMemory) told success refused t = Nothing (refused.0 t) refused.1
+line_put tells line before now (Err NoMemory) told success refused t = Nothing (refused.0 t) refused.1 refused.2
 
 -- a put of the same line
 pub line_same : (a b : List ℕ) (sink : Sinks) → a ≡ b → PutsLine a sink → PutsLine b sink
 line_same a b sink e put = subst (λ l. PutsLine l sink) e put
 
+-- what rose twice rose
+rose_again : (a b c : ℕ) → Rose a b → Rose b c → Rose a c
+rose_again a b c one two = omega (arith, one, two)
+
 -- a put behind one that left the bytes and the count of faults as they were
-pub line_behind : (tells : Bool) (line : List ℕ) (first between last : Output) → (IsTrue tells → between.bytes ≡ first.bytes) → between.faults ≡ first.faults
+pub line_behind : (tells : Bool) (line : List ℕ) (first between last : Output) → (IsTrue tells → between.bytes ≡ first.bytes) → between.faults ≡ first.faults → Rose first.wants between.wants
     → (IsTrue tells → LinePut line between last) → IsTrue tells → LinePut line first last
-line_behind tells line first between last same faults put t = go (put t)
+line_behind tells line first between last same faults wants put t = go (put t)
   where
     go : LinePut line between last → LinePut line first last
     go (Whole e f) = Whole (e ∙ ap (λ b. b ++ line) (same t)) (f ∙ faults)
     go (Part rose n e) = Part (subst (λ f. Rose f last.faults) faults rose) n (e ∙ ap (λ b. b ++ take n line) (same t))
-    go (Nothing e f) = Nothing (e ∙ same t) (f ∙ faults)
+    go (Nothing e f rose) = Nothing (e ∙ same t) (f ∙ faults) (rose_again first.wants between.wants last.wants wants rose)

@@ -1,11 +1,11 @@
 -- Fetches one behind another.
-use Rattle.std.proofs.Common.{true≢false, ◌≡◌, ◌∙◌, ◌≤◌, ◌++◌, ◌+◌, ℕ, Bool, true, false, List, [], ◌∷◌, map, refl, sym, ap, subst, inl, inr, arith, append_assoc, append-nil}
+use Rattle.std.proofs.Common.{true≢false, length, ◌≡◌, ◌∙◌, ◌≤◌, ◌++◌, ◌+◌, ℕ, Bool, true, false, List, [], ◌∷◌, map, refl, sym, ap, subst, inl, inr, arith, append_assoc, append-nil}
 use Rattle.std.specs.Prelude.{◌⊎◌, Result, Err}
 use Rattle.cc_shelf.specs.Counts.{RoseBy}
 use Rattle.cc_shelf.specs.Files.{Unchanged}
 use Rattle.cc_shelf.specs.Stock.{Stock, Fetch}
-use Rattle.cc_shelf.specs.Asked.{Asked, MayAsk}
-use Rattle.cc_shelf.specs.ShelfAnswers.{AfterFetch, FetchRefused}
+use Rattle.cc_shelf.specs.Told.{FetchTold, MayTellFetch}
+use Rattle.cc_shelf.specs.ShelfAnswers.{AfterFetch, FetchRefused, NoFetchFailed}
 use Rattle.cc_shelf.specs.declared.shelf.ShelfFault.{ShelfFault}
 use Rattle.cc_shelf.specs.declared.shelf.ShelfFault.TheVariants as shelf_faults
 use Rattle.cc_text.specs.declared.refusal.FileFault.{FileFault}
@@ -33,32 +33,46 @@ one_refused shelf w failed fault cause asked = AtFile (record {
   named = refl;
 })
 
-append-none : (xs ys : List Fetch) → ys ≡ xs → ys ≡ xs ++ []
-append-none xs ys e = e ∙ sym (append-nil xs)
-
 -- one fetch found no memory
-one_stopped : (tells : Bool) (before now : Stock) (w : Wanted) → now.counts.fetch_faults ≡ before.counts.fetch_faults → MayAsk tells w.name before now → NotFetched (shelves tells before now) (w ∷ []) OfMemory
-one_stopped false before now w count may = ForMemory refl (record { before = []; behind = w ∷ []; parts = refl; none_failed = record { asked = λ t. absurd (true≢false (sym t)); count = count } })
-one_stopped true before now w count may = go (may refl)
+one_stopped : (tells : Bool) (before now : Stock) (w : Wanted) → NoFetchFailed before.counts now.counts → MayTellFetch tells w.name before now → NotFetched (shelves tells before now) (w ∷ []) OfMemory
+one_stopped tells before now w count may = go tells may
   where
-    go : (now.fetched ≡ before.fetched ++ fetch_of false w ∷ []) ⊎ (now.fetched ≡ before.fetched) → NotFetched (shelves true before now) (w ∷ []) OfMemory
-    go (inl e) = ForMemory refl (record { before = w ∷ []; behind = []; parts = refl; none_failed = record { asked = λ t. e; count = count } })
-    go (inr e) = ForMemory refl (record { before = []; behind = w ∷ []; parts = refl; none_failed = record { asked = λ t. append-none before.fetched now.fetched e; count = count } })
+    stopped : (t : Bool) (next behind : List Wanted) → w ∷ [] ≡ next ++ behind → length next ≤ 1 → AreAsked (shelves t before now) (map (fetch_of false) next) → NotFetched (shelves t before now) (w ∷ []) OfMemory
+    stopped t next behind parts at_most asked = ForMemory refl (record {
+      before = [];
+      next = next;
+      behind = behind;
+      parts = parts;
+      fetched = tt {0};
+      at_most = at_most;
+      none_failed = record { asked = asked; count = count };
+    })
+
+    either : (now.fetched ≡ before.fetched ++ fetch_of false w ∷ []) ⊎ (now.fetched ≡ before.fetched) → NotFetched (shelves true before now) (w ∷ []) OfMemory
+    either (inl e) = stopped true (w ∷ []) [] refl (omega arith) (λ t. e)
+    either (inr e) = stopped true [] (w ∷ []) refl (omega arith) (λ t. e ∙ sym (append-nil before.fetched))
+
+    go : (t : Bool) → MayTellFetch t w.name before now → NotFetched (shelves t before now) (w ∷ []) OfMemory
+    go false m = stopped false [] (w ∷ []) refl (omega arith) (λ t. absurd (true≢false (sym t)))
+    go true m = either (m refl)
 
 refused_as : (T : Type 0) (tells : Bool) (before now : Stock) (name : List ℕ) (limit : ℕ) (fault : ShelfFault) → FetchRefused tells name limit before now fault
-    → Asked {T = T} tells name before now (Err fault) → NotFetched (shelves tells before now) (wanted name limit ∷ []) (of_shelf_fault name fault)
+    → FetchTold {T = T} tells name before now (Err fault) → NotFetched (shelves tells before now) (wanted name limit ∷ []) (of_shelf_fault name fault)
 refused_as T tells before now name limit shelf_faults.Failed r asked = one_refused (shelves tells before now) (wanted name limit) true Read r asked
-refused_as T tells before now name limit shelf_faults.Absent r asked = one_refused (shelves tells before now) (wanted name limit) false Read (r.0, r.1) asked
-refused_as T tells before now name limit (shelf_faults.TooLong at_least) r asked = one_refused (shelves tells before now) (wanted name limit) false TooLong (record {
-  told = λ t. let h = r.1 t in (h.0, h.1, omega (arith, r.0, h.2));
-  not_told = λ t. rose_less (limit + 1) at_least before.counts.bytes_read now.counts.bytes_read (omega (arith, r.0)) (r.2 t);
-}) asked
+refused_as T tells before now name limit shelf_faults.Absent r asked = one_refused (shelves tells before now) (wanted name limit) false Read r asked
+refused_as T tells before now name limit (shelf_faults.TooLong at_least) r asked = one_refused (shelves tells before now) (wanted name limit) false TooLong (
+  record {
+    told = λ t. let h = r.1 t in (h.0, h.1, omega (arith, r.0, h.2));
+    not_told = λ t. rose_less (limit + 1) at_least before.counts.bytes_read now.counts.bytes_read (omega (arith, r.0)) (r.2 t);
+  },
+  r.3,
+) asked
 refused_as T tells before now name limit shelf_faults.NoMemory r asked = one_stopped tells before now (wanted name limit) r asked
 
 -- a fetch that the shelf refuses
 pub fetch_refused : {T : Type 0} (answer : Result T ShelfFault) (tells : Bool) (before now : Stock) (name : List ℕ) (limit : ℕ) (fault : ShelfFault) → answer ≡ Err fault
-    → FetchRefused tells name limit before now fault → Asked tells name before now answer → NotFetched (shelves tells before now) (wanted name limit ∷ []) (of_shelf_fault name fault)
-fetch_refused {T} answer tells before now name limit fault is r asked = refused_as T tells before now name limit fault r (subst (λ x. Asked tells name before now x) is asked)
+    → FetchRefused tells name limit before now fault → FetchTold tells name before now answer → NotFetched (shelves tells before now) (wanted name limit ∷ []) (of_shelf_fault name fault)
+fetch_refused {T} answer tells before now name limit fault is r asked = refused_as T tells before now name limit fault r (subst (λ x. FetchTold tells name before now x) is asked)
 
 -- a file of the first one's files is refused, and so it is of more files
 pub first_refused : (shelf : Shelves) (w v : Wanted) (why : Why) → NotFetched shelf (w ∷ []) why → NotFetched shelf (w ∷ v ∷ []) why
@@ -76,8 +90,11 @@ first_refused shelf w v why (AtFile r) = AtFile (record {
 })
 first_refused shelf w v why (ForMemory e s) = ForMemory e (record {
   before = s.before;
+  next = s.next;
   behind = s.behind ++ v ∷ [];
-  parts = ap (λ ws. ws ++ v ∷ []) s.parts ∙ append_assoc s.before s.behind (v ∷ []);
+  parts = ap (λ ws. ws ++ v ∷ []) s.parts ∙ append_assoc s.before (s.next ++ s.behind) (v ∷ []) ∙ ap (λ ws. s.before ++ ws) (append_assoc s.next s.behind (v ∷ []));
+  fetched = s.fetched;
+  at_most = s.at_most;
   none_failed = s.none_failed;
 })
 
@@ -95,18 +112,21 @@ module _ (tells : Bool) (first between last : Stock) (same : Unchanged first.fil
   still_asked : (w : Wanted) (fs : List Fetch) → AreAsked (shelves tells first between) (fetch_of false w ∷ []) → AreAsked (shelves tells between last) fs → AreAsked (shelves tells first last) (fetch_of false w ∷ fs)
   still_asked w fs one more = λ t. more t ∙ ap (λ names. names ++ fs) (one t) ∙ append_assoc first.fetched (fetch_of false w ∷ []) fs
 
-  still_cause : (w : Wanted) (failed : Bool) (fault : FileFault) → FetchCause (shelves tells between last) w failed fault → FetchCause (shelves tells first last) w failed fault
-  still_cause w true Read c = rose_later 1 first.counts.fetch_faults between.counts.fetch_faults last.counts.fetch_faults counts.fetch_faults c
-  still_cause w true TooLong c = absurd c
-  still_cause w true (Image why) c = absurd c
-  still_cause w true (Ports why) c = absurd c
-  still_cause w false Read c = (c.0, sym (same w.name) ∙ c.1)
-  still_cause w false TooLong long = record {
-    told = λ t. let l = long.told t in (l.0, sym (same w.name) ∙ l.1, l.2);
-    not_told = λ t. rose_later (w.limit + 1) first.counts.bytes_read between.counts.bytes_read last.counts.bytes_read counts.bytes_read (long.not_told t);
-  }
-  still_cause w false (Image why) c = absurd c
-  still_cause w false (Ports why) c = absurd c
+  still_cause : NoFetchFailed first.counts between.counts → (w : Wanted) (failed : Bool) (fault : FileFault) → FetchCause (shelves tells between last) w failed fault → FetchCause (shelves tells first last) w failed fault
+  still_cause none w true Read c = rose_later 1 first.counts.fetch_faults between.counts.fetch_faults last.counts.fetch_faults counts.fetch_faults c
+  still_cause none w true TooLong c = absurd c
+  still_cause none w true (Image why) c = absurd c
+  still_cause none w true (Ports why) c = absurd c
+  still_cause none w false Read c = (c.0, sym (same w.name) ∙ c.1, c.2 ∙ none)
+  still_cause none w false TooLong long = (
+    record {
+      told = λ t. let l = long.0.told t in (l.0, sym (same w.name) ∙ l.1, l.2);
+      not_told = λ t. rose_later (w.limit + 1) first.counts.bytes_read between.counts.bytes_read last.counts.bytes_read counts.bytes_read (long.0.not_told t);
+    },
+    long.1 ∙ none,
+  )
+  still_cause none w false (Image why) c = absurd c
+  still_cause none w false (Ports why) c = absurd c
 
   -- a file is fetched, and then others are, or as many as there is memory for
   pub both_asked : (w : Wanted) (ws : List Wanted) → NoneFailed (shelves tells first between) (w ∷ []) → NoneFailed (shelves tells between last) ws → NoneFailed (shelves tells first last) (w ∷ ws)
@@ -124,12 +144,15 @@ module _ (tells : Bool) (first between last : Stock) (same : Unchanged first.fil
     failed = r.failed;
     asked = still_asked w (map (fetch_of false) r.before ++ fetch_of r.failed r.last ∷ []) one.asked r.asked;
     fault = r.fault;
-    cause = still_cause r.last r.failed r.fault r.cause;
+    cause = still_cause one.count r.last r.failed r.fault r.cause;
     named = r.named;
   })
   second_refused w v why fetched one (ForMemory e s) = ForMemory e (record {
     before = w ∷ s.before;
+    next = s.next;
     behind = s.behind;
     parts = ap (λ ws. w ∷ ws) s.parts;
-    none_failed = both_asked w s.before one s.none_failed;
+    fetched = (fetched, still_fetched s.before s.fetched);
+    at_most = s.at_most;
+    none_failed = both_asked w (s.before ++ s.next) one s.none_failed;
   })

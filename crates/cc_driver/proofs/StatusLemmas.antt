@@ -33,8 +33,8 @@ refusal_is why status e = subst IsStatus (sym e) (of_why why)
 -- and that of an answer is one, where it is one with all of it put
 pub put_is : (text : Option (List ℕ)) (ends : ℕ) (sink : Sinks) (status : ℕ) → IsStatus ends → PutsText text ends sink status → IsStatus status
 put_is None ends sink status is put = subst IsStatus (sym put.0) is
-put_is (Some text) ends sink status is (PutWhole e same put) = subst IsStatus (sym e) is
-put_is (Some text) ends sink status is (PutPart e failed part) = subst IsStatus (sym e) (4, lit< tt, refl)
+put_is (Some text) ends sink status is (PutWhole e calls same put) = subst IsStatus (sym e) is
+put_is (Some text) ends sink status is (PutPart e calls failed part) = subst IsStatus (sym e) (4, lit< tt, refl)
 put_is (Some text) ends sink status is (PutNothing e calls line) = subst IsStatus (sym e) (5, lit< tt, refl)
 
 pub of_stop : (s : Stop) → IsStatus (stop_status s)

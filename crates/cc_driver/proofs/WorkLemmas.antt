@@ -1,5 +1,5 @@
 -- The work of commands from their parts.
-use Rattle.std.proofs.Common.{inl, inr, ◌≡◌, ◌≢◌, ◌∙◌, ℕ, Bool, List, [], ◌∷◌, Option, Some, None, Ok, Err, IfOk, refl, sym, ap, subst, append-nil}
+use Rattle.std.proofs.Common.{arith, inl, inr, ◌≡◌, ◌≢◌, ◌∙◌, ℕ, Bool, List, [], ◌∷◌, Option, Some, None, Ok, Err, IfOk, refl, sym, ap, subst, append-nil}
 use Rattle.std.specs.Prelude.{Result, IfErr, IsErrAnd}
 use Rattle.cc_shelf.specs.Counts.{Rose}
 use Rattle.cc_shelf.specs.Stock.{Stock}
@@ -20,7 +20,7 @@ use Rattle.cc_text.specs.declared.refusal.Refusal.{Refusal}
 use Rattle.cc_text.specs.Answers.{answered}
 use Rattle.cc_text.specs.Refusals.{Why, OfFile, OfSource, OfStore, OfMemory, why_of, of_build_fault, of_image_fault, of_port_fault}
 use Rattle.cc_driver.specs.World.{Shelves, shelves}
-use Rattle.cc_driver.specs.Fetches.{Wanted, IsFetched, NoneFailed, ForMemory}
+use Rattle.cc_driver.specs.Fetches.{Wanted, IsFetched, AreFetched, NoneFailed, ForMemory}
 use Rattle.cc_driver.specs.Build.{source_file, quiet}
 use Rattle.cc_driver.specs.Run.{RunRefused, BadImage, ArePortsRefused}
 use Rattle.cc_driver.specs.Commands.{files_of, stores_under, Rejects}
@@ -60,12 +60,12 @@ build_fault_of build_faults.NoMemory why e some = absurd (some e)
 -- ---- refused work
 
 -- what the fetched files are refused for, unless memory is wanting
-pub files_refuse : (what : Asked) (shelf : Shelves) (why : Why) → NoneFailed shelf (files_of what) → NothingStored shelf → (why ≢ OfMemory → Rejects what shelf why)
+pub files_refuse : (what : Asked) (shelf : Shelves) (why : Why) → NoneFailed shelf (files_of what) → AreFetched shelf (files_of what) → NothingStored shelf → (why ≢ OfMemory → Rejects what shelf why)
     → WorkRefused what shelf why
-files_refuse what shelf (OfFile name fault) fetched kept r = AtFiles fetched (r (λ e. cc)) kept
-files_refuse what shelf (OfSource fault) fetched kept r = AtFiles fetched (r (λ e. cc)) kept
-files_refuse what shelf OfStore fetched kept r = AtFiles fetched (r (λ e. cc)) kept
-files_refuse what shelf OfMemory fetched kept r = AtMemory refl fetched kept
+files_refuse what shelf (OfFile name fault) asked fetched kept r = AtFiles asked (r (λ e. cc)) kept
+files_refuse what shelf (OfSource fault) asked fetched kept r = AtFiles asked (r (λ e. cc)) kept
+files_refuse what shelf OfStore asked fetched kept r = AtFiles asked (r (λ e. cc)) kept
+files_refuse what shelf OfMemory asked fetched kept r = AtMemory refl asked fetched kept
 
 module _ (tells : Bool) (first between last : Stock) where
   -- fetches, and then calls among which there is none
@@ -96,14 +96,17 @@ module _ (tells : Bool) (first between last : Stock) where
     failed = subst (λ n. Rose n last.counts.store_faults) kept.faults failed.1;
   })
   store_refused source image bytes contents why fetched built whole asked kept none (inr memory) =
-      AtMemory memory.0 (still_none_failed (source_file source ∷ []) asked none) (nothing_both kept memory.1)
+      AtMemory memory.0 (still_none_failed (source_file source ∷ []) asked none) ((bytes, fetched_first (source_file source) bytes fetched), tt {0}) (nothing_both kept memory.1)
 
 -- without memory for the words nothing is asked for
 pub stopped_first : (what : Asked) (tells : Bool) (s : Stock) → WorkRefused what (shelves tells s s) OfMemory
 stopped_first what tells s = AtFetch (ForMemory refl (record {
   before = [];
+  next = [];
   behind = files_of what;
   parts = refl;
+  fetched = tt {0};
+  at_most = omega arith;
   none_failed = record { asked = λ t. sym (append-nil s.fetched); count = refl };
 })) (record { files = λ n. refl; faults = refl })
 

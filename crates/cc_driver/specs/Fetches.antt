@@ -52,8 +52,8 @@ FetchCause shelf file true Read = FetchFailed shelf.before.counts shelf.now.coun
 FetchCause shelf file true TooLong = ⊥
 FetchCause shelf file true (Image why) = ⊥
 FetchCause shelf file true (Ports why) = ⊥
-FetchCause shelf file false Read = IsTrue shelf.tells × (shelf.before.files file.name ≡ None)
-FetchCause shelf file false TooLong = IsLong shelf file
+FetchCause shelf file false Read = IsTrue shelf.tells × (shelf.before.files file.name ≡ None) × NoFetchFailed shelf.before.counts shelf.now.counts
+FetchCause shelf file false TooLong = IsLong shelf file × NoFetchFailed shelf.before.counts shelf.now.counts
 FetchCause shelf file false (Image why) = ⊥
 FetchCause shelf file false (Ports why) = ⊥
 
@@ -77,12 +77,15 @@ pub record FileRefused (shelf : Shelves) (files : List Wanted) (why : Why) : Typ
   pub cause : FetchCause shelf last failed fault
   pub named : why ≡ OfFile last.name fault
 
--- memory was wanting behind the fetches of some of the files
+-- memory was wanting behind the fetches of some of the files, or at the next one, which may have been asked for
 pub record FetchesStopped (shelf : Shelves) (files : List Wanted) : Type 0 where
   pub before : List Wanted
+  pub next : List Wanted
   pub behind : List Wanted
-  pub parts : files ≡ before ++ behind
-  pub none_failed : NoneFailed shelf before
+  pub parts : files ≡ before ++ (next ++ behind)
+  pub fetched : AreFetched shelf before
+  pub at_most : length next ≤ 1
+  pub none_failed : NoneFailed shelf (before ++ next)
 
 -- why not all of the files were fetched
 pub data NotFetched (shelf : Shelves) (files : List Wanted) (why : Why) : Type 0 where

@@ -15,8 +15,8 @@ pub data LinePut (line : List ℕ) (before now : Output) : Type 0 where
   Whole : now.bytes ≡ before.bytes ++ line → now.faults ≡ before.faults → LinePut line before now
   -- the put failed, and a part of the line is there
   Part : Rose before.faults now.faults → (n : ℕ) → now.bytes ≡ before.bytes ++ take n line → LinePut line before now
-  -- the sink found no memory for it, and is as it was
-  Nothing : now.bytes ≡ before.bytes → now.faults ≡ before.faults → LinePut line before now
+  -- the sink found no memory for it, counted that, and is as it was
+  Nothing : now.bytes ≡ before.bytes → now.faults ≡ before.faults → Rose before.wants now.wants → LinePut line before now
 
 -- one put was asked for, of this line
 pub record PutsLine (line : List ℕ) (sink : Sinks) : Type 0 where
@@ -52,12 +52,12 @@ pub record Refused (why : Why) (sink : Sinks) (status : ℕ) : Type 0 where
   pub status_is : status ≡ refusal_status why
   pub line : PutsRefusal why sink
 
--- a text was put, whose status is this where all of it was put
+-- one put was asked for, of a text whose status is this where all of it was put
 pub data TextPut (text : List ℕ) (ends : ℕ) (sink : Sinks) (status : ℕ) : Type 0 where
   -- all of it was
-  PutWhole : status ≡ ends → sink.now.faults ≡ sink.before.faults → (IsTrue sink.tells → sink.now.bytes ≡ sink.before.bytes ++ text) → TextPut text ends sink status
+  PutWhole : status ≡ ends → sink.now.calls ≡ raised sink.before.calls 1 → sink.now.faults ≡ sink.before.faults → (IsTrue sink.tells → sink.now.bytes ≡ sink.before.bytes ++ text) → TextPut text ends sink status
   -- the put failed, and a part of it is there
-  PutPart : status ≡ 4 → Rose sink.before.faults sink.now.faults → (IsTrue sink.tells → (n : ℕ) × (sink.now.bytes ≡ sink.before.bytes ++ take n text))
+  PutPart : status ≡ 4 → sink.now.calls ≡ raised sink.before.calls 1 → Rose sink.before.faults sink.now.faults → (IsTrue sink.tells → (n : ℕ) × (sink.now.bytes ≡ sink.before.bytes ++ take n text))
       → TextPut text ends sink status
   -- the sink found no memory for it, and a second put was asked for, of the line that says so
   PutNothing : status ≡ 5 → sink.now.calls ≡ raised (raised sink.before.calls 1) 1 → (IsTrue sink.tells → LinePut memory_line sink.before sink.now)

@@ -8,7 +8,7 @@ use Rattle.cc_text.specs.declared.refusal.Refusal.{Refusal}
 use Rattle.cc_text.specs.Answers.{Answered, answered}
 use Rattle.cc_text.specs.Refusals.{Why, OfStore, OfMemory}
 use Rattle.cc_driver.specs.World.{Shelves}
-use Rattle.cc_driver.specs.Fetches.{NoneFailed, NotFetched}
+use Rattle.cc_driver.specs.Fetches.{AreFetched, NoneFailed, NotFetched}
 use Rattle.cc_driver.specs.Build.{quiet}
 use Rattle.cc_driver.specs.Commands.{files_of, stores_under, Comes, Rejects}
 
@@ -45,7 +45,7 @@ pub data WorkRefused (what : Asked) (shelf : Shelves) (why : Why) : Type 0 where
   AtFetch : NotFetched shelf (files_of what) why → NothingStored shelf → WorkRefused what shelf why
   AtFiles : NoneFailed shelf (files_of what) → Rejects what shelf why → NothingStored shelf → WorkRefused what shelf why
   AtStore : why ≡ OfStore → StoreFails what shelf → WorkRefused what shelf why
-  AtMemory : why ≡ OfMemory → NoneFailed shelf (files_of what) → NothingStored shelf → WorkRefused what shelf why
+  AtMemory : why ≡ OfMemory → NoneFailed shelf (files_of what) → AreFetched shelf (files_of what) → NothingStored shelf → WorkRefused what shelf why
 
 -- a store is refused: it failed, or memory was wanting and nothing is stored
 abbrev pub StoreStopped : Shelves → Why → Type 0

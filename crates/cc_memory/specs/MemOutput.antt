@@ -3,4 +3,4 @@ use Rattle.cc_shelf.specs.Output.{Output}
 use Rattle.cc_memory.specs.declared.mem_sink.MemSink.{MemSink}
 
 abbrev pub output_of : MemSink → Output
-output_of s = record { bytes = s.bytes.items; calls = s.calls; faults = s.faults }
+output_of s = record { bytes = s.bytes.items; calls = s.calls; faults = s.faults; wants = s.wants }

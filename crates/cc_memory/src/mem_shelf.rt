@@ -1,6 +1,6 @@
 //! A shelf in memory.
 ghost use Rattle.std.specs.Prelude.{◌≡◌, ◌≢◌, ◌≤◌, [], ◌∷◌, ◌++◌, List, ℕ, Some, None, true, MatchOption, MatchResult, OnOk, OnErr, IfOk, IfErr, IsErrOf, IsTrue, ◌↔◌, ◌⊎◌, Contains, vec_len};
-ghost use Rattle.cc_shelf.specs.Asked.{Asked};
+ghost use Rattle.cc_shelf.specs.Told.{FetchTold};
 ghost use Rattle.cc_shelf.specs.ShelfAnswers.{FetchRefused, StoreRefused, AfterFetch, AfterStore};
 ghost use Rattle.cc_shelf.specs.Counts.{raised};
 ghost use Rattle.cc_shelf.specs.Files.{Unchanged};
@@ -141,7 +141,7 @@ impl Shelf for MemShelf {
         ensures refused { IfErr result (FetchRefused true name.now max (stock_of self.old) (stock_of self.new)) }
         ensures counts { AfterFetch (counts_of self.old) (counts_of self.new) }
         ensures success { OnOk result (self.new.fetch_faults ≡ self.old.fetch_faults) }
-        ensures asked { Asked true name.now (stock_of self.old) (stock_of self.new) result }
+        ensures asked { FetchTold true name.now (stock_of self.old) (stock_of self.new) result }
 
         // Calls are counted. One fails exactly where its number is in `fail_at`, and else it counts no fault.
         ensures calls { self.new.calls ≡ raised self.old.calls 1 }

@@ -14,6 +14,8 @@ pub struct MemSink {
     pub calls: u64,
     pub faults: u64,
     pub fail_at: Vec<u64>,
+    // The puts that found no memory.
+    wants: u64,
 }
 
 impl MemSink {
@@ -29,6 +31,7 @@ impl MemSink {
             calls: 0,
             faults: 0,
             fail_at,
+            wants: 0,
         }
     }
 }
@@ -46,6 +49,7 @@ impl Sink for MemSink {
         ensures refused { IfErr result (PutRefused true piece.now (output_of self.old) (output_of self.new)) }
         ensures later { self.old.faults ≤ self.new.faults }
         ensures success { OnOk result (self.new.faults ≡ self.old.faults) }
+        ensures found { OnOk result (self.new.wants ≡ self.old.wants) }
 
         // Calls are counted. One fails exactly where its number is in `fail_at`, then puts nothing, and else counts no fault.
         ensures calls { self.new.calls ≡ raised self.old.calls 1 }
@@ -61,7 +65,10 @@ impl Sink for MemSink {
             self.faults = self.faults.saturating_add(1);
             return Err(SinkFault::Failed);
         }
-        self.bytes.extend_from_slice(piece)?;
+        if self.bytes.extend_from_slice(piece).is_err() {
+            self.wants = self.wants.saturating_add(1);
+            return Err(SinkFault::NoMemory);
+        }
         Ok(())
     }
 }

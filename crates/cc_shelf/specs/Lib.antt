@@ -1,7 +1,7 @@
 pub mod Files
 pub mod Counts
 pub mod Stock
-pub mod Asked
+pub mod Told
 pub mod ShelfAnswers
 pub mod Output
 pub mod SinkAnswers

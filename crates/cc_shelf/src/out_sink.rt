@@ -45,6 +45,8 @@ impl<'a, R: Print> Sink for OutSink<'a, R> {
         ensures counted { self.new.calls ≡ raised self.old.calls 1 }
         ensures later { self.old.faults ≤ self.new.faults }
         ensures success { OnOk result (self.new.faults ≡ self.old.faults) }
+        ensures found { OnOk result ((untold_output self.new.calls self.new.faults).wants
+            ≡ (untold_output self.old.calls self.old.faults).wants) }
 
         // It takes no memory.
         ensures never { IsOkUnless result SinkFault.Failed }

@@ -1,6 +1,6 @@
 //! The files that the commands read and write.
 ghost use Rattle.std.specs.Prelude.{◌≡◌, ◌≢◌, ◌≤◌, List, ℕ, Bool, Some, IfOk, IfErr, OnOk, IsTrue, IsErrOf, vec_len};
-ghost use Rattle.cc_shelf.specs.Asked.{Asked};
+ghost use Rattle.cc_shelf.specs.Told.{FetchTold};
 ghost use Rattle.cc_shelf.specs.Files.{Unchanged};
 ghost use Rattle.cc_shelf.specs.ShelfAnswers.{FetchRefused, StoreRefused, AfterFetch, AfterStore, NoFetchFailed, NoStoreFailed};
 ghost use Rattle.cc_shelf.specs.Stock.{Stock};
@@ -68,7 +68,7 @@ pub trait Shelf {
         ensures refused { IfErr result (FetchRefused tells name.now max (stock self.old) (stock self.new)) }
         ensures counts { AfterFetch (stock self.old).counts (stock self.new).counts }
         ensures success { OnOk result (NoFetchFailed (stock self.old).counts (stock self.new).counts) }
-        ensures asked { Asked tells name.now (stock self.old) (stock self.new) result };
+        ensures asked { FetchTold tells name.now (stock self.old) (stock self.new) result };
 
     /// Makes the name hold the bytes. Where it fails, that name may hold anything.
     fn store(&mut self, alloc: Global, name: &str, bytes: &[u8]) -> Result<(), ShelfFault>

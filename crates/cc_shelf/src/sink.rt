@@ -25,8 +25,8 @@ impl From<AllocError> for SinkFault {
 }
 
 /// An output that is put piece by piece. A sink may tell the bytes that were put, and then
-/// contracts speak of them. It counts its puts, whatever they answer, and its faults; each count
-/// stays at its greatest value once it stands there.
+/// contracts speak of them. It counts its puts, whatever they answer, its faults, and the puts that
+/// found no memory; each count stays at its greatest value once it stands there.
 pub trait Sink {
     /// Whether the sink tells what was put.
     ghost tells: { Bool };
@@ -40,5 +40,6 @@ pub trait Sink {
         ensures refused { IfErr result (PutRefused tells piece.now (output self.old) (output self.new)) }
         ensures counted { (output self.new).calls ≡ raised (output self.old).calls 1 }
         ensures later { (output self.old).faults ≤ (output self.new).faults }
-        ensures success { OnOk result ((output self.new).faults ≡ (output self.old).faults) };
+        ensures success { OnOk result ((output self.new).faults ≡ (output self.old).faults) }
+        ensures found { OnOk result ((output self.new).wants ≡ (output self.old).wants) };
 }

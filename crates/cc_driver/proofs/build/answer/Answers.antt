@@ -1,10 +1,10 @@
 use Rattle.std.proofs.Common.{Some, ap, refl, ◌∙◌, ◌∷◌, [], length, arith}
 use Rattle.cc_words.specs.Asked.{ToBuild}
 use Rattle.c25_image.specs.ImageText.{image_text}
-use Rattle.cc_text.specs.Refusals.{of_build_fault}
+use Rattle.cc_text.specs.Refusals.{OfMemory, of_build_fault}
 use Rattle.cc_driver.specs.World.{shelves}
 use Rattle.cc_driver.specs.Build.{source_file}
-use Rattle.cc_driver.specs.Work.{WorkRefused, AtFetch}
+use Rattle.cc_driver.specs.Work.{WorkRefused, AtFetch, AtMemory}
 use Rattle.cc_driver.proofs.WorkLemmas.{files_refuse, build_fault_of, still_none_failed, store_refused, passed_on, passed_for}
 use Rattle.cc_driver.proofs.build.answer.Goals as goal
 
@@ -24,10 +24,17 @@ returns-in_err-built-clause-refused g c =
     let fault = c.in_err-built.field-0.0 in
     let has = rw c.deref.ensures.value at c.in_err-built.ensures.refused in
     passed_for c.from_residual-in_err-built.result (of_build_fault fault) (WorkRefused what shelf) c.from_residual-in_err-built.ensures.1
-    (files_refuse what shelf (of_build_fault fault) c.in_ok-source.ensures.asked c.in_ok-source.ensures.stored
+    (files_refuse what shelf (of_build_fault fault) c.in_ok-source.ensures.asked ((c.in_ok-source.source.items, c.in_ok-source.ensures.fetched), tt {0}) c.in_ok-source.ensures.stored
     (λ some.
     let is = build_fault_of fault (of_build_fault fault) refl some in
     record { bytes = c.in_ok-source.source.items; fetched = c.in_ok-source.ensures.fetched; holds = record { fault = fault; has = has is.0; is = is.1 } }))
+
+pub returns-in_err-text-clause-refused : goal.returns-in_err-text-clause-refused
+returns-in_err-text-clause-refused g c =
+    passed_for c.from_residual-in_err-text.result OfMemory
+    (WorkRefused (ToBuild c.args.asked.now.source.now c.args.asked.now.image.now) (shelves g.F.Shelf.tells (g.F.Shelf.stock c.args.shelf.now) (g.F.Shelf.stock c.fetch.new.shelf)))
+    c.from_residual-in_err-text.ensures.1
+    (AtMemory refl c.in_ok-source.ensures.asked ((c.in_ok-source.source.items, c.in_ok-source.ensures.fetched), tt {0}) c.in_ok-source.ensures.stored)
 
 pub returns-in_err-store-clause-refused : goal.returns-in_err-store-clause-refused
 returns-in_err-store-clause-refused g c =

@@ -28,7 +28,7 @@ pub returns-clause-refused : goal.returns-clause-refused
 returns-clause-refused g c =
     IfErr-weaker c.run.result _ _ (λ r refused.
     files_refuse (ToRun c.args.asked.now.image.now c.args.asked.now.ports.now c.args.asked.now.steps) (shelves g.F.Shelf.tells (g.F.Shelf.stock c.args.shelf.now) (g.F.Shelf.stock c.fetch_both.new.shelf)) _
-    c.in_ok-files.ensures.asked c.in_ok-files.ensures.stored
+    c.in_ok-files.ensures.asked ((c.in_ok-files.files.bytes.items, c.in_ok-files.ensures.file), ((c.in_ok-files.files.ports.items, c.in_ok-files.ensures.ports), tt {0})) c.in_ok-files.ensures.stored
     (λ some. record {
       bytes = c.in_ok-files.files.bytes.items;
       more = c.in_ok-files.files.ports.items;
