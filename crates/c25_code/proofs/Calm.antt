@@ -1,0 +1,17 @@
+-- The first two instructions of a program make a calm state.
+use Rattle.std.proofs.Common.{◌≡◌, ◌+◌, false, [], ◌∷◌, None, ap, ◌∙◌}
+use Rattle.c25_isa.specs.declared.instruction.Instr.TheVariants.{Rovm, Spm}
+use Rattle.c25_isa.specs.State.{State}
+use Rattle.c25_isa.specs.Step.{Ran, repeats_badly, trap_where}
+use Rattle.c25_isa.specs.declared.trap.TrapKind.TheVariants.{Repeat}
+use Rattle.c25_isa.proofs.CodeAt.{CodeAt}
+use Rattle.c25_isa.proofs.Leads.{Leads, leads_on, ran_leads, runs, onward_pc}
+use Rattle.c25_code.specs.Work.{calm, work_of}
+
+-- from any modes
+pub calmed : (s : State) → s.repeats ≡ None → CodeAt s.program s.pc (Rovm ∷ Spm ∷ []) → Leads 2 s (calm s.program (s.pc + 1 + 1) (work_of s)) []
+calmed s none at =
+    let a : State = record s { ovm = false; pc = s.pc + 1 } in
+    let first : Leads 1 s a [] = ran_leads s a (runs s Rovm none at.0 (ap (λ r. trap_where (repeats_badly r false) Repeat None) none) ∙ ap (λ n. Ran (record s { ovm = false; pc = n })) (onward_pc s Rovm none at.0)) in
+    let second : Leads 1 a (calm s.program (s.pc + 1 + 1) (work_of s)) [] = ran_leads a _ (runs a Spm none at.1.0 (ap (λ r. trap_where (repeats_badly r false) Repeat None) none) ∙ ap (λ n. Ran (record a { pm = 0; pc = n })) (onward_pc a Spm none at.1.0) ∙ ap (λ r. Ran (record a { pm = 0; pc = s.pc + 1 + 1; repeats = r })) none) in
+    leads_on 1 1 _ _ _ _ _ first second

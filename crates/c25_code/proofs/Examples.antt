@@ -1,0 +1,5 @@
+pub mod Sum
+mod Calls
+mod Structure
+mod Premises
+mod Runs

@@ -1,0 +1,55 @@
+-- One step of a jump, a call, a return and an end from a calm state, and of repeats.
+use Rattle.std.proofs.Common.{◌≡◌, ◌≢◌, ℕ, ◌+◌, ◌<◌, Bool, true, false, [], ◌∷◌, length, None, refl, ap, ◌∙◌, cond, arith}
+use Rattle.std.proofs.lemmas.Bool.{ne_eqb}
+use Rattle.word_base.specs.declared.outcome.Ending.TheVariants.{Returned}
+use Rattle.c25_isa.specs.declared.operand.Indirect.{Indirect}
+use Rattle.c25_isa.specs.declared.operand.Operand.TheVariants.{Indirect as Through}
+use Rattle.c25_isa.specs.declared.instruction.JumpOp.{JumpOp}
+use Rattle.c25_isa.specs.declared.instruction.JumpOp.TheVariants.{B, Bgz, Blez, Blz, Bgez, Bnz, Bz}
+use Rattle.c25_isa.specs.declared.instruction.Instr.TheVariants.{Idle, Ret, Branch, Call}
+use Rattle.c25_isa.specs.declared.trap.TrapKind.TheVariants.{StackFull, StackEmpty}
+use Rattle.c25_isa.specs.State.{Memory}
+use Rattle.c25_isa.specs.Step.{Ran, Over, wrap16, holds, jumps, returns, step, trap_where}
+use Rattle.c25_isa.proofs.CodeAt.{StandsAt}
+use Rattle.c25_isa.proofs.Leads.{Leads, ran_leads, runs, onward_pc}
+use Rattle.c25_code.specs.Work.{Work, calm}
+use Rattle.c25_code.specs.Straight.{behind_operand, NonEmpty, first_of, rest_of, is_taken, branch_target}
+use Rattle.c25_code.proofs.Rows.{non_empty_is, not_empty}
+
+module _ (program : Memory) (pc : ℕ) (w : Work) where
+  holds_is : (op : JumpOp) → holds op (calm program pc w) ≡ is_taken op w.acc
+  holds_is B = refl
+  holds_is Bgz = refl
+  holds_is Blez = refl
+  holds_is Blz = refl
+  holds_is Bgez = refl
+  holds_is Bnz = refl
+  holds_is Bz = refl
+
+  jumps_is : (i : Indirect) (to : ℕ) (b : Bool) → jumps 2 (calm program pc w) i to b ≡ Ran (calm program (cond b to (wrap16 (pc + 2))) (behind_operand (Through i) w))
+  jumps_is i to true = refl
+  jumps_is i to false = refl
+
+  pub branch_leads : (op : JumpOp) (to : ℕ) (i : Indirect) → StandsAt program pc (Branch op to i) → Leads 1 (calm program pc w) (calm program (branch_target op w.acc to (pc + 2)) (behind_operand (Through i) w)) []
+  branch_leads op to i at =
+      ran_leads _ _ (
+      runs (calm program pc w) (Branch op to i) refl at refl
+      ∙ ap (jumps 2 (calm program pc w) i to) (holds_is op)
+      ∙ jumps_is i to (is_taken op w.acc)
+      ∙ ap (λ n. Ran (calm program (cond (is_taken op w.acc) to n) (behind_operand (Through i) w))) (onward_pc (calm program pc w) (Branch op to i) refl at))
+
+  pub call_leads : (to : ℕ) (i : Indirect) → StandsAt program pc (Call to i) → length w.stack < 8 → Leads 1 (calm program pc w) (calm program to (behind_operand (Through i) (record w { stack = (pc + 2) ∷ w.stack }))) []
+  call_leads to i at short =
+      let n : length w.stack ≢ 8 = omega arith in
+      ran_leads _ _ (
+      runs (calm program pc w) (Call to i) refl at (ap (λ b. trap_where b StackFull None) (ne_eqb (length w.stack) 8 n))
+      ∙ ap (λ m. Ran (calm program to (behind_operand (Through i) (record w { stack = m ∷ w.stack })))) (onward_pc (calm program pc w) (Call to i) refl at))
+
+  pub return_leads : StandsAt program pc Ret → NonEmpty w.stack → Leads 1 (calm program pc w) (calm program (first_of w.stack) (record w { stack = rest_of w.stack })) []
+  return_leads at has =
+      ran_leads _ _ (
+      runs (calm program pc w) Ret refl at (ap (λ b. trap_where b StackEmpty None) (not_empty w.stack has))
+      ∙ ap (returns (calm program pc w)) (non_empty_is w.stack has))
+
+  pub calm_idle_ends : StandsAt program pc Idle → step (calm program pc w) ≡ Over (Returned (wrap16 w.acc))
+  calm_idle_ends at = runs (calm program pc w) Idle refl at refl

@@ -1,0 +1,12 @@
+pub mod Work
+pub mod Straight
+pub mod CodeRuns
+pub mod Lines
+pub mod Routines
+pub mod Repeats
+pub mod Structured
+pub mod Arrivals
+pub mod Links
+pub mod Programs
+pub mod Accesses
+pub mod AccessPrograms

@@ -1,0 +1,64 @@
+-- Work: the part of the machine's state (docs/MACHINE.md, "State") that straight code reads and changes, and the calm states, in which it runs.
+-- PC, OVM and PM (0 here), a pending repeat (none here) and program memory are no part of it, so nothing has to be said of them.
+use Rattle.std.specs.Prelude.{ℕ, ◌<◌, ◌≤◌, ◌^◌, Bool, false, List, length, All, None}
+use Rattle.word_base.specs.Ports.{Input, IsInput}
+use Rattle.c25_isa.specs.State.{State, Memory}
+
+pub record Work : Type 0 where
+  pub acc : ℕ
+  pub t : ℕ
+  pub p : ℕ
+  pub ar : ℕ → ℕ
+  pub arp : ℕ
+  pub dp : ℕ
+  pub sxm : Bool
+  pub stack : List ℕ
+  pub ram : Memory
+  pub input : Input
+
+-- a calm state: no repeat is pending, and sums and products are neither cut nor shifted
+abbrev pub calm : Memory → ℕ → Work → State
+calm program pc w = record {
+  acc = w.acc;
+  t = w.t;
+  p = w.p;
+  ar = w.ar;
+  arp = w.arp;
+  dp = w.dp;
+  pc = pc;
+  sxm = w.sxm;
+  ovm = false;
+  pm = 0;
+  stack = w.stack;
+  repeats = None;
+  program = program;
+  ram = w.ram;
+  input = w.input;
+}
+
+abbrev pub work_of : State → Work
+work_of s = record {
+  acc = s.acc;
+  t = s.t;
+  p = s.p;
+  ar = s.ar;
+  arp = s.arp;
+  dp = s.dp;
+  sxm = s.sxm;
+  stack = s.stack;
+  ram = s.ram;
+  input = s.input;
+}
+
+-- each part is in its range
+pub record InRange (w : Work) : Type 0 where
+  pub acc : w.acc < 2 ^ 32
+  pub t : w.t < 2 ^ 16
+  pub p : w.p < 2 ^ 32
+  pub ar : (n : ℕ) → w.ar n < 2 ^ 16
+  pub arp : w.arp < 8
+  pub dp : w.dp < 512
+  pub stack : All (λ word. word < 2 ^ 16) w.stack
+  pub room : length w.stack ≤ 8
+  pub ram : (a : ℕ) → w.ram a < 2 ^ 16
+  pub input : IsInput w.input
