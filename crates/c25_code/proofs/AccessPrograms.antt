@@ -8,8 +8,9 @@ use Rattle.c25_isa.specs.declared.instruction.Instr.TheVariants.{Idle, Call}
 use Rattle.c25_isa.specs.State.{State, Start, Memory}
 use Rattle.c25_isa.specs.Step.{Over, step, wrap16}
 use Rattle.c25_isa.specs.MachineRun.{reset}
-use Rattle.c25_isa.proofs.CodeAt.{CodeAt, code_at_reset}
-use Rattle.c25_isa.proofs.Leads.{Leads}
+use Rattle.c25_isa.specs.CodeAt.{CodeAt}
+use Rattle.c25_isa.proofs.CodeAt.{code_at_reset}
+use Rattle.c25_isa.specs.Leads.{Leads}
 use Rattle.c25_code.specs.Work.{Work, calm, work_of}
 use Rattle.c25_code.specs.Straight.{is_taken, code_size}
 use Rattle.c25_code.specs.CodeRuns.{CodeRuns}
@@ -18,7 +19,7 @@ use Rattle.c25_code.specs.Structured.{StepProceeds, StepEnds, StepFails, functio
 use Rattle.c25_code.specs.Arrivals.{EmitsRight}
 use Rattle.c25_code.specs.Links.{body_of, labels_of, functions_code}
 use Rattle.c25_code.specs.Programs.{startup, ProgramStands}
-use Rattle.c25_code.specs.Accesses.{Access, Cells, access_all, accesses_code, IsLayout, HoldsCells, AreWithin}
+use Rattle.c25_code.specs.Accesses.{CellAccess, Cells, access_all, accesses_code, IsLayout, HoldsCells, AreWithin}
 use Rattle.c25_code.specs.AccessPrograms.{Sign, Above, AtMost, Below, AtLeast, NotZero, Zero, branch_where, branch_unless, all_within, accesses_step, access_meaning, access_emission, AccessBody, access_entries, AccessProgramStands}
 use Rattle.c25_code.proofs.CodeRuns.{runs_lead}
 use Rattle.c25_code.proofs.Pieces.{code_front, code_back}
@@ -40,7 +41,7 @@ opposite_is AtLeast acc = twice (nat_le 2147483648 acc)
 opposite_is NotZero acc = twice (acc == 0)
 opposite_is Zero acc = refl
 
-within_is : (sizes : ℕ → ℕ) (accesses : List Access) → all_within sizes accesses ≡ true → AreWithin sizes accesses
+within_is : (sizes : ℕ → ℕ) (accesses : List CellAccess) → all_within sizes accesses ≡ true → AreWithin sizes accesses
 within_is sizes [] e = tt
 within_is sizes (a ∷ rest) e = let b = both (nat_lt a.position (sizes a.list)) (all_within sizes rest) e in (ltb-true a.position (sizes a.list) b.0, within_is sizes rest b.1)
   where
@@ -54,11 +55,11 @@ code_size-append [] b = omega arith
 code_size-append (i ∷ a) b = omega (arith, code_size-append a b)
 
 module _ (bases sizes : ℕ → ℕ) (layout : IsLayout bases sizes) where
-  abbrev Lines : List Access → List Instr
+  abbrev Lines : List CellAccess → List Instr
   Lines s = accesses_code bases s
 
   module _ (program : Memory) (entries : ℕ → ℕ) where
-    step_proceeds : (s : List Access) (x y : Cells) (put : Outputs) (w : Work) (labels : ℕ → ℕ) (fresh pc : ℕ) → accesses_step sizes s x ≡ StepProceeds y put → HoldsCells bases sizes x w → length w.stack ≤ 8 → LinesAt program entries labels pc ((access_emission bases).code s fresh) → (m : ℕ) × (u : Work) × Leads m (calm program pc w) (calm program (pc + lines_size ((access_emission bases).code s fresh)) u) put × HoldsCells bases sizes y u × (u.stack ≡ w.stack)
+    step_proceeds : (s : List CellAccess) (x y : Cells) (put : Outputs) (w : Work) (labels : ℕ → ℕ) (fresh pc : ℕ) → accesses_step sizes s x ≡ StepProceeds y put → HoldsCells bases sizes x w → length w.stack ≤ 8 → LinesAt program entries labels pc ((access_emission bases).code s fresh) → (m : ℕ) × (u : Work) × Leads m (calm program pc w) (calm program (pc + lines_size ((access_emission bases).code s fresh)) u) put × HoldsCells bases sizes y u × (u.stack ≡ w.stack)
     step_proceeds s x y put w labels fresh pc e h room at = by (all_within sizes s) refl e
       where
         by : (b : Bool) → all_within sizes s ≡ b → cond b (StepProceeds (access_all s x) []) (StepFails []) ≡ StepProceeds y put → (m : ℕ) × (u : Work) × Leads m (calm program pc w) (calm program (pc + lines_size ((access_emission bases).code s fresh)) u) put × HoldsCells bases sizes y u × (u.stack ≡ w.stack)
@@ -74,14 +75,14 @@ module _ (bases sizes : ℕ → ℕ) (layout : IsLayout bases sizes) where
             )
         by false f g = absurd cc
 
-    step_ends : (s : List Access) (x : Cells) (put : Outputs) (ending : Ending) (w : Work) (labels : ℕ → ℕ) (fresh pc : ℕ) → accesses_step sizes s x ≡ StepEnds put ending → HoldsCells bases sizes x w → length w.stack ≤ 8 → LinesAt program entries labels pc ((access_emission bases).code s fresh) → (m : ℕ) × (t : State) × Leads m (calm program pc w) t put × (step t ≡ Over ending)
+    step_ends : (s : List CellAccess) (x : Cells) (put : Outputs) (ending : Ending) (w : Work) (labels : ℕ → ℕ) (fresh pc : ℕ) → accesses_step sizes s x ≡ StepEnds put ending → HoldsCells bases sizes x w → length w.stack ≤ 8 → LinesAt program entries labels pc ((access_emission bases).code s fresh) → (m : ℕ) × (t : State) × Leads m (calm program pc w) t put × (step t ≡ Over ending)
     step_ends s x put ending w labels fresh pc e h room at = absurd (by (all_within sizes s) e)
       where
         by : (b : Bool) → cond b (StepProceeds (access_all s x) []) (StepFails []) ≡ StepEnds put ending → ⊥
         by true g = cc
         by false g = cc
 
-    step_fails : (s : List Access) (x : Cells) (put : Outputs) (w : Work) (labels : ℕ → ℕ) (fresh pc : ℕ) → accesses_step sizes s x ≡ StepFails put → HoldsCells bases sizes x w → length w.stack ≤ 8 → LinesAt program entries labels pc ((access_emission bases).code s fresh) → (m : ℕ) × (t : State) × Leads m (calm program pc w) t put
+    step_fails : (s : List CellAccess) (x : Cells) (put : Outputs) (w : Work) (labels : ℕ → ℕ) (fresh pc : ℕ) → accesses_step sizes s x ≡ StepFails put → HoldsCells bases sizes x w → length w.stack ≤ 8 → LinesAt program entries labels pc ((access_emission bases).code s fresh) → (m : ℕ) × (t : State) × Leads m (calm program pc w) t put
     step_fails s x put w labels fresh pc e h room at = by (all_within sizes s) e
       where
         by : (b : Bool) → cond b (StepProceeds (access_all s x) []) (StepFails []) ≡ StepFails put → (m : ℕ) × (t : State) × Leads m (calm program pc w) t put
@@ -90,7 +91,7 @@ module _ (bases sizes : ℕ → ℕ) (layout : IsLayout bases sizes) where
             let none : [] ≡ put = cc in
             (0, calm program pc w, subst (Leads 0 (calm program pc w) (calm program pc w)) none (stays_here (calm program pc w)))
 
-    pub accesses_emit : EmitsRight (List Access) Sign Cells (access_meaning sizes) (access_emission bases) (HoldsCells bases sizes) 8 program entries
+    pub accesses_emit : EmitsRight (List CellAccess) Sign Cells (access_meaning sizes) (access_emission bases) (HoldsCells bases sizes) 8 program entries
     accesses_emit = record {
       most = omega arith;
       proceeds = step_proceeds;
@@ -102,7 +103,7 @@ module _ (bases sizes : ℕ → ℕ) (layout : IsLayout bases sizes) where
     }
 
 -- nothing is asked of labels and entries: they come of the words
-pub accesses_stand : (bases sizes : ℕ → ℕ) (b : Start) (input : Input) (init : List Instr) (bodies : List AccessBody) (main : ℕ) (first : Cells) → AccessProgramStands bases sizes b input init bodies main first → ProgramStands (List Access) Sign Cells (access_meaning sizes) (access_emission bases) (HoldsCells bases sizes) 8 (λ c. wrap16 c.acc) b input (body_of bodies) main first
+pub accesses_stand : (bases sizes : ℕ → ℕ) (b : Start) (input : Input) (init : List Instr) (bodies : List AccessBody) (main : ℕ) (first : Cells) → AccessProgramStands bases sizes b input init bodies main first → ProgramStands (List CellAccess) Sign Cells (access_meaning sizes) (access_emission bases) (HoldsCells bases sizes) 8 (λ c. wrap16 c.acc) b input (body_of bodies) main first
 accesses_stand bases sizes b input init bodies main first h =
     let entries : ℕ → ℕ = access_entries bases init bodies in
     let front : List Instr = startup init (entries main) in
@@ -116,7 +117,7 @@ accesses_stand bases sizes b input init bodies main first h =
       labels = labels_of (function_lines (access_emission bases)) (code_size init + 5) bodies;
       emits = accesses_emit bases sizes h.layout b.program entries;
       values = λ c w held. ap wrap16 held.acc;
-      functions = λ name body is. function_stands b.program entries AccessBody (function_lines (access_emission bases)) (function_marks (List Access) Sign (access_emission bases) (λ s fresh. own_plain fresh (fresh + 0) (accesses_code bases s))) bodies (code_size init + 5) name body rest is;
+      functions = λ name body is. function_stands b.program entries AccessBody (function_lines (access_emission bases)) (function_marks (List CellAccess) Sign (access_emission bases) (λ s fresh. own_plain fresh (fresh + 0) (accesses_code bases s))) bodies (code_size init + 5) name body rest is;
       calms = (there.0, (there.1.0, tt));
       start = 2 + code_size init;
       steps = length init;

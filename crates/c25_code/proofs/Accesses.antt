@@ -12,12 +12,12 @@ use Rattle.c25_isa.specs.State.{Memory, write}
 use Rattle.c25_isa.specs.Step.{wrap16, wrap32, extended, plus, minus, changed, next_arp}
 use Rattle.c25_code.specs.Work.{Work, calm}
 use Rattle.c25_code.specs.Straight.{behind_instr, code_size}
-use Rattle.c25_code.specs.Accesses.{AccessKind, LoadsWord, AddsWord, SubtractsWord, StoresWord, Access, Cells, signed32, with_cell, access_word, access_all, access_instr, next_position, next_register, change_towards, Positions, with_position, aim_register, access_code, accesses_code, IsLayout, HoldsCells, RegistersStand, AreWithin, IsCurrent}
+use Rattle.c25_code.specs.Accesses.{AccessKind, LoadsWord, AddsWord, SubtractsWord, StoresWord, CellAccess, Cells, signed32, with_cell, access_word, access_all, access_instr, next_position, next_register, change_towards, Positions, with_position, aim_register, access_code, accesses_code, IsLayout, HoldsCells, RegistersStand, AreWithin, IsCurrent}
 use Rattle.c25_code.proofs.Writes.{write_same, write_other, write_back}
 use Rattle.c25_code.specs.CodeRuns.{CodeRuns}
 use Rattle.c25_code.proofs.CodeRuns.{runs_on, runs_lead}
-use Rattle.c25_isa.proofs.CodeAt.{CodeAt}
-use Rattle.c25_isa.proofs.Leads.{Leads}
+use Rattle.c25_isa.specs.CodeAt.{CodeAt}
+use Rattle.c25_isa.specs.Leads.{Leads}
 
 -- a register that stands at a position comes to another one
 aim_runs : (base list : ℕ) (at : Option ℕ) (position code_size : ℕ) (w : Work) → w.arp ≡ 2 + list → ((j : ℕ) → at ≡ Some j → (w.ar (2 + list) ≡ base + j) × (j ≤ code_size)) → base + code_size < 65536 → position < code_size → CodeRuns (aim_register base list at position) w (record w { ar = write w.ar (2 + list) (base + position) }) []
@@ -55,7 +55,7 @@ access_runs SubtractsWord i w ram = record { ready = (ram, tt); reaches = refl; 
 access_runs StoresWord i w ram = record { ready = (ram, tt); reaches = refl; outputs = refl }
 
 -- the register that an access makes current is the one that is needed next
-next_current : (rest : List Access) (old arp : ℕ) → arp ≡ next_arp (next_register rest) old → IsCurrent rest arp
+next_current : (rest : List CellAccess) (old arp : ℕ) → arp ≡ next_arp (next_register rest) old → IsCurrent rest arp
 next_current [] old arp e = tt
 next_current (a ∷ rest) old arp e = e
 
@@ -145,7 +145,7 @@ module _ (bases sizes : ℕ → ℕ) (layout : IsLayout bases sizes) where
       let was = stands r j f in
       (ap (λ m. m (2 + r)) is ∙ write_other (write ar (2 + list) x) arp v (2 + r) two ∙ write_other ar (2 + list) x (2 + r) one ∙ was.0, was.1))
 
-  pub access_code_runs : (accesses : List Access) (positions : Positions) (c : Cells) (w : Work) → HoldsCells bases sizes c w → RegistersStand bases sizes positions w → AreWithin sizes accesses → IsCurrent accesses w.arp → (u : Work) × CodeRuns (access_code bases positions accesses) w u [] × HoldsCells bases sizes (access_all accesses c) u × (u.stack ≡ w.stack)
+  pub access_code_runs : (accesses : List CellAccess) (positions : Positions) (c : Cells) (w : Work) → HoldsCells bases sizes c w → RegistersStand bases sizes positions w → AreWithin sizes accesses → IsCurrent accesses w.arp → (u : Work) × CodeRuns (access_code bases positions accesses) w u [] × HoldsCells bases sizes (access_all accesses c) u × (u.stack ≡ w.stack)
   access_code_runs [] positions c w h stands within current = (w, record { ready = tt; reaches = refl; outputs = refl }, h, refl)
   access_code_runs (a ∷ rest) positions c w h stands within current =
       let base : ℕ = bases a.list in
@@ -169,7 +169,7 @@ module _ (bases sizes : ℕ → ℕ) (layout : IsLayout bases sizes) where
       )
 
   -- the code of a run of accesses, from any registers
-  pub accesses_code_run : (accesses : List Access) (c : Cells) (w : Work) → HoldsCells bases sizes c w → AreWithin sizes accesses → (u : Work) × CodeRuns (accesses_code bases accesses) w u [] × HoldsCells bases sizes (access_all accesses c) u × (u.stack ≡ w.stack)
+  pub accesses_code_run : (accesses : List CellAccess) (c : Cells) (w : Work) → HoldsCells bases sizes c w → AreWithin sizes accesses → (u : Work) × CodeRuns (accesses_code bases accesses) w u [] × HoldsCells bases sizes (access_all accesses c) u × (u.stack ≡ w.stack)
   accesses_code_run [] c w h within = (w, record { ready = tt; reaches = refl; outputs = refl }, h, refl)
   accesses_code_run (a ∷ rest) c w h within =
       let i : Indirect = record { change = Stay; next = Some (2 + a.list) } in
@@ -179,7 +179,7 @@ module _ (bases sizes : ℕ → ℕ) (layout : IsLayout bases sizes) where
       (more.0, runs_on (Mar i ∷ []) (access_code bases (λ r. None) (a ∷ rest)) w v more.0 [] [] (record { ready = (tt, tt); reaches = refl; outputs = refl }) more.1, more.2, more.3)
 
   -- on the machine
-  pub run_leads : (program : Memory) (pc : ℕ) (accesses : List Access) (c : Cells) (w : Work) → CodeAt program pc (accesses_code bases accesses) → HoldsCells bases sizes c w → AreWithin sizes accesses → (u : Work) × Leads (length (accesses_code bases accesses)) (calm program pc w) (calm program (pc + code_size (accesses_code bases accesses)) u) [] × HoldsCells bases sizes (access_all accesses c) u
+  pub run_leads : (program : Memory) (pc : ℕ) (accesses : List CellAccess) (c : Cells) (w : Work) → CodeAt program pc (accesses_code bases accesses) → HoldsCells bases sizes c w → AreWithin sizes accesses → (u : Work) × Leads (length (accesses_code bases accesses)) (calm program pc w) (calm program (pc + code_size (accesses_code bases accesses)) u) [] × HoldsCells bases sizes (access_all accesses c) u
   run_leads program pc accesses c w at h within =
       let there = accesses_code_run accesses c w h within in
       (there.0, runs_lead program (accesses_code bases accesses) pc w there.0 [] at there.1, there.2)

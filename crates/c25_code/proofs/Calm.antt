@@ -4,8 +4,9 @@ use Rattle.c25_isa.specs.declared.instruction.Instr.TheVariants.{Rovm, Spm}
 use Rattle.c25_isa.specs.State.{State}
 use Rattle.c25_isa.specs.Step.{Ran, repeats_badly, trap_where}
 use Rattle.c25_isa.specs.declared.trap.TrapKind.TheVariants.{Repeat}
-use Rattle.c25_isa.proofs.CodeAt.{CodeAt}
-use Rattle.c25_isa.proofs.Leads.{Leads, leads_on, ran_leads, runs, onward_pc}
+use Rattle.c25_isa.specs.CodeAt.{CodeAt}
+use Rattle.c25_isa.specs.Leads.{Leads}
+use Rattle.c25_isa.proofs.Leads.{leads_on, ran_leads, runs, onward_pc}
 use Rattle.c25_code.specs.Work.{calm, work_of}
 
 -- from any modes

@@ -8,8 +8,9 @@ use Rattle.word_base.specs.declared.outcome.Ending.{Ending}
 use Rattle.word_base.specs.declared.outcome.Ending.TheVariants.{InputEnded}
 use Rattle.c25_isa.specs.State.{State, Memory}
 use Rattle.c25_isa.specs.Step.{Over, takes, step}
-use Rattle.c25_isa.proofs.CodeAt.{StandsAt, CodeAt}
-use Rattle.c25_isa.proofs.Leads.{Leads, runs}
+use Rattle.c25_isa.specs.CodeAt.{StandsAt, CodeAt}
+use Rattle.c25_isa.specs.Leads.{Leads}
+use Rattle.c25_isa.proofs.Leads.{runs}
 use Rattle.c25_code.specs.Work.{Work, calm}
 use Rattle.c25_code.specs.Straight.{behind_instr, output_of, prepended, behind_code, outputs_of_code, CodeReady, InRam, code_size}
 use Rattle.c25_code.specs.CodeRuns.{CodeRuns, EndsAtInput, RunsInPart}

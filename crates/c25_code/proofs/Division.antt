@@ -8,8 +8,8 @@ use Rattle.c25_isa.specs.declared.operand.Operand.TheVariants.{Direct}
 use Rattle.c25_isa.specs.declared.instruction.Instr.TheVariants.{Subc, Rptk}
 use Rattle.c25_isa.specs.State.{Memory}
 use Rattle.c25_isa.specs.Step.{divided}
-use Rattle.c25_isa.proofs.CodeAt.{CodeAt}
-use Rattle.c25_isa.proofs.Leads.{Leads}
+use Rattle.c25_isa.specs.CodeAt.{CodeAt}
+use Rattle.c25_isa.specs.Leads.{Leads}
 use Rattle.c25_code.specs.Work.{Work, calm}
 use Rattle.c25_code.specs.Straight.{behind_repeats, RepeatsReady}
 use Rattle.word_base.specs.Words.{Good, Bad}

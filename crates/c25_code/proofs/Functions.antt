@@ -2,7 +2,7 @@
 use Rattle.std.proofs.Common.{◌≡◌, ℕ, zero, suc, ◌+◌, List, [], ◌∷◌, Some, refl, ap, subst, arith}
 use Rattle.c25_isa.specs.declared.instruction.Instr.{Instr}
 use Rattle.c25_isa.specs.State.{Memory}
-use Rattle.c25_isa.proofs.CodeAt.{CodeAt}
+use Rattle.c25_isa.specs.CodeAt.{CodeAt}
 use Rattle.c25_code.specs.Straight.{code_size}
 use Rattle.c25_code.specs.Lines.{Line, Plain, JumpTo, CallOf, Mark, lines_size, LinesAt}
 use Rattle.c25_code.specs.Links.{linked, mark_address, MarksDiffer, body_of, entry_of, labels_of, functions_code}

@@ -10,8 +10,9 @@ use Rattle.c25_isa.specs.declared.instruction.Instr.TheVariants.{Idle, Ret, Bran
 use Rattle.c25_isa.specs.declared.trap.TrapKind.TheVariants.{StackFull, StackEmpty}
 use Rattle.c25_isa.specs.State.{Memory}
 use Rattle.c25_isa.specs.Step.{Ran, Over, wrap16, holds, jumps, returns, step, trap_where}
-use Rattle.c25_isa.proofs.CodeAt.{StandsAt}
-use Rattle.c25_isa.proofs.Leads.{Leads, ran_leads, runs, onward_pc}
+use Rattle.c25_isa.specs.CodeAt.{StandsAt}
+use Rattle.c25_isa.specs.Leads.{Leads}
+use Rattle.c25_isa.proofs.Leads.{ran_leads, runs, onward_pc}
 use Rattle.c25_code.specs.Work.{Work, calm}
 use Rattle.c25_code.specs.Straight.{behind_operand, NonEmpty, first_of, rest_of, is_taken, branch_target}
 use Rattle.c25_code.proofs.Rows.{non_empty_is, not_empty}

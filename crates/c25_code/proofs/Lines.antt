@@ -7,8 +7,8 @@ use Rattle.c25_isa.specs.declared.instruction.Instr.{Instr}
 use Rattle.c25_isa.specs.declared.instruction.Instr.TheVariants.{Branch}
 use Rattle.c25_isa.specs.State.{Memory}
 use Rattle.c25_isa.specs.Table.{second_word, length_of}
-use Rattle.c25_isa.proofs.CodeAt.{StandsAt, CodeAt}
-use Rattle.c25_isa.proofs.Leads.{Leads}
+use Rattle.c25_isa.specs.CodeAt.{StandsAt, CodeAt}
+use Rattle.c25_isa.specs.Leads.{Leads}
 use Rattle.c25_code.specs.Work.{Work, calm}
 use Rattle.c25_code.specs.Straight.{behind_operand, is_taken, code_size}
 use Rattle.c25_code.specs.CodeRuns.{CodeRuns}

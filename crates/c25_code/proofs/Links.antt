@@ -8,7 +8,7 @@ use Rattle.c25_isa.specs.declared.instruction.Instr.{Instr}
 use Rattle.c25_isa.specs.declared.instruction.Instr.TheVariants.{Ret}
 use Rattle.c25_isa.specs.State.{Memory}
 use Rattle.c25_isa.specs.Table.{second_word, length_of}
-use Rattle.c25_isa.proofs.CodeAt.{CodeAt}
+use Rattle.c25_isa.specs.CodeAt.{CodeAt}
 use Rattle.c25_code.specs.Lines.{Line, Plain, JumpTo, CallOf, Mark, LinesAt, plain_lines}
 use Rattle.c25_code.specs.Structured.{Structured, End, Act, IfElse, IfLast, Block, Loop, LeaveUnless, Leave, Invoke, Return, Emission, mark_count, structured_lines, function_lines}
 use Rattle.c25_code.specs.Links.{linked, mark_address, IsMarkOf, MarksDiffer, OwnMarks, StepsOwnMarks}

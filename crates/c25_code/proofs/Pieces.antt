@@ -3,7 +3,7 @@ use Rattle.std.proofs.Common.{◌≡◌, ℕ, ◌+◌, List, [], ◌∷◌, ◌+
 use Rattle.c25_isa.specs.declared.instruction.Instr.{Instr}
 use Rattle.c25_isa.specs.State.{Memory}
 use Rattle.c25_isa.specs.Table.{second_word, length_of}
-use Rattle.c25_isa.proofs.CodeAt.{CodeAt}
+use Rattle.c25_isa.specs.CodeAt.{CodeAt}
 use Rattle.c25_code.specs.Straight.{code_size}
 
 pub code_front : (program : Memory) (a b : List Instr) (pc : ℕ) → CodeAt program pc (a ++ b) → CodeAt program pc a

@@ -10,7 +10,8 @@ use Rattle.c25_isa.specs.State.{State, Start}
 use Rattle.c25_isa.specs.Step.{Over}
 use Rattle.c25_isa.specs.MachineRun.{Running, Ended, run_from, reset, machine_run, outputs_reached}
 use Rattle.c25_isa.specs.Agrees.{AgreesAt}
-use Rattle.c25_isa.proofs.Leads.{Leads, leads_on, leads_to_end}
+use Rattle.c25_isa.specs.Leads.{Leads}
+use Rattle.c25_isa.proofs.Leads.{leads_on, leads_to_end}
 use Rattle.c25_code.specs.Work.{Work, calm}
 use Rattle.c25_code.specs.Structured.{Structured, Meaning, Emission, Result, Completes, Leaves, Returns, Ends, Fails, Unfinished, out_of_function, where_defined, execute, call_function}
 use Rattle.c25_code.specs.Arrivals.{Meets}

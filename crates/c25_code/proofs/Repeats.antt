@@ -10,8 +10,10 @@ use Rattle.c25_isa.specs.declared.trap.TrapKind.TheVariants.{Divide, NoRam}
 use Rattle.c25_isa.specs.State.{State, Memory}
 use Rattle.c25_isa.specs.Table.{second_word, length_of}
 use Rattle.c25_isa.specs.Step.{Ran, address, can_repeat, wrap16, effect, step, trap_of, trap_where, unless_trapped, repeated, ran_once}
-use Rattle.c25_isa.proofs.CodeAt.{StandsAt, CodeAt, step_at}
-use Rattle.c25_isa.proofs.Leads.{Leads, leads_on, ran_leads, runs, onward_pc}
+use Rattle.c25_isa.specs.CodeAt.{StandsAt, CodeAt}
+use Rattle.c25_isa.proofs.CodeAt.{step_at}
+use Rattle.c25_isa.specs.Leads.{Leads}
+use Rattle.c25_isa.proofs.Leads.{leads_on, ran_leads, runs, onward_pc}
 use Rattle.c25_code.specs.Work.{Work, calm}
 use Rattle.c25_code.specs.Straight.{InRam, behind_instr, operand_word, InstrReady, behind_repeats, RepeatsReady}
 use Rattle.c25_code.specs.Repeats.{RepeatLeads}

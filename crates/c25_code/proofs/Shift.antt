@@ -6,8 +6,9 @@ use Rattle.std.proofs.Math.Nat.{div-le_self}
 use Rattle.word_base.specs.Words.{Good, Bad, int_shift_right}
 use Rattle.word_base.specs.declared.outcome.UndefinedKind.TheVariants.{ShiftCount}
 use Rattle.c25_isa.specs.State.{Memory}
-use Rattle.c25_isa.proofs.CodeAt.{CodeAt}
-use Rattle.c25_isa.proofs.Leads.{Leads, leads_on}
+use Rattle.c25_isa.specs.CodeAt.{CodeAt}
+use Rattle.c25_isa.specs.Leads.{Leads}
+use Rattle.c25_isa.proofs.Leads.{leads_on}
 use Rattle.c25_code.proofs.Straight.{code_leads}
 use Rattle.c25_code.proofs.Pieces.{code_front, code_back}
 use Rattle.c25_code.proofs.Jumps.{return_leads}

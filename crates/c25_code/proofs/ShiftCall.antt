@@ -5,8 +5,9 @@ use Rattle.c25_isa.specs.declared.instruction.Instr.{Instr}
 use Rattle.c25_isa.specs.declared.instruction.Instr.TheVariants.{Call}
 use Rattle.c25_isa.specs.State.{Memory}
 use Rattle.c25_isa.specs.Step.{wrap16}
-use Rattle.c25_isa.proofs.CodeAt.{StandsAt, CodeAt}
-use Rattle.c25_isa.proofs.Leads.{Leads, leads_on}
+use Rattle.c25_isa.specs.CodeAt.{StandsAt, CodeAt}
+use Rattle.c25_isa.specs.Leads.{Leads}
+use Rattle.c25_isa.proofs.Leads.{leads_on}
 use Rattle.c25_code.specs.Work.{Work, calm}
 use Rattle.c25_code.specs.Lines.{no_change}
 use Rattle.c25_code.specs.Routines.{shift_routine, ShiftKeeps, ShiftsWhereCalled}

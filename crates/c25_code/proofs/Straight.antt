@@ -6,8 +6,9 @@ use Rattle.c25_isa.specs.State.{State, Memory}
 use Rattle.c25_isa.specs.Table.{second_word, length_of}
 use Rattle.c25_isa.specs.Step.{step}
 use Rattle.c25_isa.specs.MachineRun.{run_from}
-use Rattle.c25_isa.proofs.CodeAt.{StandsAt, CodeAt}
-use Rattle.c25_isa.proofs.Leads.{Leads, leads_on, ran_leads, put_leads, runs, onward_pc}
+use Rattle.c25_isa.specs.CodeAt.{StandsAt, CodeAt}
+use Rattle.c25_isa.specs.Leads.{Leads}
+use Rattle.c25_isa.proofs.Leads.{leads_on, ran_leads, put_leads, runs, onward_pc}
 use Rattle.c25_code.specs.Work.{Work, calm}
 use Rattle.c25_code.specs.Straight.{behind_instr, output_of, InstrReady, behind_code, outputs_of_code, CodeReady, code_size, prepended}
 use Rattle.c25_code.proofs.Rows.{event_of, no_trap, row}

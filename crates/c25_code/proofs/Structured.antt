@@ -5,8 +5,9 @@ use Rattle.word_base.specs.Ports.{Outputs}
 use Rattle.c25_isa.specs.declared.instruction.JumpOp.TheVariants.{B}
 use Rattle.c25_isa.specs.declared.instruction.Instr.TheVariants.{Ret, Branch, Call}
 use Rattle.c25_isa.specs.State.{State, Memory}
-use Rattle.c25_isa.proofs.CodeAt.{StandsAt}
-use Rattle.c25_isa.proofs.Leads.{Leads, leads_on}
+use Rattle.c25_isa.specs.CodeAt.{StandsAt}
+use Rattle.c25_isa.specs.Leads.{Leads}
+use Rattle.c25_isa.proofs.Leads.{leads_on}
 use Rattle.c25_code.specs.Work.{Work, calm}
 use Rattle.c25_code.specs.Straight.{is_taken, NonEmpty, first_of, rest_of}
 use Rattle.c25_code.specs.Lines.{Line, Plain, JumpTo, Mark, no_change, lines_size, LinesAt}

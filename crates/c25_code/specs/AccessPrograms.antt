@@ -15,7 +15,7 @@ use Rattle.c25_code.specs.Lines.{plain_lines}
 use Rattle.c25_code.specs.Structured.{StepOutcome, StepProceeds, StepFails, Structured, Meaning, Emission, function_lines}
 use Rattle.c25_code.specs.Links.{entry_of, functions_code}
 use Rattle.c25_code.specs.Programs.{startup}
-use Rattle.c25_code.specs.Accesses.{Access, Cells, access_all, accesses_code, IsLayout, HoldsCells}
+use Rattle.c25_code.specs.Accesses.{CellAccess, Cells, access_all, accesses_code, IsLayout, HoldsCells}
 
 -- how ACC as a signed number stands to zero
 pub data Sign : Type 0 where
@@ -47,23 +47,23 @@ branch_unless Zero = Bnz
 abbrev pub sign_test : Sign → Cells → Bool
 sign_test sign c = is_taken (branch_where sign) c.acc
 
-abbrev pub all_within : (ℕ → ℕ) → List Access → Bool
+abbrev pub all_within : (ℕ → ℕ) → List CellAccess → Bool
 all_within sizes [] = true
 all_within sizes (a ∷ rest) = nat_lt a.position (sizes a.list) && all_within sizes rest
 
 -- accesses outside the lists are undefined
-abbrev pub accesses_step : (ℕ → ℕ) → List Access → Cells → StepOutcome Cells
+abbrev pub accesses_step : (ℕ → ℕ) → List CellAccess → Cells → StepOutcome Cells
 accesses_step sizes accesses c = if all_within sizes accesses then StepProceeds (access_all accesses c) [] else StepFails []
 
 -- calls keep the cells as they are
-abbrev pub access_meaning : (ℕ → ℕ) → Meaning (List Access) Sign Cells
+abbrev pub access_meaning : (ℕ → ℕ) → Meaning (List CellAccess) Sign Cells
 access_meaning sizes = record { act = accesses_step sizes; test = sign_test; enter = λ name c. c; leave = λ c. c }
 
-abbrev pub access_emission : (ℕ → ℕ) → Emission (List Access) Sign
+abbrev pub access_emission : (ℕ → ℕ) → Emission (List CellAccess) Sign
 access_emission bases = record { code = λ accesses fresh. plain_lines (accesses_code bases accesses); own = λ accesses. 0; unless = branch_unless }
 
 abbrev pub AccessBody : Type 0
-AccessBody = Structured (List Access) Sign
+AccessBody = Structured (List CellAccess) Sign
 
 -- where the functions stand behind a startup
 abbrev pub access_entries : (ℕ → ℕ) → List Instr → List AccessBody → ℕ → ℕ

@@ -18,7 +18,7 @@ pub data AccessKind : Type 0 where
   StoresWord : AccessKind
 
 -- an access to a word of a list
-pub record Access : Type 0 where
+pub record CellAccess : Type 0 where
   pub kind : AccessKind
   pub list : ℕ
   pub position : ℕ
@@ -41,7 +41,7 @@ access_word AddsWord list position c = record c { acc = plus c.acc (signed32 (c.
 access_word SubtractsWord list position c = record c { acc = minus c.acc (signed32 (c.cell list position)) }
 access_word StoresWord list position c = record c { cell = with_cell c.cell list position (wrap16 (c.acc * 2 ^ 0)) }
 
-abbrev pub access_all : List Access → Cells → Cells
+abbrev pub access_all : List CellAccess → Cells → Cells
 access_all [] c = c
 access_all (a ∷ rest) c = access_all rest (access_word a.kind a.list a.position c)
 
@@ -52,12 +52,12 @@ access_instr SubtractsWord o = Sub 0 o
 access_instr StoresWord o = Sacl 0 o
 
 -- where a list is accessed next
-abbrev pub next_position : ℕ → List Access → Option ℕ
+abbrev pub next_position : ℕ → List CellAccess → Option ℕ
 next_position list [] = None
 next_position list (a ∷ rest) = if a.list == list then Some a.position else next_position list rest
 
 -- the register that is needed next
-abbrev pub next_register : List Access → Option ℕ
+abbrev pub next_register : List CellAccess → Option ℕ
 next_register [] = None
 next_register (a ∷ rest) = Some (2 + a.list)
 
@@ -80,7 +80,7 @@ aim_register base list None position = Lrlk (2 + list) (base + position) ∷ []
 aim_register base list (Some at) position =
     if at == position then [] else (if nat_lt at position then Adrk (position - at) ∷ [] else Sbrk (at - position) ∷ [])
 
-abbrev pub access_code : (ℕ → ℕ) → Positions → List Access → List Instr
+abbrev pub access_code : (ℕ → ℕ) → Positions → List CellAccess → List Instr
 access_code bases positions [] = []
 access_code bases positions (a ∷ rest) =
     aim_register (bases a.list) a.list (positions a.list) a.position
@@ -88,7 +88,7 @@ access_code bases positions (a ∷ rest) =
     ∷ access_code bases (with_position positions a.list (change_towards a.position (next_position a.list rest)).1) rest
 
 -- with the register that is needed first
-abbrev pub accesses_code : (ℕ → ℕ) → List Access → List Instr
+abbrev pub accesses_code : (ℕ → ℕ) → List CellAccess → List Instr
 accesses_code bases [] = []
 accesses_code bases (a ∷ rest) = Mar (record { change = Stay; next = Some (2 + a.list) }) ∷ access_code bases (λ r. None) (a ∷ rest)
 
@@ -108,11 +108,11 @@ pub record HoldsCells (bases sizes : ℕ → ℕ) (c : Cells) (w : Work) : Type 
 pub record RegistersStand (bases sizes : ℕ → ℕ) (positions : Positions) (w : Work) : Type 0 where
   pub position : (r j : ℕ) → positions r ≡ Some j → (w.ar (2 + r) ≡ bases r + j) × (j ≤ sizes r)
 
-abbrev pub AreWithin : (ℕ → ℕ) → List Access → Type 0
+abbrev pub AreWithin : (ℕ → ℕ) → List CellAccess → Type 0
 AreWithin sizes [] = Unit {0}
 AreWithin sizes (a ∷ rest) = (a.position < sizes a.list) × AreWithin sizes rest
 
 -- the register that is current is the one that is needed
-abbrev pub IsCurrent : List Access → ℕ → Type 0
+abbrev pub IsCurrent : List CellAccess → ℕ → Type 0
 IsCurrent [] arp = Unit {0}
 IsCurrent (a ∷ rest) arp = arp ≡ 2 + a.list

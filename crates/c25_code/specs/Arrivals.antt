@@ -5,8 +5,8 @@ use Rattle.word_base.specs.Ports.{Outputs}
 use Rattle.c25_isa.specs.declared.instruction.Instr.TheVariants.{Call}
 use Rattle.c25_isa.specs.State.{State, Memory}
 use Rattle.c25_isa.specs.Step.{Over, step}
-use Rattle.c25_isa.proofs.CodeAt.{StandsAt}
-use Rattle.c25_isa.proofs.Leads.{Leads}
+use Rattle.c25_isa.specs.CodeAt.{StandsAt}
+use Rattle.c25_isa.specs.Leads.{Leads}
 use Rattle.c25_code.specs.Work.{Work, calm}
 use Rattle.c25_code.specs.Straight.{first_of, rest_of, is_taken}
 use Rattle.c25_code.specs.Lines.{no_change, lines_size, LinesAt}

@@ -7,7 +7,7 @@ use Rattle.c25_isa.specs.declared.instruction.Instr.{Instr}
 use Rattle.c25_isa.specs.declared.instruction.Instr.TheVariants.{Branch, Call}
 use Rattle.c25_isa.specs.State.{Memory}
 use Rattle.c25_isa.specs.Table.{second_word, length_of}
-use Rattle.c25_isa.proofs.CodeAt.{StandsAt}
+use Rattle.c25_isa.specs.CodeAt.{StandsAt}
 
 -- an instruction, a jump to a mark, a call of a function by its number, or the place of a mark
 pub data Line : Type 0 where

@@ -10,8 +10,8 @@ use Rattle.c25_isa.specs.declared.instruction.Instr.TheVariants.{Rovm, Spm, Idle
 use Rattle.c25_isa.specs.State.{Start}
 use Rattle.c25_isa.specs.Step.{wrap16}
 use Rattle.c25_isa.specs.MachineRun.{Reached, Running, Ended, Stopped, reset, machine_run, outputs_reached}
-use Rattle.c25_isa.proofs.CodeAt.{CodeAt}
-use Rattle.c25_isa.proofs.Leads.{Leads}
+use Rattle.c25_isa.specs.CodeAt.{CodeAt}
+use Rattle.c25_isa.specs.Leads.{Leads}
 use Rattle.c25_code.specs.Work.{Work, calm, work_of}
 use Rattle.c25_code.specs.Lines.{no_change}
 use Rattle.c25_code.specs.Structured.{Structured, Meaning, Emission, Result, Completes, Leaves, Returns, Ends, Fails, Unfinished}

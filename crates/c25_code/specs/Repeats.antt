@@ -4,8 +4,8 @@ use Rattle.c25_isa.specs.declared.instruction.Instr.{Instr}
 use Rattle.c25_isa.specs.declared.instruction.Instr.TheVariants.{Rptk}
 use Rattle.c25_isa.specs.State.{Memory}
 use Rattle.c25_isa.specs.Step.{can_repeat}
-use Rattle.c25_isa.proofs.CodeAt.{CodeAt}
-use Rattle.c25_isa.proofs.Leads.{Leads}
+use Rattle.c25_isa.specs.CodeAt.{CodeAt}
+use Rattle.c25_isa.specs.Leads.{Leads}
 use Rattle.c25_code.specs.Work.{Work, calm}
 use Rattle.c25_code.specs.Straight.{behind_repeats, RepeatsReady}
 

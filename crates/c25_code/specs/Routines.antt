@@ -7,8 +7,8 @@ use Rattle.c25_isa.specs.declared.instruction.Instr.{Instr}
 use Rattle.c25_isa.specs.declared.instruction.Instr.TheVariants.{Sub, Subc, Lac, Lt, Lact, Sacl, Sach, Ldpk, Lack, Rptk, Ssxm, Ret, Call}
 use Rattle.c25_isa.specs.State.{Memory}
 use Rattle.c25_isa.specs.Step.{wrap16}
-use Rattle.c25_isa.proofs.CodeAt.{StandsAt, CodeAt}
-use Rattle.c25_isa.proofs.Leads.{Leads}
+use Rattle.c25_isa.specs.CodeAt.{StandsAt, CodeAt}
+use Rattle.c25_isa.specs.Leads.{Leads}
 use Rattle.c25_code.specs.Work.{Work, calm}
 use Rattle.c25_code.specs.Straight.{NonEmpty, first_of, rest_of}
 use Rattle.c25_code.specs.Lines.{no_change}

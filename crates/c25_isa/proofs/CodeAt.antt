@@ -1,28 +1,13 @@
 -- Instructions that stand in program memory.
-use Rattle.std.proofs.Common.{◌≡◌, ℕ, suc, ◌+◌, ◌<◌, List, [], ◌∷◌, ◌++◌, length, get_or, Option, Some, None, sym, ap, ◌∙◌, subst, arith}
+use Rattle.std.proofs.Common.{◌≡◌, ℕ, suc, ◌+◌, ◌<◌, List, [], ◌∷◌, ◌++◌, length, Option, Some, None, sym, ap, ◌∙◌, subst, arith}
 use Rattle.std.specs.List.{AllByRecursion}
 use Rattle.c25_isa.specs.declared.instruction.Instr.{Instr}
 use Rattle.c25_isa.specs.State.{State, Memory, Start, BeginsWith}
 use Rattle.c25_isa.specs.Table.{IsInstr, first_word, second_word, with_second, length_of, code_words}
 use Rattle.c25_isa.specs.Step.{wrap16, perform, step}
 use Rattle.c25_isa.specs.Decode.{decode}
-use Rattle.c25_isa.proofs.Decoding.{Follows, decode-first_word}
-
--- these words stand from an address on
-abbrev pub WordsAt : Memory → ℕ → List ℕ → Type 0
-WordsAt program pc words = (a : ℕ) → a < length words → program (pc + a) ≡ get_or words a 0
-
--- the words of an instruction stand at an address, and PC doesn't wrap behind it
-pub record StandsAt (program : Memory) (pc : ℕ) (i : Instr) : Type 0 where
-  pub fits : IsInstr i
-  pub first : program pc ≡ first_word i
-  pub second : Follows (second_word i) (program (pc + 1))
-  pub room : pc + length_of (second_word i) < 65536
-
--- the instructions stand one behind another
-abbrev pub CodeAt : Memory → ℕ → List Instr → Type 0
-CodeAt program pc [] = Unit {0}
-CodeAt program pc (i ∷ is) = StandsAt program pc i × CodeAt program (pc + length_of (second_word i)) is
+use Rattle.c25_isa.specs.CodeAt.{Follows, WordsAt, StandsAt, CodeAt}
+use Rattle.c25_isa.proofs.Decoding.{decode-first_word}
 
 head_at : (program : Memory) (pc w : ℕ) (ws : List ℕ) → WordsAt program pc (w ∷ ws) → program pc ≡ w
 head_at program pc w ws at = let e : pc ≡ pc + 0 = omega arith in ap program e ∙ at 0 (omega arith)

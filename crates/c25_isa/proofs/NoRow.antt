@@ -7,7 +7,8 @@ use Rattle.c25_isa.specs.declared.instruction.Instr.{Instr}
 use Rattle.c25_isa.specs.declared.instruction.Instr.TheVariants.{Branch, Call}
 use Rattle.c25_isa.specs.Table.{IsInstr, first_word, second_word, length_of}
 use Rattle.c25_isa.specs.Decode.{Decoded, two_words, with_target, indirect_of, decode_d, jump_of, decode_jump, decode_f, decode_parts, decode}
-use Rattle.c25_isa.proofs.Decoding.{Follows, decode-first_word}
+use Rattle.c25_isa.specs.CodeAt.{Follows}
+use Rattle.c25_isa.proofs.Decoding.{decode-first_word}
 
 -- both are something, or neither is
 record Alike (a b : Decoded) : Type 0 where

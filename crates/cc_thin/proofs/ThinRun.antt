@@ -13,8 +13,10 @@ use Rattle.c25_isa.specs.State.{State, Start, BeginsWith, write}
 use Rattle.c25_isa.specs.Step.{Over, wrap16, wrap32, extended, step}
 use Rattle.c25_isa.specs.MachineRun.{Ended, reset, machine_run}
 use Rattle.c25_isa.specs.Agrees.{Agrees}
-use Rattle.c25_isa.proofs.CodeAt.{CodeAt, code_at_reset}
-use Rattle.c25_isa.proofs.Leads.{Leads, leads_on, leads_to_end, ldpk_leads, lalk_leads, sacl_leads, out_leads, idle_ends, low_half, low_half_stored}
+use Rattle.c25_isa.specs.CodeAt.{CodeAt}
+use Rattle.c25_isa.proofs.CodeAt.{code_at_reset}
+use Rattle.c25_isa.specs.Leads.{Leads}
+use Rattle.c25_isa.proofs.Leads.{leads_on, leads_to_end, ldpk_leads, lalk_leads, sacl_leads, out_leads, idle_ends, low_half, low_half_stored}
 use Rattle.c25_isa.specs.Image.{IsRange}
 use Rattle.cc_thin.specs.Thin.{IsThinNumbers, ThinShape, thin_program, thin_code}
 

@@ -15,7 +15,7 @@ use Rattle.c25_code.specs.Straight.{behind_code, CodeReady}
 use Rattle.c25_code.specs.Structured.{call_function}
 use Rattle.c25_code.specs.Links.{body_of}
 use Rattle.c25_code.specs.Programs.{MeetsFromReset, IsOutcomeOf}
-use Rattle.c25_code.specs.Accesses.{Access, Cells, IsLayout, HoldsCells}
+use Rattle.c25_code.specs.Accesses.{CellAccess, Cells, IsLayout, HoldsCells}
 use Rattle.c25_code.specs.AccessPrograms.{Sign, access_meaning, access_emission, access_program, AccessProgramStands}
 use Rattle.c25_code.proofs.Programs.{program_meets, program_agrees}
 use Rattle.c25_code.proofs.AccessPrograms.{accesses_stand}
@@ -86,7 +86,7 @@ module _ (board : Start) (input : Input) (begins : BeginsWith (code_words code) 
   -- whatever the number of turns
   meets : (n : ℕ) → MeetsFromReset (λ c. wrap16 c.acc) board input n (call_function (access_meaning sizes) (body_of (adds_up ∷ [])) n 8 0 first)
   meets n =
-      program_meets (List Access) Sign Cells (access_meaning sizes) (access_emission places) (HoldsCells places sizes) 8 (λ c. wrap16 c.acc) board input (body_of (adds_up ∷ [])) 0 first
+      program_meets (List CellAccess) Sign Cells (access_meaning sizes) (access_emission places) (HoldsCells places sizes) 8 (λ c. wrap16 c.acc) board input (body_of (adds_up ∷ [])) 0 first
       (accesses_stand places sizes board input set_up (adds_up ∷ []) 0 first stands) n
 
   -- so the machine returns the sum, by the law alone
@@ -102,7 +102,7 @@ module _ (board : Start) (input : Input) (begins : BeginsWith (code_words code) 
 
   agrees_here : AgreesAt source_run board input
   agrees_here =
-      program_agrees (List Access) Sign Cells (access_meaning sizes) (access_emission places) (HoldsCells places sizes) 8 (λ c. wrap16 c.acc) board input (body_of (adds_up ∷ [])) 0 first
+      program_agrees (List CellAccess) Sign Cells (access_meaning sizes) (access_emission places) (HoldsCells places sizes) 8 (λ c. wrap16 c.acc) board input (body_of (adds_up ∷ [])) 0 first
       (accesses_stand places sizes board input set_up (adds_up ∷ []) 0 first stands) source_run outcomes
 
 -- from every start
