@@ -32,7 +32,7 @@ low32-lt (negsuc n) = omega arith
 high-lt : (n : ℕ) → wrap32 n / 65536 < 2 ^ 16
 high-lt n = omega arith
 
-cond_lt : (b : Bool) (x y n : ℕ) → x < n → y < n → cond b x y < n
+pub cond_lt : (b : Bool) (x y n : ℕ) → x < n → y < n → cond b x y < n
 cond_lt true x y n f g = f
 cond_lt false x y n f g = g
 

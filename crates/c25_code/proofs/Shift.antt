@@ -1,5 +1,5 @@
 -- The routine that shifts a signed word to the right does so.
-use Rattle.std.proofs.Common.{◌≡◌, ℕ, ◌+◌, ◌-◌, ◌*◌, ◌/◌, ◌%◌, ◌^◌, ◌<◌, ◌≤◌, Bool, true, false, List, [], ◌∷◌, refl, sym, ap, ◌∙◌, subst, cond, arith, ⊎_elim}
+use Rattle.std.proofs.Common.{◌≡◌, ℕ, ◌+◌, ◌-◌, ◌*◌, ◌/◌, ◌%◌, ◌^◌, ◌<◌, ◌≤◌, true, List, [], ◌∷◌, refl, sym, ap, ◌∙◌, subst, cond, arith, ⊎_elim}
 use Rattle.std.specs.Prelude.{nat_lt}
 use Rattle.std.proofs.lemmas.Bool.{lt-ltb, le-ltb, cases_lt}
 use Rattle.std.proofs.Math.Nat.{div-le_self}
@@ -9,6 +9,7 @@ use Rattle.c25_isa.specs.State.{Memory}
 use Rattle.c25_isa.specs.CodeAt.{CodeAt}
 use Rattle.c25_isa.specs.Leads.{Leads}
 use Rattle.c25_isa.proofs.Leads.{leads_on}
+use Rattle.c25_code.proofs.Ranges.{cond_lt}
 use Rattle.c25_code.proofs.Straight.{code_leads}
 use Rattle.c25_code.proofs.Pieces.{code_front, code_back}
 use Rattle.c25_code.proofs.Jumps.{return_leads}
@@ -90,12 +91,8 @@ moves_15 = by_sign 15 (λ v lt. omega arith) (λ v le lt. omega arith)
 moves : (count : ℕ) → count < 16 → Moves count
 moves = at_below Moves 16 ((((((((((((((((tt, moves_0), moves_1), moves_2), moves_3), moves_4), moves_5), moves_6), moves_7), moves_8), moves_9), moves_10), moves_11), moves_12), moves_13), moves_14), moves_15)
 
-cond_below : (b : Bool) (x y n : ℕ) → x < n → y < n → cond b x y < n
-cond_below true x y n f g = f
-cond_below false x y n f g = g
-
 signed_shift-fits : (v count : ℕ) → v < 65536 → signed_shift v count < 65536
-signed_shift-fits v count lt = cond_below (nat_lt v 32768) _ _ 65536 (omega (arith, div-le_self v (2 ^ count))) (omega arith)
+signed_shift-fits v count lt = cond_lt (nat_lt v 32768) _ _ 65536 (omega (arith, div-le_self v (2 ^ count))) (omega arith)
 
 -- the code may run from any work
 pub shift_ready : (w : Work) → CodeReady shift_body w
