@@ -1,0 +1,56 @@
+-- Worlds for which the definitions of commands are decided by hand, from docs/COMMANDS.md.
+use Rattle.std.proofs.Common.{◌≡◌, ◌≢◌, ◌++◌, ℕ, true, List, [], ◌∷◌, Some, None, codes, refl, sym, ap, ◌∙◌, arith}
+use Rattle.cc_shelf.specs.Stock.{Stock, Fetch}
+use Rattle.cc_shelf.specs.Output.{Output}
+use Rattle.cc_words.specs.Asked.{ToBuild, ToRun}
+use Rattle.cc_text.specs.declared.refusal.FileFault.{FileFault}
+use Rattle.cc_text.specs.declared.refusal.FileFault.TheVariants.{Read}
+use Rattle.cc_text.specs.Refusals.{OfFile}
+use Rattle.cc_driver.specs.World.{Shelves, shelves, sinks}
+use Rattle.cc_driver.specs.Puts.{PutsLine, LinePut, Whole, Part, Nothing}
+use Rattle.cc_driver.specs.Fetches.{Wanted, AreFetched, FileRefused}
+use Rattle.cc_driver.specs.Build.{source_file}
+use Rattle.cc_driver.specs.Run.{image_file, ports_file}
+use Rattle.cc_driver.specs.Commands.{files_of}
+use Rattle.cc_driver.specs.Answers.{IsWrong, ToFile, NoFile}
+
+-- a shelf that tells no file, behind these fetches, of which so many failed
+abbrev empty : List Fetch → ℕ → Stock
+empty fetched faults = record { files = λ n. None; fetched = fetched; counts = record { fetch_faults = faults; store_faults = 0; bytes_read = 0 } }
+
+-- a build of a source that isn't there is to end with 3
+absent_source : IsWrong (ToBuild (codes "a.c") (codes "a.img")) (shelves true (empty [] 0) (empty [] 0)) 3
+absent_source = ToFile [] (source_file (codes "a.c")) [] refl (tt {0}) (NoFile refl refl)
+
+name_same : (a b : List ℕ) (f g : FileFault) → OfFile a f ≡ OfFile b g → a ≡ b
+name_same a b f g e = cc
+
+-- where the image of a run isn't there, or its fetch failed, the ports can't be named, whatever was fetched
+ports_not_named : (image ports : List ℕ) → image ≢ ports → (fetched : List Fetch) (faults : ℕ) → FileRefused (shelves true (empty [] 0) (empty fetched faults)) (files_of (ToRun image ports 1)) (OfFile ports Read) → ⊥
+ports_not_named image ports differ fetched faults r = go r.before r.parts r.fetched
+  where
+    shelf : Shelves
+    shelf = shelves true (empty [] 0) (empty fetched faults)
+
+    go : (before : List Wanted) → image_file image ∷ ports_file ports ∷ [] ≡ before ++ r.last ∷ r.behind → AreFetched shelf before → ⊥
+    go [] parts none =
+        let last : image_file image ≡ r.last = cc in
+        differ (ap (λ w. w.name) last ∙ sym (name_same ports r.last.name Read r.fault r.named))
+    go (x ∷ xs) parts told =
+        let e : None ≡ Some told.0.0 = told.0.1.told refl in
+        cc
+
+-- a put of nothing isn't a line: no byte came, no put failed, and no want of memory was counted
+abbrev before : Output
+before = record { bytes = []; calls = 0; faults = 0; wants = 0 }
+
+abbrev behind : Output
+behind = record { bytes = []; calls = 1; faults = 0; wants = 0 }
+
+not_a_line : PutsLine (codes "words refused\n") (sinks true before behind) → ⊥
+not_a_line p = go (p.put refl)
+  where
+    go : LinePut (codes "words refused\n") before behind → ⊥
+    go (Whole e same) = cc
+    go (Part rose n e) = omega (arith, rose)
+    go (Nothing e same rose) = omega (arith, rose)
