@@ -2,3 +2,4 @@ pub mod Name
 pub mod Words
 pub mod Ports
 pub mod Outcome
+pub mod Keeps
