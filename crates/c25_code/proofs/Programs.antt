@@ -123,9 +123,9 @@ module _ (S T A : Type 0) (m : Meaning S T A) (e : Emission S T) (Rel : A → Wo
   more_by n (Returns a p) o outs is h f = absurd is
 
   -- so its words agree with each source whose outcomes are its results
-  pub program_agrees : (run : ℕ → Outcome) → ((n : ℕ) → IsOutcomeOf value (result n) (run n)) → AgreesAt run b input
+  pub program_agrees : (run : ℕ → Outcome) → ((n : ℕ) → IsOutcomeOf value (result n) (run n)) → AgreesAt run (machine_run b input)
   program_agrees run outcomes = record {
-    ends = λ n outs ending f. ended_by n (result n) (run n) outs ending (outcomes n) (program_meets n) f;
-    undefined = λ n outs kind at f. undefined_by n (result n) (run n) outs kind at (outcomes n) (program_meets n) f;
-    goes_on = λ n outs f. more_by n (result n) (run n) outs (outcomes n) (program_meets n) f;
+    ends = record { by = λ n outs ending f. let there' = ended_by n (result n) (run n) outs ending (outcomes n) (program_meets n) f in (there'.0, tt, there'.1) };
+    undefined = record { by = λ n outs kind at f. undefined_by n (result n) (run n) outs kind at (outcomes n) (program_meets n) f };
+    goes_on = record { by = λ n outs f. more_by n (result n) (run n) outs (outcomes n) (program_meets n) f };
   }

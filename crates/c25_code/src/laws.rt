@@ -100,7 +100,7 @@ pub fn programs_agree<S, T, A, R>()
     ensures agrees { (m : Meaning S T A) (e : Emission S T) (pairs : R → A × Work) (limit : ℕ) (value : A → ℕ) (b : Start) (input : Input) (bodies : ℕ → Option (Structured S T)) (main : ℕ) (first : A) (run : ℕ → Outcome)
         → ProgramStands S T A m e (Related pairs) limit value b input bodies main first
         → ((n : ℕ) → IsOutcomeOf value (call_function m bodies n limit main first) (run n))
-        → AgreesAt run b input }
+        → AgreesAt run (machine_run b input) }
 {}
 
 /// Programs over accesses to lists do from a reset what they mean, by their words alone.
@@ -108,5 +108,5 @@ pub fn access_programs_agree()
     ensures agrees { (bases sizes : ℕ → ℕ) (b : Start) (input : Input) (init : List Instr) (bodies : List AccessBody) (main : ℕ) (first : Cells) (run : ℕ → Outcome)
         → AccessProgramStands bases sizes b input init bodies main first
         → ((n : ℕ) → IsOutcomeOf (λ c. wrap16 c.acc) (call_function (access_meaning sizes) (body_of bodies) n 8 main first) (run n))
-        → AgreesAt run b input }
+        → AgreesAt run (machine_run b input) }
 {}

@@ -90,9 +90,9 @@ module _ (s : Start) (input : Input) (port c d : ℕ) (port_lt : port < 16) (c_l
 
 pub thin_agrees : (shape : ThinShape) (port word answer : ℕ) → IsThinNumbers port word answer → Agrees (source_run (thin_program shape port word answer)) (code_words (thin_code port word answer))
 thin_agrees shape port word answer h s input ok begins fits = record {
-  ends = λ n outs ending e. (6, code_runs s input port word answer h.port_fits h.word_fits h.answer_fits begins ∙ (cc));
-  undefined = λ n outs kind place e. cc;
-  goes_on = λ n outs e. cc;
+  ends = record { by = λ n outs ending e. (6, tt, code_runs s input port word answer h.port_fits h.word_fits h.answer_fits begins ∙ (cc)) };
+  undefined = record { by = λ n outs kind place e. cc };
+  goes_on = record { by = λ n outs e. cc };
 }
 
 -- `main` may be all of some words

@@ -100,7 +100,7 @@ module _ (board : Start) (input : Input) (begins : BeginsWith (code_words code) 
   outcomes (suc (suc (suc zero))) = refl
   outcomes (suc (suc (suc (suc n)))) = refl
 
-  agrees_here : AgreesAt source_run board input
+  agrees_here : AgreesAt source_run (machine_run board input)
   agrees_here =
       program_agrees (List CellAccess) Sign Cells (access_meaning sizes) (access_emission places) (HoldsCells places sizes) 8 (λ c. wrap16 c.acc) board input (body_of (adds_up ∷ [])) 0 first
       (accesses_stand places sizes board input set_up (adds_up ∷ []) 0 first stands) source_run outcomes

@@ -1,0 +1,83 @@
+-- Code before it is linked (docs/MACHINE.md, "Pieces"): how many words its items take, where its marks are, its instructions once marks and
+-- names have addresses, and pieces one behind another in an image.
+use Rattle.std.specs.Prelude.{◌≡◌, ℕ, ◌+◌, ◌-◌, Bool, true, false, ◌==◌, if◌then◌else◌, List, [], ◌∷◌, ◌++◌, flat_map}
+use Rattle.std.specs.Str.{bytes_eq}
+use Rattle.c25_isa.specs.declared.instruction.Instr.{Instr}
+use Rattle.c25_isa.specs.declared.instruction.Instr.TheVariants.{Branch, Call}
+use Rattle.c25_isa.specs.declared.piece.Piece.{Piece}
+use Rattle.c25_isa.specs.declared.piece.PieceItem.{PieceItem}
+use Rattle.c25_isa.specs.declared.piece.PieceItem.TheVariants.{Do, Mark, Jump, CallTo}
+use Rattle.c25_isa.specs.declared.image.FunctionRange.{FunctionRange}
+use Rattle.c25_isa.specs.State.{Memory}
+use Rattle.c25_isa.specs.Table.{second_word, length_of, code_words}
+use Rattle.c25_isa.specs.Step.{wrap16}
+use Rattle.c25_isa.specs.CodeAt.{StandsAt}
+use Rattle.c25_isa.specs.Image.{Contents}
+
+-- how many words an item takes
+abbrev pub item_size : PieceItem → ℕ
+item_size (Do i) = length_of (second_word i)
+item_size (Mark mark) = 0
+item_size (Jump op to o) = 2
+item_size (CallTo name o) = 2
+
+abbrev pub items_size : List PieceItem → ℕ
+items_size [] = 0
+items_size (item ∷ items) = item_size item + items_size items
+
+abbrev pub is_mark : ℕ → PieceItem → Bool
+is_mark mark (Do i) = false
+is_mark mark (Mark other) = other == mark
+is_mark mark (Jump op to o) = false
+is_mark mark (CallTo name o) = false
+
+-- the address of a mark in items that stand from an address on; of one that isn't there, the address behind them
+abbrev pub mark_address : ℕ → List PieceItem → ℕ → ℕ
+mark_address at [] mark = at
+mark_address at (item ∷ items) mark = if is_mark mark item then at else mark_address (at + item_size item) items mark
+
+-- the instructions of an item, where marks and names have addresses
+abbrev pub item_code : (ℕ → ℕ) → (List ℕ → ℕ) → PieceItem → List Instr
+item_code marks names (Do i) = i ∷ []
+item_code marks names (Mark mark) = []
+item_code marks names (Jump op to o) = Branch op (marks to) o ∷ []
+item_code marks names (CallTo name o) = Call (names name) o ∷ []
+
+abbrev pub items_code : (ℕ → ℕ) → (List ℕ → ℕ) → List PieceItem → List Instr
+items_code marks names items = flat_map (item_code marks names) items
+
+-- the items stand in program memory from an address on, with these addresses of marks and names
+abbrev pub ItemsAt : Memory → (ℕ → ℕ) → (List ℕ → ℕ) → ℕ → List PieceItem → Type 0
+ItemsAt program marks names at [] = Unit {0}
+ItemsAt program marks names at (Do i ∷ items) = StandsAt program at i × ItemsAt program marks names (at + length_of (second_word i)) items
+ItemsAt program marks names at (Mark mark ∷ items) = (marks mark ≡ at) × ItemsAt program marks names at items
+ItemsAt program marks names at (Jump op to o ∷ items) = StandsAt program at (Branch op (marks to) o) × ItemsAt program marks names (at + 2) items
+ItemsAt program marks names at (CallTo name o ∷ items) = StandsAt program at (Call (names name) o) × ItemsAt program marks names (at + 2) items
+
+-- the address of the first piece of a name, where pieces stand one behind another from an address on; where there is none, that behind them
+abbrev pub piece_address : ℕ → List Piece → List ℕ → ℕ
+piece_address at [] name = at
+piece_address at (p ∷ ps) name = if bytes_eq p.name name then at else piece_address (at + items_size p.items.items) ps name
+
+-- their instructions: a mark is known in its own piece alone, and addresses wrap
+abbrev pub pieces_code : (List ℕ → ℕ) → ℕ → List Piece → List Instr
+pieces_code names at [] = []
+pieces_code names at (p ∷ ps) =
+    items_code (λ mark. wrap16 (mark_address at p.items.items mark)) names p.items.items
+    ++ pieces_code names (at + items_size p.items.items) ps
+
+-- the range of so many words from an address on
+abbrev pub range_of : List ℕ → ℕ → ℕ → FunctionRange
+range_of name at size = record { name = name; first = at; last = at + size - 1 }
+
+-- the ranges of those that are listed
+abbrev pub listed_ranges : ℕ → List Piece → List FunctionRange
+listed_ranges at [] = []
+listed_ranges at (p ∷ ps) =
+    (if p.listed then range_of p.name at (items_size p.items.items) ∷ [] else [])
+    ++ listed_ranges (at + items_size p.items.items) ps
+
+-- an image is these pieces one behind another from program word 0 on
+pub record Linked (pieces : List Piece) (image : Contents) : Type 0 where
+  pub words : image.words ≡ code_words (pieces_code (λ name. wrap16 (piece_address 0 pieces name)) 0 pieces)
+  pub functions : image.functions ≡ listed_ranges 0 pieces
