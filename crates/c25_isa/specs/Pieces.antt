@@ -1,6 +1,6 @@
 -- Code before it is linked (docs/MACHINE.md, "Pieces"): how many words its items take, where its marks are, its instructions once marks and
 -- names have addresses, and pieces one behind another in an image.
-use Rattle.std.specs.Prelude.{◌≡◌, ℕ, ◌+◌, ◌-◌, Bool, true, false, ◌==◌, if◌then◌else◌, List, [], ◌∷◌, ◌++◌, flat_map}
+use Rattle.std.specs.Prelude.{◌≡◌, ℕ, ◌+◌, ◌-◌, Bool, false, ◌==◌, if◌then◌else◌, List, [], ◌∷◌, ◌++◌, flat_map}
 use Rattle.std.specs.Str.{bytes_eq}
 use Rattle.c25_isa.specs.declared.instruction.Instr.{Instr}
 use Rattle.c25_isa.specs.declared.instruction.Instr.TheVariants.{Branch, Call}

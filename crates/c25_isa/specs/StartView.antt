@@ -1,5 +1,4 @@
 -- The board that a start in memory stands for.
-use Rattle.std.specs.Prelude.{slice_index}
 use Rattle.c25_isa.specs.declared.start.Start as code
 use Rattle.c25_isa.specs.State.{Start, words_at}
 
