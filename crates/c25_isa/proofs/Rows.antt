@@ -8,7 +8,8 @@ use Rattle.c25_isa.specs.declared.instruction.JumpOp.{JumpOp}
 use Rattle.c25_isa.specs.declared.instruction.JumpOp.TheVariants as jump
 use Rattle.c25_isa.specs.declared.instruction.Instr.{Instr}
 use Rattle.c25_isa.specs.declared.instruction.Instr.TheVariants.{Add, Sub, Lac, Lar, Mpy, Lt, Zals, Lact, Subs, Subc, Adds, Rpt, Xor, Or, And, Pshd, Mar, Sacl, Sach, Sar, Popd, Adrk, Sbrk, In, Mpyk, Lark, Ldpk, Lack, Rptk, Addk, Subk, Dint, Rovm, Rsxm, Ssxm, Spm, Pac, Apac, Spac, Sfl, Sfr, Idle, Neg, Ret, Cmpl, Lrlk, Lalk, Adlk, Sblk, Andk, Ork, Xork, Out, Branch, Call}
-use Rattle.c25_isa.specs.Table.{IsIndirect, IsOperand, IsInstr, indirect_byte, operand_byte, jump_word, first_word, second_word, length_of, StandsFor}
+use Rattle.c25_isa.specs.Rows.{jump_word}
+use Rattle.c25_isa.specs.Table.{IsIndirect, IsOperand, IsInstr, indirect_byte, operand_byte, first_word, second_word, length_of, StandsFor}
 use Rattle.c25_isa.specs.Decode.{Decoded, one_word, with_operand, with_indirect, with_target, signed13, indirect_of, operand_of, decode_3, decode_4, decode_5, decode_6, decode_7, decode_ce, decode_c, decode_d, jump_of, decode_jump, decode_f, decode_parts, decode}
 use Rattle.c25_isa.proofs.Operands.{indirect_of-fits, operand_of-fits}
 

@@ -4,18 +4,21 @@ use Rattle.std.specs.List.{list_any, list_all}
 use Rattle.c25_isa.specs.declared.operand.Operand.{Operand}
 use Rattle.c25_isa.specs.declared.operand.Operand.TheVariants as operand
 use Rattle.c25_isa.specs.declared.instruction.Instr.{Instr}
-use Rattle.c25_isa.specs.declared.instruction.Instr.TheVariants.{Sacl, Sach, Sar, Popd, In, Ldpk}
+use Rattle.c25_isa.specs.declared.instruction.Instr.TheVariants.{Ldpk}
+use Rattle.c25_isa.specs.declared.mnemonic.Access.{Access}
+use Rattle.c25_isa.specs.declared.mnemonic.Access.TheVariants.{Neither, Reads, Writes}
+use Rattle.c25_isa.specs.Rows.{row, row_of}
 use Rattle.c25_isa.specs.Step.{data_operand}
 use Rattle.c25_isa.specs.Walk.{Placed, code_of, stretches}
 
+abbrev pub writes : Access → Bool
+writes Neither = false
+writes Reads = false
+writes Writes = true
+
 -- the rows that write data memory
 abbrev pub is_store : Instr → Bool
-is_store (Sacl shift o) = true
-is_store (Sach shift o) = true
-is_store (Sar register o) = true
-is_store (In port o) = true
-is_store (Popd o) = true
-is_store i = false
+is_store i = writes (row (row_of i)).access
 
 -- the sixteen words for numbers that are kept for a few instructions
 abbrev pub is_scratch : ℕ → Bool

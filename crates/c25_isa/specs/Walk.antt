@@ -9,6 +9,8 @@ use Rattle.c25_isa.specs.declared.operand.Operand.{Operand}
 use Rattle.c25_isa.specs.declared.operand.Operand.TheVariants as operand
 use Rattle.c25_isa.specs.declared.instruction.Instr.{Instr}
 use Rattle.c25_isa.specs.declared.instruction.Instr.TheVariants.{Lar, Mar, Rpt, Rptk, Adrk, Sbrk, Lark, Lrlk, Idle, Ret, Branch, Call}
+use Rattle.c25_isa.specs.Rows.{fields_of}
+use Rattle.c25_isa.specs.Table.{pointer_of}
 use Rattle.c25_isa.specs.Decode.{Decoded, decode}
 use Rattle.c25_isa.specs.Step.{wrap16, changed, data_operand}
 
@@ -129,10 +131,7 @@ access_operand i = option_and_then as_indirect (data_operand i)
 
 -- the indirect operand through which nothing is accessed: that of MAR, jumps and CALL
 abbrev pub idle_operand : Instr → Option Indirect
-idle_operand (Mar i) = Some i
-idle_operand (Branch op to i) = Some i
-idle_operand (Call to i) = Some i
-idle_operand i = None
+idle_operand i = pointer_of (fields_of i)
 
 -- behind the operands of an instruction
 abbrev pub known_behind_operands : Known → Instr → Known

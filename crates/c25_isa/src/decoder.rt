@@ -2,6 +2,7 @@
 //! below them, then its low byte.
 ghost use Rattle.std.specs.Prelude.{◌≡◌, ◌≢◌, ◌<◌, IfSome, IsNone, Some};
 ghost use Rattle.c25_isa.specs.declared.instruction.Instr.{Instr as AnInstr};
+ghost use Rattle.c25_isa.specs.Rows.{row_of};
 ghost use Rattle.c25_isa.specs.Table.{IsInstr, StandsFor, first_word};
 ghost use Rattle.c25_isa.specs.Decode.{decode as decode_of, decode_3, decode_4, decode_5, decode_6, decode_7, decode_ce, decode_c, decode_d, decode_f, decode_parts, jump_of, signed13};
 
@@ -14,6 +15,7 @@ pub fn decode(first: u16, second: u16) -> Option<(Instr, u8)>
     ensures value { result ≡ decode_of first second }
     ensures row { IfSome result (λ r. StandsFor r.0 r.1 first second) }
     ensures none { IsNone result → (i : AnInstr) → IsInstr i → first_word i ≢ first }
+    ensures one_row { (i j : AnInstr) → IsInstr i → IsInstr j → first_word i ≡ first → first_word j ≡ first → row_of i ≡ row_of j }
 {
     decode_by_parts(
         (first / 4096) as u8,

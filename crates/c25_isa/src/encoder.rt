@@ -1,128 +1,60 @@
 //! From an instruction to its words.
-ghost use Rattle.std.specs.Prelude.{◌≡◌, ◌*◌, ◌+◌, IfSome, IsNone, None};
-ghost use Rattle.c25_isa.specs.Table.{IsInstr, IsSigned13, low13, jump_word, first_word, second_word};
-ghost use Rattle.c25_isa.specs.Step.{data_operand};
+ghost use Rattle.std.specs.Prelude.{◌≡◌, ◌*◌, ◌+◌, ℕ, Some};
+ghost use Rattle.c25_isa.specs.CodeAt.{Follows};
+ghost use Rattle.c25_isa.specs.Decode.{decode as decode_of};
+ghost use Rattle.c25_isa.specs.Table.{AreFields, IsInstr, IsSigned13, low13, fields_code, fields_second, first_word, second_word, length_of};
 
-use crate::instruction::{Instr, JumpOp};
+use crate::fields::Fields;
+use crate::instruction::Instr;
 
-/// The first word of an instruction, and the second one where it has one.
+/// The first word of an instruction, which is its row's word with the operands put in, and the second one where it has one.
 pub fn encode(instr: &Instr) -> (u16, Option<u16>)
     requires { IsInstr instr.now }
-    ensures { result ≡ (first_word instr.now, second_word instr.now) }
+    ensures words { result ≡ (first_word instr.now, second_word instr.now) }
+    // These words stand for this instruction, whatever stands behind those of one word.
+    ensures decoded { (second : ℕ) → Follows (second_word instr.now) second
+        → decode_of (first_word instr.now) second ≡ Some (instr.now, length_of (second_word instr.now)) }
 {
-    let first = match encode_with_operand(instr) {
-        Some(word) => word,
-        None => encode_without_operand(instr),
-    };
-    (first, encode_second(instr))
+    let fields = instr.fields();
+    (
+        instr.mnemonic().row().base + fields.in_first_word(),
+        fields.second_word(),
+    )
 }
 
-// The word of a row with an operand of data memory.
-fn encode_with_operand(instr: &Instr) -> Option<u16>
-    requires { IsInstr instr.now }
-    ensures some { IfSome result (λ word. word ≡ first_word instr.now) }
-    ensures none { IsNone result → data_operand instr.now ≡ None }
-{
-    match instr {
-        Instr::Add { shift, operand } => Some(word_of(*shift, operand.byte())),
-        Instr::Sub { shift, operand } => Some(word_of(0x10 + *shift, operand.byte())),
-        Instr::Lac { shift, operand } => Some(word_of(0x20 + *shift, operand.byte())),
-        Instr::Lar { register, operand } => Some(word_of(0x30 + *register, operand.byte())),
-        Instr::Mpy(operand) => Some(word_of(0x38, operand.byte())),
-        Instr::Lt(operand) => Some(word_of(0x3c, operand.byte())),
-        Instr::Zals(operand) => Some(word_of(0x41, operand.byte())),
-        Instr::Lact(operand) => Some(word_of(0x42, operand.byte())),
-        Instr::Subs(operand) => Some(word_of(0x45, operand.byte())),
-        Instr::Subc(operand) => Some(word_of(0x47, operand.byte())),
-        Instr::Adds(operand) => Some(word_of(0x49, operand.byte())),
-        Instr::Rpt(operand) => Some(word_of(0x4b, operand.byte())),
-        Instr::Xor(operand) => Some(word_of(0x4c, operand.byte())),
-        Instr::Or(operand) => Some(word_of(0x4d, operand.byte())),
-        Instr::And(operand) => Some(word_of(0x4e, operand.byte())),
-        Instr::Pshd(operand) => Some(word_of(0x54, operand.byte())),
-        Instr::Sacl { shift, operand } => Some(word_of(0x60 + *shift, operand.byte())),
-        Instr::Sach { shift, operand } => Some(word_of(0x68 + *shift, operand.byte())),
-        Instr::Sar { register, operand } => Some(word_of(0x70 + *register, operand.byte())),
-        Instr::Popd(operand) => Some(word_of(0x7a, operand.byte())),
-        Instr::In { port, operand } => Some(word_of(0x80 + *port, operand.byte())),
-        Instr::Out { port, operand } => Some(word_of(0xe0 + *port, operand.byte())),
-        _ => None,
+impl Fields {
+    // What the operands put into the first word.
+    fn in_first_word(&self) -> u16
+        requires { AreFields self.now }
+        ensures { result ≡ fields_code self.now }
+    {
+        match *self {
+            Fields::NoOperand | Fields::Word(_) => 0,
+            Fields::Memory(operand) => u16::from(operand.byte()),
+            Fields::ShiftedMemory { shift, operand } => word_of(shift, operand.byte()),
+            Fields::RegisterMemory { register, operand } => word_of(register, operand.byte()),
+            Fields::PortMemory { port, operand } => word_of(port, operand.byte()),
+            Fields::Pointer(operand) | Fields::Target { operand, .. } => u16::from(operand.byte()),
+            Fields::Constant8(constant) => u16::from(constant),
+            Fields::Constant9(constant) => constant,
+            Fields::Constant13(constant) => low_13(constant),
+            Fields::RegisterConstant { register, constant } => word_of(register, constant),
+            Fields::ShiftedWord { shift, .. } => word_of(shift, 0),
+            Fields::RegisterWord { register, .. } => word_of(register, 0),
+        }
     }
-}
 
-// The first word of another row.
-fn encode_without_operand(instr: &Instr) -> u16
-    requires { IsInstr instr.now }
-    ensures { data_operand instr.now ≡ None → result ≡ first_word instr.now }
-{
-    match instr {
-        Instr::Mar(operand) => word_of(0x55, operand.byte()),
-        Instr::Adrk(constant) => word_of(0x7e, *constant),
-        Instr::Sbrk(constant) => word_of(0x7f, *constant),
-        Instr::Mpyk(constant) => 0xa000 + low_13(*constant),
-        Instr::Lark { register, constant } => word_of(0xc0 + *register, *constant),
-        Instr::Ldpk(page) => 0xc800 + *page,
-        Instr::Lack(constant) => word_of(0xca, *constant),
-        Instr::Rptk(constant) => word_of(0xcb, *constant),
-        Instr::Addk(constant) => word_of(0xcc, *constant),
-        Instr::Subk(constant) => word_of(0xcd, *constant),
-        Instr::Dint => 0xce01,
-        Instr::Rovm => 0xce02,
-        Instr::Rsxm => 0xce06,
-        Instr::Ssxm => 0xce07,
-        Instr::Spm => 0xce08,
-        Instr::Pac => 0xce14,
-        Instr::Apac => 0xce15,
-        Instr::Spac => 0xce16,
-        Instr::Sfl => 0xce18,
-        Instr::Sfr => 0xce19,
-        Instr::Idle => 0xce1f,
-        Instr::Neg => 0xce23,
-        Instr::Ret => 0xce26,
-        Instr::Cmpl => 0xce27,
-        Instr::Lrlk { register, .. } => word_of(0xd0 + *register, 0),
-        Instr::Lalk { shift, .. } => word_of(0xd0 + *shift, 1),
-        Instr::Adlk { shift, .. } => word_of(0xd0 + *shift, 2),
-        Instr::Sblk { shift, .. } => word_of(0xd0 + *shift, 3),
-        Instr::Andk(_) => 0xd004,
-        Instr::Ork(_) => 0xd005,
-        Instr::Xork(_) => 0xd006,
-        Instr::Branch { op, operand, .. } => word_of(jump_high(op), operand.byte()),
-        Instr::Call { operand, .. } => word_of(0xfe, operand.byte()),
-        _ => 0,
-    }
-}
-
-// The second word of an instruction that has one.
-fn encode_second(instr: &Instr) -> Option<u16>
-    ensures { result ≡ second_word instr.now }
-{
-    match instr {
-        Instr::Lrlk { word, .. } => Some(*word),
-        Instr::Lalk { word, .. } => Some(*word),
-        Instr::Adlk { word, .. } => Some(*word),
-        Instr::Sblk { word, .. } => Some(*word),
-        Instr::Andk(word) => Some(*word),
-        Instr::Ork(word) => Some(*word),
-        Instr::Xork(word) => Some(*word),
-        Instr::Branch { to, .. } => Some(*to),
-        Instr::Call { to, .. } => Some(*to),
-        _ => None,
-    }
-}
-
-// The high byte of a jump's first word.
-fn jump_high(op: &JumpOp) -> u8
-    ensures { result * 256 ≡ jump_word op.now }
-{
-    match op {
-        JumpOp::Bgz => 0xf1,
-        JumpOp::Blez => 0xf2,
-        JumpOp::Blz => 0xf3,
-        JumpOp::Bgez => 0xf4,
-        JumpOp::Bnz => 0xf5,
-        JumpOp::Bz => 0xf6,
-        JumpOp::B => 0xff,
+    /// The second word that they want.
+    pub fn second_word(&self) -> Option<u16>
+        ensures { result ≡ fields_second self.now }
+    {
+        match *self {
+            Fields::Word(word)
+            | Fields::ShiftedWord { word, .. }
+            | Fields::RegisterWord { word, .. } => Some(word),
+            Fields::Target { to, .. } => Some(to),
+            _ => None,
+        }
     }
 }
 
@@ -142,5 +74,5 @@ fn low_13(constant: i16) -> u16
 fn word_of(high: u8, low: u8) -> u16
     ensures { result ≡ high * 256 + low }
 {
-    high as u16 * 256 + low as u16
+    u16::from(high) * 256 + u16::from(low)
 }
