@@ -1,6 +1,6 @@
 -- The instruction table by its rows (docs/MACHINE.md, "Instructions"): each row's name, its first word where all operands are 0, which operands
 -- it takes, and what it does to data memory. An instruction is a row with its operands.
-use Rattle.std.specs.Prelude.{ℕ, List, codes, Option, Some, None}
+use Rattle.std.specs.Prelude.{◌≡◌, ℕ, List, codes, Option, Some, None}
 use Rattle.c25_isa.specs.declared.instruction.JumpOp.{JumpOp}
 use Rattle.c25_isa.specs.declared.instruction.JumpOp.TheVariants as jump
 use Rattle.c25_isa.specs.declared.instruction.Instr.{Instr}
@@ -216,3 +216,66 @@ fields_of (Xork word) = fields.Word word
 fields_of (Out port o) = fields.PortMemory port o
 fields_of (Branch op to i) = fields.Target to i
 fields_of (Call to i) = fields.Target to i
+
+-- the instruction of a row with these operands, where the row takes operands of this form
+abbrev pub instr_of : Mnemonic → Fields → Option Instr
+instr_of mnemonic.Add (fields.ShiftedMemory shift o) = Some (Add shift o)
+instr_of mnemonic.Sub (fields.ShiftedMemory shift o) = Some (Sub shift o)
+instr_of mnemonic.Lac (fields.ShiftedMemory shift o) = Some (Lac shift o)
+instr_of mnemonic.Lar (fields.RegisterMemory register o) = Some (Lar register o)
+instr_of mnemonic.Mpy (fields.Memory o) = Some (Mpy o)
+instr_of mnemonic.Lt (fields.Memory o) = Some (Lt o)
+instr_of mnemonic.Zals (fields.Memory o) = Some (Zals o)
+instr_of mnemonic.Lact (fields.Memory o) = Some (Lact o)
+instr_of mnemonic.Subs (fields.Memory o) = Some (Subs o)
+instr_of mnemonic.Subc (fields.Memory o) = Some (Subc o)
+instr_of mnemonic.Adds (fields.Memory o) = Some (Adds o)
+instr_of mnemonic.Rpt (fields.Memory o) = Some (Rpt o)
+instr_of mnemonic.Xor (fields.Memory o) = Some (Xor o)
+instr_of mnemonic.Or (fields.Memory o) = Some (Or o)
+instr_of mnemonic.And (fields.Memory o) = Some (And o)
+instr_of mnemonic.Pshd (fields.Memory o) = Some (Pshd o)
+instr_of mnemonic.Mar (fields.Pointer i) = Some (Mar i)
+instr_of mnemonic.Sacl (fields.ShiftedMemory shift o) = Some (Sacl shift o)
+instr_of mnemonic.Sach (fields.ShiftedMemory shift o) = Some (Sach shift o)
+instr_of mnemonic.Sar (fields.RegisterMemory register o) = Some (Sar register o)
+instr_of mnemonic.Popd (fields.Memory o) = Some (Popd o)
+instr_of mnemonic.Adrk (fields.Constant8 constant) = Some (Adrk constant)
+instr_of mnemonic.Sbrk (fields.Constant8 constant) = Some (Sbrk constant)
+instr_of mnemonic.In (fields.PortMemory port o) = Some (In port o)
+instr_of mnemonic.Mpyk (fields.Constant13 constant) = Some (Mpyk constant)
+instr_of mnemonic.Lark (fields.RegisterConstant register constant) = Some (Lark register constant)
+instr_of mnemonic.Ldpk (fields.Constant9 constant) = Some (Ldpk constant)
+instr_of mnemonic.Lack (fields.Constant8 constant) = Some (Lack constant)
+instr_of mnemonic.Rptk (fields.Constant8 constant) = Some (Rptk constant)
+instr_of mnemonic.Addk (fields.Constant8 constant) = Some (Addk constant)
+instr_of mnemonic.Subk (fields.Constant8 constant) = Some (Subk constant)
+instr_of mnemonic.Dint fields.NoOperand = Some Dint
+instr_of mnemonic.Rovm fields.NoOperand = Some Rovm
+instr_of mnemonic.Rsxm fields.NoOperand = Some Rsxm
+instr_of mnemonic.Ssxm fields.NoOperand = Some Ssxm
+instr_of mnemonic.Spm fields.NoOperand = Some Spm
+instr_of mnemonic.Pac fields.NoOperand = Some Pac
+instr_of mnemonic.Apac fields.NoOperand = Some Apac
+instr_of mnemonic.Spac fields.NoOperand = Some Spac
+instr_of mnemonic.Sfl fields.NoOperand = Some Sfl
+instr_of mnemonic.Sfr fields.NoOperand = Some Sfr
+instr_of mnemonic.Idle fields.NoOperand = Some Idle
+instr_of mnemonic.Neg fields.NoOperand = Some Neg
+instr_of mnemonic.Ret fields.NoOperand = Some Ret
+instr_of mnemonic.Cmpl fields.NoOperand = Some Cmpl
+instr_of mnemonic.Lrlk (fields.RegisterWord register word) = Some (Lrlk register word)
+instr_of mnemonic.Lalk (fields.ShiftedWord shift word) = Some (Lalk shift word)
+instr_of mnemonic.Adlk (fields.ShiftedWord shift word) = Some (Adlk shift word)
+instr_of mnemonic.Sblk (fields.ShiftedWord shift word) = Some (Sblk shift word)
+instr_of mnemonic.Andk (fields.Word word) = Some (Andk word)
+instr_of mnemonic.Ork (fields.Word word) = Some (Ork word)
+instr_of mnemonic.Xork (fields.Word word) = Some (Xork word)
+instr_of mnemonic.Out (fields.PortMemory port o) = Some (Out port o)
+instr_of (mnemonic.Branch op) (fields.Target to i) = Some (Branch op to i)
+instr_of mnemonic.Call (fields.Target to i) = Some (Call to i)
+instr_of m f = None
+
+-- an instruction is this row with these operands
+abbrev pub IsOf : Mnemonic → Fields → Instr → Type 0
+IsOf m f i = (row_of i ≡ m) × (fields_of i ≡ f)

@@ -1,6 +1,7 @@
 //! An instruction as a row of the table with its operands.
-ghost use Rattle.std.specs.Prelude.{◌≡◌};
-ghost use Rattle.c25_isa.specs.Rows.{fields_of, row_of};
+ghost use Rattle.std.specs.Prelude.{◌≡◌, IfSome, Some};
+ghost use Rattle.c25_isa.specs.Rows.{fields_of, instr_of, row_of};
+ghost use Rattle.c25_isa.specs.Table.{AreFields, IsIndirect, IsOperand, memory_of, pointer_of};
 
 use crate::instruction::Instr;
 use crate::mnemonic::Mnemonic;
@@ -91,7 +92,8 @@ impl Instr {
 
     /// The operands.
     pub fn fields(&self) -> Fields
-        ensures { result ≡ fields_of self.now }
+        ensures value { result ≡ fields_of self.now }
+        ensures whole { instr_of (row_of self.now) result ≡ Some self.now }
     {
         match *self {
             Instr::Dint
@@ -151,6 +153,33 @@ impl Instr {
                 to,
                 operand,
             },
+        }
+    }
+}
+
+impl Fields {
+    /// The operand through which data memory is read or written.
+    pub fn memory(&self) -> Option<Operand>
+        ensures operand { result ≡ memory_of self.now }
+        ensures fits { AreFields self.now → IfSome result IsOperand }
+    {
+        match *self {
+            Fields::Memory(operand)
+            | Fields::ShiftedMemory { operand, .. }
+            | Fields::RegisterMemory { operand, .. }
+            | Fields::PortMemory { operand, .. } => Some(operand),
+            _ => None,
+        }
+    }
+
+    /// The indirect operand through which nothing is accessed: that of MAR, jumps and CALL.
+    pub fn pointer(&self) -> Option<Indirect>
+        ensures operand { result ≡ pointer_of self.now }
+        ensures fits { AreFields self.now → IfSome result IsIndirect }
+    {
+        match *self {
+            Fields::Pointer(operand) | Fields::Target { operand, .. } => Some(operand),
+            _ => None,
         }
     }
 }
