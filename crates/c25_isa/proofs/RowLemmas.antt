@@ -1,5 +1,5 @@
 -- A row with operands is an instruction, both ways.
-use Rattle.std.proofs.Common.{◌≡◌, Option, Some, None, IfSome, refl}
+use Rattle.std.proofs.Common.{◌≡◌, Some, IfSome, refl}
 use Rattle.c25_isa.specs.declared.instruction.Instr.{Instr}
 use Rattle.c25_isa.specs.declared.instruction.Instr.TheVariants.{Add, Sub, Lac, Lar, Mpy, Lt, Zals, Lact, Subs, Subc, Adds, Rpt, Xor, Or, And, Pshd, Mar, Sacl, Sach, Sar, Popd, Adrk, Sbrk, In, Mpyk, Lark, Ldpk, Lack, Rptk, Addk, Subk, Dint, Rovm, Rsxm, Ssxm, Spm, Pac, Apac, Spac, Sfl, Sfr, Idle, Neg, Ret, Cmpl, Lrlk, Lalk, Adlk, Sblk, Andk, Ork, Xork, Out, Branch, Call}
 use Rattle.c25_isa.specs.declared.mnemonic.Mnemonic.{Mnemonic}

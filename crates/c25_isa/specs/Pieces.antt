@@ -4,7 +4,7 @@ use Rattle.std.specs.Prelude.{◌≡◌, ℕ, ◌+◌, ◌-◌, Bool, false, ◌
 use Rattle.std.specs.Str.{bytes_eq}
 use Rattle.c25_isa.specs.declared.instruction.Instr.{Instr}
 use Rattle.c25_isa.specs.declared.instruction.Instr.TheVariants.{Branch, Call}
-use Rattle.c25_isa.specs.declared.piece.Piece.{Piece}
+use Rattle.c25_isa.specs.declared.piece.Piece as code
 use Rattle.c25_isa.specs.declared.piece.PieceItem.{PieceItem}
 use Rattle.c25_isa.specs.declared.piece.PieceItem.TheVariants.{Do, Mark, Jump, CallTo}
 use Rattle.c25_isa.specs.declared.image.FunctionRange.{FunctionRange}
@@ -13,6 +13,16 @@ use Rattle.c25_isa.specs.Table.{second_word, length_of, code_words}
 use Rattle.c25_isa.specs.Step.{wrap16}
 use Rattle.c25_isa.specs.CodeAt.{StandsAt}
 use Rattle.c25_isa.specs.Image.{Contents}
+
+-- a piece, by the list of its items
+pub record Piece : Type 0 where
+  pub name : List ℕ
+  pub listed : Bool
+  pub items : List PieceItem
+
+-- the piece that one in memory stands for
+abbrev pub piece_of : code.Piece → Piece
+piece_of p = record { name = p.name; listed = p.listed; items = p.items.items }
 
 -- how many words an item takes
 abbrev pub item_size : PieceItem → ℕ
@@ -57,14 +67,14 @@ ItemsAt program marks names at (CallTo name o ∷ items) = StandsAt program at (
 -- the address of the first piece of a name, where pieces stand one behind another from an address on; where there is none, that behind them
 abbrev pub piece_address : ℕ → List Piece → List ℕ → ℕ
 piece_address at [] name = at
-piece_address at (p ∷ ps) name = if bytes_eq p.name name then at else piece_address (at + items_size p.items.items) ps name
+piece_address at (p ∷ ps) name = if bytes_eq p.name name then at else piece_address (at + items_size p.items) ps name
 
 -- their instructions: a mark is known in its own piece alone, and addresses wrap
 abbrev pub pieces_code : (List ℕ → ℕ) → ℕ → List Piece → List Instr
 pieces_code names at [] = []
 pieces_code names at (p ∷ ps) =
-    items_code (λ mark. wrap16 (mark_address at p.items.items mark)) names p.items.items
-    ++ pieces_code names (at + items_size p.items.items) ps
+    items_code (λ mark. wrap16 (mark_address at p.items mark)) names p.items
+    ++ pieces_code names (at + items_size p.items) ps
 
 -- the range of so many words from an address on
 abbrev pub range_of : List ℕ → ℕ → ℕ → FunctionRange
@@ -74,8 +84,8 @@ range_of name at size = record { name = name; first = at; last = at + size - 1 }
 abbrev pub listed_ranges : ℕ → List Piece → List FunctionRange
 listed_ranges at [] = []
 listed_ranges at (p ∷ ps) =
-    (if p.listed then range_of p.name at (items_size p.items.items) ∷ [] else [])
-    ++ listed_ranges (at + items_size p.items.items) ps
+    (if p.listed then range_of p.name at (items_size p.items) ∷ [] else [])
+    ++ listed_ranges (at + items_size p.items) ps
 
 -- an image is these pieces one behind another from program word 0 on
 pub record Linked (pieces : List Piece) (image : Contents) : Type 0 where

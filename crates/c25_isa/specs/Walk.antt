@@ -8,7 +8,7 @@ use Rattle.c25_isa.specs.declared.operand.Indirect.{Indirect}
 use Rattle.c25_isa.specs.declared.operand.Operand.{Operand}
 use Rattle.c25_isa.specs.declared.operand.Operand.TheVariants as operand
 use Rattle.c25_isa.specs.declared.instruction.Instr.{Instr}
-use Rattle.c25_isa.specs.declared.instruction.Instr.TheVariants.{Lar, Mar, Rpt, Rptk, Adrk, Sbrk, Lark, Lrlk, Idle, Ret, Branch, Call}
+use Rattle.c25_isa.specs.declared.instruction.Instr.TheVariants.{Lar, Rpt, Rptk, Adrk, Sbrk, Lark, Lrlk, Idle, Ret, Branch, Call}
 use Rattle.c25_isa.specs.Rows.{fields_of}
 use Rattle.c25_isa.specs.Table.{pointer_of}
 use Rattle.c25_isa.specs.Decode.{Decoded, decode}

@@ -1,4 +1,6 @@
 //! Code before it is linked.
+ghost use Rattle.c25_isa.specs.Items.{ItemsFit, ItemsFit-prop};
+
 use crate::instruction::{Instr, JumpOp};
 use crate::operand::Indirect;
 use word_base::Text;
@@ -27,5 +29,7 @@ pub enum PieceItem {
 pub struct Piece {
     pub name: Text,
     pub listed: bool,
+    /// Each operand is in its range.
     pub items: Vec<PieceItem>,
+    ghost fit: { ItemsFit items.items } by { ItemsFit-prop items.items },
 }

@@ -4,7 +4,7 @@ ghost use Rattle.c25_isa.specs.Table.{IsInstr, IsOperand};
 ghost use Rattle.c25_isa.specs.Step as spec;
 
 use crate::machine::Machine;
-use c25_isa::{Change, Instr, Operand, TrapKind};
+use c25_isa::{Change, Fields, Instr, Operand, TrapKind};
 
 /// The first word of data RAM.
 const FIRST_RAM_WORD: u16 = 0x300;
@@ -79,9 +79,8 @@ impl Machine {
     fn changes_its_own(&self, instr: &Instr) -> bool
         ensures { result ≡ spec.changes_its_own (state_of self.now).arp instr.now }
     {
-        match instr {
-            Instr::Lar { register, operand } => changes(*register, self.arp, operand),
-            Instr::Sar { register, operand } => changes(*register, self.arp, operand),
+        match instr.fields() {
+            Fields::RegisterMemory { register, operand } => changes(register, self.arp, &operand),
             _ => false,
         }
     }
@@ -90,7 +89,7 @@ impl Machine {
         requires { IsInstr instr.now }
         ensures { result ≡ spec.lacks_ram (state_of self.now) (spec.data_operand instr.now) }
     {
-        match data_operand(instr) {
+        match instr.fields().memory() {
             Some(operand) => self.address(&operand) < FIRST_RAM_WORD,
             None => false,
         }
@@ -104,39 +103,6 @@ fn changes(register: u8, current: u8, operand: &Operand) -> bool
     match operand {
         Operand::Direct(_) => false,
         Operand::Indirect(indirect) => indirect.change != Change::Stay && register == current,
-    }
-}
-
-// The operand through which data memory is accessed.
-fn data_operand(instr: &Instr) -> Option<Operand>
-    requires { IsInstr instr.now }
-    ensures operand { result ≡ spec.data_operand instr.now }
-    ensures fits { IfSome result IsOperand }
-{
-    match instr {
-        Instr::Add { operand, .. }
-        | Instr::Sub { operand, .. }
-        | Instr::Lac { operand, .. }
-        | Instr::Lar { operand, .. }
-        | Instr::Sacl { operand, .. }
-        | Instr::Sach { operand, .. }
-        | Instr::Sar { operand, .. }
-        | Instr::In { operand, .. }
-        | Instr::Out { operand, .. } => Some(*operand),
-        Instr::Mpy(operand)
-        | Instr::Lt(operand)
-        | Instr::Zals(operand)
-        | Instr::Lact(operand)
-        | Instr::Subs(operand)
-        | Instr::Subc(operand)
-        | Instr::Adds(operand)
-        | Instr::Rpt(operand)
-        | Instr::Xor(operand)
-        | Instr::Or(operand)
-        | Instr::And(operand)
-        | Instr::Pshd(operand)
-        | Instr::Popd(operand) => Some(*operand),
-        _ => None,
     }
 }
 

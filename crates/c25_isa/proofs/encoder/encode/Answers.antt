@@ -1,4 +1,4 @@
-use Rattle.std.proofs.Common.{◌≡◌, ◌+◌, ℕ, ap, ◌∙◌, arith}
+use Rattle.std.proofs.Common.{◌≡◌, ap, ◌∙◌, arith}
 use Rattle.c25_isa.specs.Rows.{row, row_of, fields_of}
 use Rattle.c25_isa.specs.Table.{fields_code}
 use Rattle.c25_isa.proofs.Decoding.{decode-first_word}
