@@ -90,7 +90,8 @@ impl Instr {
         }
     }
 
-    /// The operands.
+    /// The operands. It is built into each step of the simulator for speed.
+    #[inline(always)]
     pub fn fields(&self) -> Fields
         ensures value { result ≡ fields_of self.now }
         ensures whole { instr_of (row_of self.now) result ≡ Some self.now }
@@ -159,6 +160,7 @@ impl Instr {
 
 impl Fields {
     /// The operand through which data memory is read or written.
+    #[inline(always)]
     pub fn memory(&self) -> Option<Operand>
         ensures operand { result ≡ memory_of self.now }
         ensures fits { AreFields self.now → IfSome result IsOperand }
