@@ -1,6 +1,9 @@
 //! An instruction as a row of the table with its operands.
 ghost use Rattle.std.specs.Prelude.{◌≡◌, IfSome, Some};
-ghost use Rattle.c25_isa.specs.Rows.{fields_of, instr_of, row_of};
+ghost use Rattle.c25_isa.specs.declared.fields.Fields.{Fields as SomeFields};
+ghost use Rattle.c25_isa.specs.declared.instruction.Instr.{Instr as AnInstr};
+ghost use Rattle.c25_isa.specs.declared.mnemonic.Mnemonic.{Mnemonic as ARow};
+ghost use Rattle.c25_isa.specs.Rows.{fields_of, instr_of, IsOf, row_of};
 ghost use Rattle.c25_isa.specs.Table.{AreFields, IsIndirect, IsOperand, memory_of, pointer_of};
 
 use crate::instruction::Instr;
@@ -93,8 +96,7 @@ impl Instr {
     /// The operands. It is built into each step of the simulator for speed.
     #[inline(always)]
     pub fn fields(&self) -> Fields
-        ensures value { result ≡ fields_of self.now }
-        ensures whole { instr_of (row_of self.now) result ≡ Some self.now }
+        ensures { result ≡ fields_of self.now }
     {
         match *self {
             Instr::Dint
@@ -185,3 +187,9 @@ impl Fields {
         }
     }
 }
+
+/// A row with operands of its form is an instruction, both ways. The call does nothing.
+pub fn rows_are_instructions()
+    ensures whole { (i : AnInstr) → instr_of (row_of i) (fields_of i) ≡ Some i }
+    ensures parts { (m : ARow) (f : SomeFields) → IfSome (instr_of m f) (IsOf m f) }
+{}
