@@ -440,8 +440,8 @@ done_0 (suc n) a m offset w e ram at lt d =
     record { ready = ((ram, omega (arith, at), bound 1 a m w.acc (omega arith) lt d), more.ready); divides = more.divides; keeps = more.keeps }
 
 -- RPTK 15 and SUBC of a word below 8000h: the quotient in the low half of ACC, the remainder in the high half
-pub division_leads : (program : Memory) (pc offset : ℕ) (w : Work) → CodeAt program pc (Rptk 15 ∷ Subc (Direct offset) ∷ []) → 0x300 ≤ w.dp * 128 + offset → 1 ≤ w.ram (w.dp * 128 + offset) → w.ram (w.dp * 128 + offset) < 32768 → w.acc < 65536 → (acc : ℕ) × Leads 17 (calm program pc w) (calm program (pc + 2) (record w { acc = acc })) [] × (acc % 65536 ≡ w.acc / w.ram (w.dp * 128 + offset)) × (acc / 65536 ≡ w.acc % w.ram (w.dp * 128 + offset))
-division_leads program pc offset w at ram positive lt fits = by 15 refl
+pub division_leads : (program : Memory) (pc offset : ℕ) (w : Work) → CodeAt program pc (Rptk 15 ∷ Subc (Direct offset) ∷ []) → 0x300 ≤ w.dp * 128 + offset → 1 ≤ w.ram (w.dp * 128 + offset) → w.ram (w.dp * 128 + offset) < 32768 → w.acc < 65536 → pc + 2 < 65536 → (acc : ℕ) × Leads 17 (calm program pc w) (calm program (pc + 2) (record w { acc = acc })) [] × (acc % 65536 ≡ w.acc / w.ram (w.dp * 128 + offset)) × (acc / 65536 ≡ w.acc % w.ram (w.dp * 128 + offset))
+division_leads program pc offset w at ram positive lt fits behind = by 15 refl
   where
     m : ℕ
     m = w.ram (w.dp * 128 + offset)
@@ -450,7 +450,7 @@ division_leads program pc offset w at ram positive lt fits = by 15 refl
     by n e =
         let d = done_0 (suc n) w.acc m offset w (omega arith) ram refl lt (starts w.acc m fits positive) in
         let at' = subst (λ k. CodeAt program pc (Rptk k ∷ Subc (Direct offset) ∷ [])) (sym e) at in
-        let lead = repeat_leads program pc n (Subc (Direct offset)) w at' (may_repeat (Subc (Direct offset)) refl) d.ready in
+        let lead = repeat_leads program pc n (Subc (Direct offset)) w at' (may_repeat (Subc (Direct offset)) refl) d.ready behind in
         let q = quotient_is w.acc m (behind_repeats (suc n) (Subc (Direct offset)) w).acc positive d.divides in
         let steps : n + 2 ≡ 17 = omega arith in (
           (behind_repeats (suc n) (Subc (Direct offset)) w).acc,
@@ -463,8 +463,8 @@ division_leads program pc offset w at ram positive lt fits = by 15 refl
 -- the same in C's terms
 pub divides_word : (offset : ℕ) → DividesWord (division_code offset) offset
 divides_word offset = record {
-  by = λ program pc w divisor at ram is positive lt fits.
-      let there = division_leads program pc offset w at ram (subst (λ m. 1 ≤ m) (sym is) positive) (subst (λ m. m < 32768) (sym is) lt) fits in
+  by = λ program pc w divisor at ram is positive lt fits behind.
+      let there = division_leads program pc offset w at ram (subst (λ m. 1 ≤ m) (sym is) positive) (subst (λ m. m < 32768) (sym is) lt) fits behind in
       let not_zero : (divisor == 0) ≡ false = let ne : divisor ≢ 0 = omega arith in ne_eqb divisor 0 ne in (
         there.0,
         there.1,

@@ -3,8 +3,7 @@ use Rattle.std.proofs.Common.{◌≡◌, ℕ, zero, suc, ◌+◌, ◌-◌, ◌�
 use Rattle.word_base.specs.Ports.{Input, Outputs}
 use Rattle.c25_isa.specs.State.{State, Start}
 use Rattle.c25_isa.specs.Step.{Event, Ran, Put, Over, Trapped, step}
-use Rattle.c25_isa.specs.MachineRun.{Reached, go_on, run_from, reset, machine_run}
-use Rattle.c25_code.specs.Programs.{HasStopped}
+use Rattle.c25_isa.specs.MachineRun.{Reached, HasStopped, go_on, run_from, reset, machine_run}
 
 stays : (m k : ℕ) (s : State) (outs : Outputs) (r : Reached) → HasStopped r → run_from m s outs ≡ r → run_from (m + k) s outs ≡ r
 stays zero k s outs r stopped e = absurd (subst HasStopped (sym e) stopped)

@@ -113,20 +113,14 @@ ran_again m pc n program w =
     let fewer : suc (suc m) - 1 ≡ suc m = omega arith in
     ap (λ b. cond b (pending (suc (suc m) - 1) program pc w) (calm program n w)) (lt-ltb 1 (suc (suc m)) more) ∙ ap (λ k. pending k program pc w) fewer
 
-module _ (program : Memory) (pc : ℕ) (i : Instr) (at : StandsAt program pc i) (may : MayRepeat i) where
-  behind : wrap16 (pc + 1) ≡ pc + 1
-  behind =
-      let room : pc + length_of (second_word i) < 65536 = at.room in
-      let room' : pc + 1 < 65536 = rw may.one at room in
-      omega arith
-
+module _ (program : Memory) (pc : ℕ) (i : Instr) (at : StandsAt program pc i) (may : MayRepeat i) (behind : pc + 1 < 65536) where
   once : (times : ℕ) (w : Work) → InstrReady i w → step (pending times program pc w) ≡ Ran (ran_once times pc (pending times program (pc + 1) (behind_instr i w)))
   once times w ready =
       step_at (pending times program pc w) i at
       ∙ ap (λ t. unless_trapped t (pending times program pc w) (repeated (Some times) pc (effect (pending times program pc w) (length_of (second_word i)) i))) (may.no_trap times program pc w ready)
       ∙ ap (λ o. repeated (Some times) pc (effect (pending times program pc w) (length_of o) i)) may.one
       ∙ ap (repeated (Some times) pc) (may.row times program pc w ready)
-      ∙ ap (λ n. Ran (ran_once times pc (pending times program n (behind_instr i w)))) behind
+      ∙ ap (λ n. Ran (ran_once times pc (pending times program n (behind_instr i w)))) (onward_pc pc 1 behind)
 
   pub times_lead : (n : ℕ) (w : Work) → RepeatsReady (suc n) i w → Leads (n + 1) (pending (suc n) program pc w) (calm program (pc + 1) (behind_repeats (suc n) i w)) []
   times_lead zero w ready = ran_leads _ _ (once 1 w ready.0)
@@ -138,12 +132,12 @@ module _ (program : Memory) (pc : ℕ) (i : Instr) (at : StandsAt program pc i) 
       subst (λ n. Leads n (pending (suc (suc m)) program pc w) (calm program (pc + 1) (behind_repeats (suc (suc m)) i w)) []) e (leads_on 1 (m + 1) _ _ _ _ _ first rest)
 
 -- RPTK and the word behind it
-pub repeat_leads : (program : Memory) (pc n : ℕ) (i : Instr) (w : Work) → CodeAt program pc (Rptk n ∷ i ∷ []) → MayRepeat i → RepeatsReady (suc n) i w → Leads (n + 2) (calm program pc w) (calm program (pc + 2) (behind_repeats (suc n) i w)) []
-repeat_leads program pc n i w at may ready =
+pub repeat_leads : (program : Memory) (pc n : ℕ) (i : Instr) (w : Work) → CodeAt program pc (Rptk n ∷ i ∷ []) → MayRepeat i → RepeatsReady (suc n) i w → pc + 2 < 65536 → Leads (n + 2) (calm program pc w) (calm program (pc + 2) (behind_repeats (suc n) i w)) []
+repeat_leads program pc n i w at may ready behind =
     let k : n + 1 ≡ suc n = omega arith in
     let first : Leads 1 (calm program pc w) (pending (suc n) program (pc + 1) w) [] =
-    ran_leads _ _ (runs (calm program pc w) (Rptk n) refl at.0 refl ∙ ap (λ m. Ran (pending (n + 1) program m w)) (onward_pc (calm program pc w) (Rptk n) refl at.0) ∙ ap (λ m. Ran (pending m program (pc + 1) w)) k) in
-    let rest = times_lead program (pc + 1) i at.1.0 may n w ready in
+    ran_leads _ _ (runs (calm program pc w) (Rptk n) refl at.0 refl ∙ ap (λ m. Ran (pending (n + 1) program m w)) (onward_pc pc 1 (omega arith)) ∙ ap (λ m. Ran (pending m program (pc + 1) w)) k) in
+    let rest = times_lead program (pc + 1) i at.1.0 may (omega arith) n w ready in
     let e : 1 + (n + 1) ≡ n + 2 = omega arith in
     let f : pc + 1 + 1 ≡ pc + 2 = omega arith in
     subst (λ m. Leads m (calm program pc w) (calm program (pc + 2) (behind_repeats (suc n) i w)) []) e (
@@ -151,4 +145,4 @@ repeat_leads program pc n i w at may ready =
     leads_on 1 (n + 1) _ _ _ _ _ first rest))
 
 pub each_repeat_leads : RepeatLeads
-each_repeat_leads program pc n i w at may ready = repeat_leads program pc n i w at (may_repeat i may) ready
+each_repeat_leads program pc n i w at may ready behind = repeat_leads program pc n i w at (may_repeat i may) ready behind

@@ -8,6 +8,7 @@ use Rattle.word_base.specs.declared.outcome.UndefinedKind.TheVariants.{ShiftCoun
 use Rattle.c25_isa.specs.State.{Memory}
 use Rattle.c25_isa.specs.CodeAt.{CodeAt}
 use Rattle.c25_isa.specs.Leads.{Leads}
+use Rattle.c25_isa.proofs.CodeAt.{stands_below}
 use Rattle.c25_isa.proofs.Leads.{leads_on}
 use Rattle.c25_code.proofs.Ranges.{cond_lt}
 use Rattle.c25_code.proofs.Straight.{code_leads}
@@ -18,7 +19,7 @@ use Rattle.c25_isa.specs.declared.instruction.Instr.TheVariants.{Sub, Lt, Lact, 
 use Rattle.c25_isa.specs.declared.operand.Operand.TheVariants.{Direct}
 use Rattle.c25_isa.specs.Step.{wrap16, wrap32, extended, minus}
 use Rattle.c25_isa.proofs.Cases.{at_below}
-use Rattle.c25_isa.proofs.Leads.{low_half}
+use Rattle.c25_code.proofs.Halves.{low_half}
 use Rattle.c25_code.specs.Work.{Work, calm}
 use Rattle.c25_code.specs.Straight.{behind_code, CodeReady, NonEmpty, first_of, rest_of}
 use Rattle.c25_isa.specs.declared.instruction.Instr.{Instr}
@@ -132,8 +133,8 @@ shift_keeps w stack =
 -- from its first word back to the caller, in ten steps
 pub shift_leads : (program : Memory) (pc : ℕ) (w : Work) → CodeAt program pc shift_routine → NonEmpty w.stack → Leads 10 (calm program pc w) (calm program (first_of w.stack) (behind_shift w)) []
 shift_leads program pc w at has =
-    let body = code_leads program shift_body pc w (code_front program shift_body (Ret ∷ []) pc at) (shift_ready w) in
     let back = code_back program shift_body (Ret ∷ []) pc at in
+    let body = code_leads program shift_body pc w (code_front program shift_body (Ret ∷ []) pc at) (shift_ready w) (stands_below program _ Ret back.0) in
     leads_on 9 1 _ _ _ _ _ body (return_leads program (pc + 9) (behind_code shift_body w) back.0 has)
 
 -- it gives what C's shift of a signed word gives

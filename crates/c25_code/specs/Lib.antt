@@ -1,12 +1,16 @@
 pub mod Work
 pub mod Straight
 pub mod CodeRuns
-pub mod Lines
+pub mod Items
+pub mod ItemRuns
 pub mod Routines
 pub mod Repeats
 pub mod Structured
 pub mod Arrivals
 pub mod Links
 pub mod Programs
+pub mod Startups
 pub mod Accesses
+pub mod Clears
+pub mod ClearingLoops
 pub mod AccessPrograms

@@ -1,66 +1,84 @@
--- Linked lines: their marks replaced by addresses, and functions one behind another.
-use Rattle.std.specs.Prelude.{◌≡◌, ◌⊎◌, ℕ, ◌+◌, ◌<◌, ◌≤◌, ◌==◌, if◌then◌else◌, List, [], ◌∷◌, zero, suc, Option, Some, None, ◌++◌}
-use Rattle.c25_isa.specs.declared.instruction.Instr.{Instr}
-use Rattle.c25_isa.specs.declared.instruction.Instr.TheVariants.{Branch, Call}
-use Rattle.c25_isa.specs.Table.{second_word, length_of}
-use Rattle.c25_code.specs.Structured.{Emission}
-use Rattle.c25_code.specs.Lines.{Line, Plain, JumpTo, CallOf, Mark, no_change, lines_size}
+-- Pieces that stand one behind another: the first of a name, its marks, and what is asked of the marks of a piece.
+use Rattle.std.specs.Prelude.{◌⊎◌, ◌≡◌, ℕ, ◌+◌, ◌<◌, ◌≤◌, if◌then◌else◌, List, [], ◌∷◌, zero, suc, true, Option, Some, None}
+use Rattle.std.specs.Str.{bytes_eq}
+use Rattle.c25_isa.specs.declared.piece.PieceItem.{PieceItem}
+use Rattle.c25_isa.specs.declared.piece.PieceItem.TheVariants.{Do, Mark, Jump, CallTo}
+use Rattle.c25_isa.specs.Step.{wrap16}
+use Rattle.c25_isa.specs.State.{Memory}
+use Rattle.c25_isa.specs.Pieces.{Piece, items_size, mark_address, ItemsAt, piece_address}
+use Rattle.c25_code.specs.Structured.{Structured, Emission, function_items}
 
-abbrev pub linked : (ℕ → ℕ) → (ℕ → ℕ) → List Line → List Instr
-linked entries labels [] = []
-linked entries labels (Plain i ∷ ls) = i ∷ linked entries labels ls
-linked entries labels (JumpTo op mark ∷ ls) = Branch op (labels mark) no_change ∷ linked entries labels ls
-linked entries labels (CallOf name ∷ ls) = Call (entries name) no_change ∷ linked entries labels ls
-linked entries labels (Mark mark ∷ ls) = linked entries labels ls
-
--- the address of a mark in lines that stand from an address on
-abbrev pub mark_address : ℕ → List Line → ℕ → ℕ
-mark_address pc [] m = pc
-mark_address pc (Plain i ∷ ls) m = mark_address (pc + length_of (second_word i)) ls m
-mark_address pc (JumpTo op mark ∷ ls) m = mark_address (pc + 2) ls m
-mark_address pc (CallOf name ∷ ls) m = mark_address (pc + 2) ls m
-mark_address pc (Mark mark ∷ ls) m = if mark == m then pc else mark_address pc ls m
-
-abbrev pub IsMarkOf : ℕ → List Line → Type 0
+abbrev pub IsMarkOf : ℕ → List PieceItem → Type 0
 IsMarkOf m [] = ⊥
-IsMarkOf m (Plain i ∷ ls) = IsMarkOf m ls
-IsMarkOf m (JumpTo op mark ∷ ls) = IsMarkOf m ls
-IsMarkOf m (CallOf name ∷ ls) = IsMarkOf m ls
-IsMarkOf m (Mark mark ∷ ls) = (mark ≡ m) ⊎ IsMarkOf m ls
+IsMarkOf m (Do i ∷ items) = IsMarkOf m items
+IsMarkOf m (Mark mark ∷ items) = (mark ≡ m) ⊎ IsMarkOf m items
+IsMarkOf m (Jump op to o ∷ items) = IsMarkOf m items
+IsMarkOf m (CallTo name o ∷ items) = IsMarkOf m items
 
 -- no mark stands twice
-abbrev pub MarksDiffer : List Line → Type 0
+abbrev pub MarksDiffer : List PieceItem → Type 0
 MarksDiffer [] = Unit {0}
-MarksDiffer (Plain i ∷ ls) = MarksDiffer ls
-MarksDiffer (JumpTo op mark ∷ ls) = MarksDiffer ls
-MarksDiffer (CallOf name ∷ ls) = MarksDiffer ls
-MarksDiffer (Mark mark ∷ ls) = (IsMarkOf mark ls → ⊥) × MarksDiffer ls
+MarksDiffer (Do i ∷ items) = MarksDiffer items
+MarksDiffer (Mark mark ∷ items) = (IsMarkOf mark items → ⊥) × MarksDiffer items
+MarksDiffer (Jump op to o ∷ items) = MarksDiffer items
+MarksDiffer (CallTo name o ∷ items) = MarksDiffer items
 
--- lines whose marks differ and lie in a range
-pub record OwnMarks (low high : ℕ) (ls : List Line) : Type 0 where
-  pub apart : MarksDiffer ls
-  pub between : (m : ℕ) → IsMarkOf m ls → (low ≤ m) × (m < high)
+-- a word stands behind each mark
+abbrev pub MarksAtWords : List PieceItem → Type 0
+MarksAtWords [] = Unit {0}
+MarksAtWords (Do i ∷ items) = MarksAtWords items
+MarksAtWords (Mark mark ∷ items) = (1 ≤ items_size items) × MarksAtWords items
+MarksAtWords (Jump op to o ∷ items) = MarksAtWords items
+MarksAtWords (CallTo name o ∷ items) = MarksAtWords items
+
+-- items whose marks differ and lie in a range
+pub record OwnMarks (low high : ℕ) (items : List PieceItem) : Type 0 where
+  pub apart : MarksDiffer items
+  pub between : (m : ℕ) → IsMarkOf m items → (low ≤ m) × (m < high)
 
 -- the marks of each step are its own
 abbrev pub StepsOwnMarks : {S T : Type 0} → Emission S T → Type 0
 StepsOwnMarks {S = S} e = (s : S) (fresh : ℕ) → OwnMarks fresh (fresh + e.own s) (e.code s fresh)
 
--- functions by their numbers, each with its lines: a body, the entries, the labels of each, and the instructions of all
+-- the first piece of a name
+abbrev pub first_piece : List Piece → List ℕ → Option Piece
+first_piece [] name = None
+first_piece (p ∷ ps) name = if bytes_eq p.name name then Some p else first_piece ps name
+
+-- where pieces stand one behind another from program word 0 on: the address of a name, and those of the marks of its first piece
+abbrev pub address_of : List Piece → List ℕ → ℕ
+address_of all name = wrap16 (piece_address 0 all name)
+
+abbrev pub marks_of : ℕ → List Piece → List ℕ → ℕ → ℕ
+marks_of at [] name mark = 0
+marks_of at (p ∷ ps) name mark = if bytes_eq p.name name then wrap16 (mark_address at p.items mark) else marks_of (at + items_size p.items) ps name mark
+
+abbrev pub pieces_size : List Piece → ℕ
+pieces_size [] = 0
+pieces_size (p ∷ ps) = items_size p.items + pieces_size ps
+
+-- the first piece of each name stands at its address, with its marks
+abbrev pub AllStand : Memory → List Piece → Type 0
+AllStand program all = (name : List ℕ) (p : Piece) → first_piece all name ≡ Some p → ItemsAt program (marks_of 0 all name) (address_of all) (address_of all name) p.items × (address_of all name + items_size p.items ≤ 65536)
+
+-- marks differ, a word stands behind each, and there is a word
+abbrev pub MarksAreFit : List PieceItem → Type 0
+MarksAreFit items = MarksDiffer items × MarksAtWords items × (1 ≤ items_size items)
+
+abbrev pub PieceIsFit : Piece → Type 0
+PieceIsFit p = MarksAreFit p.items
+
+-- functions by their numbers, and with their names from a number on
+abbrev pub numbered_functions : {S T : Type 0} → Emission S T → ℕ → List (Structured S T) → List Piece
+numbered_functions e function [] = []
+numbered_functions e function (body ∷ bodies) =
+    record { name = e.name function; listed = true; items = function_items e function body } ∷ numbered_functions e (suc function) bodies
+
 abbrev pub body_of : {I : Type 0} → List I → ℕ → Option I
-body_of [] name = None
+body_of [] function = None
 body_of (f ∷ fs) zero = Some f
-body_of (f ∷ fs) (suc name) = body_of fs name
+body_of (f ∷ fs) (suc function) = body_of fs function
 
-abbrev pub entry_of : {I : Type 0} → (I → List Line) → ℕ → List I → ℕ → ℕ
-entry_of lines pc [] name = pc
-entry_of lines pc (f ∷ fs) zero = pc
-entry_of lines pc (f ∷ fs) (suc name) = entry_of lines (pc + lines_size (lines f)) fs name
-
-abbrev pub labels_of : {I : Type 0} → (I → List Line) → ℕ → List I → ℕ → ℕ → ℕ
-labels_of lines pc [] name m = 0
-labels_of lines pc (f ∷ fs) zero m = mark_address pc (lines f) m
-labels_of lines pc (f ∷ fs) (suc name) m = labels_of lines (pc + lines_size (lines f)) fs name m
-
-abbrev pub functions_code : {I : Type 0} → (I → List Line) → (ℕ → ℕ) → ℕ → List I → List Instr
-functions_code lines entries pc [] = []
-functions_code lines entries pc (f ∷ fs) = linked entries (mark_address pc (lines f)) (lines f) ++ functions_code lines entries (pc + lines_size (lines f)) fs
+-- the first piece of each function's name has the function's items
+abbrev pub HoldsFunctions : {S T : Type 0} → Emission S T → (ℕ → Option (Structured S T)) → List Piece → Type 0
+HoldsFunctions {S = S} {T = T} e bodies all = (function : ℕ) (body : Structured S T) → bodies function ≡ Some body → (p : Piece) × (first_piece all (e.name function) ≡ Some p) × (p.items ≡ function_items e function body)

@@ -11,7 +11,7 @@ use Rattle.c25_isa.specs.CodeAt.{StandsAt, CodeAt}
 use Rattle.c25_isa.specs.Leads.{Leads}
 use Rattle.c25_code.specs.Work.{Work, calm}
 use Rattle.c25_code.specs.Straight.{NonEmpty, first_of, rest_of}
-use Rattle.c25_code.specs.Lines.{no_change}
+use Rattle.c25_code.specs.Items.{no_change}
 
 -- the word in 0300h by the count in 0301h; 0302h is overwritten
 abbrev pub shift_body : List Instr
@@ -50,7 +50,7 @@ pub record ShiftsRight (code : List Instr) : Type 0 where
 
 -- a call of it comes back behind the call in eleven, with the hardware stack as it was
 pub record ShiftsWhereCalled (code : List Instr) : Type 0 where
-  pub by : (program : Memory) (entry pc : ℕ) (w : Work) → CodeAt program entry code → StandsAt program pc (Call entry no_change) → length w.stack < 8 → w.ram 0x300 < 65536 → w.ram 0x301 < 16 → (u : Work) × Leads 11 (calm program pc w) (calm program (pc + 2) u) [] × (int_shift_right (w.ram 0x300) (w.ram 0x301) ≡ Good (wrap16 u.acc)) × (u.stack ≡ w.stack) × ShiftKeeps w u
+  pub by : (program : Memory) (entry pc : ℕ) (w : Work) → CodeAt program entry code → StandsAt program pc (Call entry no_change) → length w.stack < 8 → w.ram 0x300 < 65536 → w.ram 0x301 < 16 → pc + 2 < 65536 → (u : Work) × Leads 11 (calm program pc w) (calm program (pc + 2) u) [] × (int_shift_right (w.ram 0x300) (w.ram 0x301) ≡ Good (wrap16 u.acc)) × (u.stack ≡ w.stack) × ShiftKeeps w u
 
 -- divides the word in ACC by the word at an offset of the page
 abbrev pub division_code : ℕ → List Instr
@@ -58,4 +58,4 @@ division_code offset = Rptk 15 ∷ Subc (Direct offset) ∷ []
 
 -- for a divisor of 1 to 7FFFh it takes seventeen steps and changes ACC alone: the low half is C's quotient, the high half the remainder
 pub record DividesWord (code : List Instr) (offset : ℕ) : Type 0 where
-  pub by : (program : Memory) (pc : ℕ) (w : Work) (divisor : ℕ) → CodeAt program pc code → 0x300 ≤ w.dp * 128 + offset → w.ram (w.dp * 128 + offset) ≡ divisor → 1 ≤ divisor → divisor < 32768 → w.acc < 65536 → (acc : ℕ) × Leads 17 (calm program pc w) (calm program (pc + 2) (record w { acc = acc })) [] × (unsigned_quotient w.acc divisor ≡ Good (acc % 65536)) × (unsigned_remainder w.acc divisor ≡ Good (acc / 65536))
+  pub by : (program : Memory) (pc : ℕ) (w : Work) (divisor : ℕ) → CodeAt program pc code → 0x300 ≤ w.dp * 128 + offset → w.ram (w.dp * 128 + offset) ≡ divisor → 1 ≤ divisor → divisor < 32768 → w.acc < 65536 → pc + 2 < 65536 → (acc : ℕ) × Leads 17 (calm program pc w) (calm program (pc + 2) (record w { acc = acc })) [] × (unsigned_quotient w.acc divisor ≡ Good (acc % 65536)) × (unsigned_remainder w.acc divisor ≡ Good (acc / 65536))

@@ -1,6 +1,6 @@
 -- Straight code (docs/MACHINE.md, "Instructions" and "Steps and traps"): what instructions do one behind another, as total functions of work,
--- and beside them what has to hold for no trap and no end to come. Whether a jump is taken stands here too.
-use Rattle.std.specs.Prelude.{◌≡◌, ℕ, zero, suc, ◌+◌, ◌-◌, ◌*◌, ◌/◌, ◌%◌, ◌^◌, ◌<◌, ◌≤◌, Bool, true, false, not, nat_le, ◌==◌, ◌||◌, if◌then◌else◌, List, [], ◌∷◌, length, bit_and, bit_or, bit_xor, Option, Some, None}
+-- and beside them what has to hold for no trap and no end to come, and whether the modes matter. Whether a jump is taken stands here too.
+use Rattle.std.specs.Prelude.{◌≡◌, ◌⊎◌, ℕ, zero, suc, ◌+◌, ◌-◌, ◌*◌, ◌/◌, ◌%◌, ◌^◌, ◌<◌, ◌≤◌, Bool, true, false, not, nat_le, ◌==◌, ◌||◌, if◌then◌else◌, List, [], ◌∷◌, length, bit_and, bit_or, bit_xor, Option, Some, None}
 use Rattle.word_base.specs.Words.{signed_of}
 use Rattle.word_base.specs.Ports.{Outputs}
 use Rattle.c25_isa.specs.declared.operand.Operand.{Operand}
@@ -8,11 +8,11 @@ use Rattle.c25_isa.specs.declared.operand.Operand.TheVariants as operand
 use Rattle.c25_isa.specs.declared.instruction.JumpOp.{JumpOp}
 use Rattle.c25_isa.specs.declared.instruction.JumpOp.TheVariants as jump
 use Rattle.c25_isa.specs.declared.instruction.Instr.{Instr}
-use Rattle.c25_isa.specs.declared.instruction.Instr.TheVariants.{Add, Sub, Lac, Lar, Mpy, Lt, Zals, Lact, Subs, Subc, Adds, Rpt, Xor, Or, And, Pshd, Mar, Sacl, Sach, Sar, Popd, Adrk, Sbrk, In, Mpyk, Lark, Ldpk, Lack, Rptk, Addk, Subk, Rsxm, Ssxm, Pac, Apac, Spac, Sfl, Sfr, Idle, Neg, Ret, Cmpl, Lrlk, Lalk, Adlk, Sblk, Andk, Ork, Xork, Out, Branch, Call}
+use Rattle.c25_isa.specs.declared.instruction.Instr.TheVariants.{Add, Sub, Lac, Lar, Mpy, Lt, Zals, Lact, Subs, Subc, Adds, Rpt, Xor, Or, And, Pshd, Mar, Sacl, Sach, Sar, Popd, Adrk, Sbrk, In, Mpyk, Lark, Ldpk, Lack, Rptk, Addk, Subk, Rovm, Rsxm, Ssxm, Spm, Pac, Apac, Spac, Sfl, Sfr, Idle, Neg, Ret, Cmpl, Lrlk, Lalk, Adlk, Sblk, Andk, Ork, Xork, Out, Branch, Call}
 use Rattle.c25_isa.specs.State.{write}
 use Rattle.c25_isa.specs.Table.{second_word, length_of}
-use Rattle.c25_isa.specs.Step.{wrap16, wrap32, extended, plus, minus, product, divided, half, changed, next_arp, changes}
-use Rattle.c25_code.specs.Work.{Work}
+use Rattle.c25_isa.specs.Step.{wrap16, wrap32, extended, plus, minus, product, divided, half, changed, next_arp, changes, sums, takes_product}
+use Rattle.c25_code.specs.Work.{Work, Modes, calm_modes}
 
 -- the address of an operand, and its word
 abbrev pub operand_address : Work → Operand → ℕ
@@ -154,6 +154,23 @@ InstrReady Ret w = ⊥
 InstrReady (Branch op to i) w = ⊥
 InstrReady (Call to i) w = ⊥
 InstrReady i w = Unit {0}
+
+-- whether the modes matter to it: it forms a sum, takes a product or sets a mode
+abbrev pub sets_mode : Instr → Bool
+sets_mode Rovm = true
+sets_mode Spm = true
+sets_mode i = false
+
+abbrev pub minds_modes : Instr → Bool
+minds_modes i = sums i || (takes_product i || sets_mode i)
+
+abbrev pub code_minds_modes : List Instr → Bool
+code_minds_modes [] = false
+code_minds_modes (i ∷ is) = minds_modes i || code_minds_modes is
+
+-- what is done doesn't mind the modes, or they are calm
+abbrev pub FitModes : Modes → Bool → Type 0
+FitModes modes minds = (minds ≡ false) ⊎ (modes ≡ calm_modes)
 
 -- the code as a whole
 abbrev pub behind_code : List Instr → Work → Work

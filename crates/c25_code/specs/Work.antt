@@ -1,5 +1,5 @@
--- Work: the part of the machine's state (docs/MACHINE.md, "State") that straight code reads and changes, and the calm states, in which it runs.
--- PC, OVM and PM (0 here), a pending repeat (none here) and program memory are no part of it, so nothing has to be said of them.
+-- Work: the part of the machine's state (docs/MACHINE.md, "State") that straight code reads and changes, and the states in which it runs: at any
+-- modes where it doesn't mind them, else the calm ones. PC, the modes, a pending repeat (none here) and program memory are no part of work.
 use Rattle.std.specs.Prelude.{ℕ, ◌<◌, ◌≤◌, ◌^◌, Bool, false, List, length, All, None}
 use Rattle.word_base.specs.Ports.{Input, IsInput}
 use Rattle.c25_isa.specs.State.{State, Memory}
@@ -16,9 +16,14 @@ pub record Work : Type 0 where
   pub ram : Memory
   pub input : Input
 
--- a calm state: no repeat is pending, and sums and products are neither cut nor shifted
-abbrev pub calm : Memory → ℕ → Work → State
-calm program pc w = record {
+-- whether sums are cut (OVM), and the shift of products (PM)
+pub record Modes : Type 0 where
+  pub ovm : Bool
+  pub pm : ℕ
+
+-- a state at these modes in which no repeat is pending
+abbrev pub at_modes : Modes → Memory → ℕ → Work → State
+at_modes modes program pc w = record {
   acc = w.acc;
   t = w.t;
   p = w.p;
@@ -27,14 +32,24 @@ calm program pc w = record {
   dp = w.dp;
   pc = pc;
   sxm = w.sxm;
-  ovm = false;
-  pm = 0;
+  ovm = modes.ovm;
+  pm = modes.pm;
   stack = w.stack;
   repeats = None;
   program = program;
   ram = w.ram;
   input = w.input;
 }
+
+-- sums and products are neither cut nor shifted
+abbrev pub calm_modes : Modes
+calm_modes = record { ovm = false; pm = 0 }
+
+abbrev pub calm : Memory → ℕ → Work → State
+calm program pc w = at_modes calm_modes program pc w
+
+abbrev pub modes_of : State → Modes
+modes_of s = record { ovm = s.ovm; pm = s.pm }
 
 abbrev pub work_of : State → Work
 work_of s = record {

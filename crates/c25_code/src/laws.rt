@@ -1,37 +1,39 @@
 //! What emitted code does, as laws: each call does nothing, its clauses are what crates above cite.
-ghost use Rattle.std.specs.Prelude.{◌≡◌, ℕ, ◌+◌, ◌<◌, ◌≤◌, List, [], ◌∷◌, length, Option, Some, None};
+ghost use Rattle.std.specs.Prelude.{◌≡◌, false, ℕ, ◌+◌, ◌*◌, ◌<◌, ◌≤◌, Bool, List, [], ◌∷◌, length, Option, None};
+ghost use Rattle.std.specs.List.{AllByRecursion};
 ghost use Rattle.word_base.specs.declared.outcome.Ending.{Ending};
 ghost use Rattle.word_base.specs.declared.outcome.Ending.TheVariants.{Returned};
 ghost use Rattle.word_base.specs.declared.outcome.Outcome.{Outcome};
-ghost use Rattle.word_base.specs.Ports.{Input, Outputs};
+ghost use Rattle.word_base.specs.Ports.{Input, IsInput, Outputs};
+ghost use Rattle.word_base.specs.declared.outcome.Outcome.TheVariants as source;
+ghost use Rattle.word_base.specs.Keeps.{Outcomes, Keeps};
 ghost use Rattle.c25_isa.specs.declared.instruction.Instr.{Instr};
 ghost use Rattle.c25_isa.specs.declared.instruction.Instr.TheVariants.{Rovm, Spm, Idle, Ret, Branch, Call};
 ghost use Rattle.c25_isa.specs.declared.instruction.JumpOp.{JumpOp};
 ghost use Rattle.c25_isa.specs.declared.operand.Indirect.{Indirect};
 ghost use Rattle.c25_isa.specs.declared.operand.Operand.TheVariants.{Indirect as Through};
-ghost use Rattle.c25_isa.specs.Agrees.{AgreesAt};
-ghost use Rattle.c25_isa.specs.State.{State, Memory, Start};
+ghost use Rattle.c25_isa.specs.Agrees.{SourceRuns, Steps, any_number, at_most, EndsAlike, PutsBefore, GoesOnAlike, AgreesAt, Agrees};
+ghost use Rattle.c25_isa.specs.Image.{Contents};
+ghost use Rattle.c25_isa.specs.Pieces.{Piece, pieces_code, Linked, PiecesFit};
+ghost use Rattle.c25_isa.specs.State.{State, Memory, Start, IsStart, BeginsWith};
 ghost use Rattle.c25_isa.specs.Step.{Over, wrap16, step};
-ghost use Rattle.c25_isa.specs.MachineRun.{machine_run};
+ghost use Rattle.c25_isa.specs.MachineRun.{HasStopped, machine_run};
 ghost use Rattle.c25_isa.specs.Table.{IsInstr};
 ghost use Rattle.c25_isa.specs.CodeAt.{StandsAt, CodeAt};
 ghost use Rattle.c25_isa.specs.Leads.{Leads};
-ghost use Rattle.c25_code.specs.Work.{Work, calm, work_of, InRange};
-ghost use Rattle.c25_code.specs.Straight.{behind_operand, first_of, rest_of, NonEmpty, behind_instr, InstrReady, code_size, branch_target};
+ghost use Rattle.c25_code.specs.Work.{Work, Modes, at_modes, calm, modes_of, work_of, InRange};
+ghost use Rattle.c25_code.specs.Straight.{behind_operand, first_of, rest_of, NonEmpty, behind_instr, InstrReady, code_size, code_minds_modes, FitModes, is_taken, branch_target};
 ghost use Rattle.c25_code.specs.CodeRuns.{CodeRuns, EndsAtInput, RunsInPart};
-ghost use Rattle.c25_code.specs.Lines.{Line, LinesAt};
 ghost use Rattle.c25_code.specs.Repeats.{RepeatLeads};
 ghost use Rattle.c25_code.specs.Routines.{division_code, DividesWord};
-ghost use Rattle.c25_code.specs.Structured.{Structured, Meaning, Emission, Result, call_function, function_lines};
-ghost use Rattle.c25_code.specs.Arrivals.{Related, EmitsRight, CallsArrive, CodeArrives, FunctionsStand};
-ghost use Rattle.c25_code.specs.Links.{MarksDiffer, StepsOwnMarks, body_of, entry_of, labels_of, functions_code};
-ghost use Rattle.c25_code.specs.Programs.{HasStopped, ProgramStands, MeetsFromReset, IsOutcomeOf};
-ghost use Rattle.c25_code.specs.Accesses.{Cells};
-ghost use Rattle.c25_code.specs.AccessPrograms.{AccessBody, AccessProgramStands, access_meaning};
+ghost use Rattle.c25_code.specs.Structured.{Structured, Meaning, Emission, Result, call_function, function_items};
+ghost use Rattle.c25_code.specs.Arrivals.{Related, HasCallers, by_rank, StepEmitsRight, StepsEmitRight, EmitsRight, CanReturn, CallArrives, CodeArrives, FunctionsStand, CallsFit};
+ghost use Rattle.c25_code.specs.Links.{StepsOwnMarks, address_of, marks_of, pieces_size, MarksAreFit, PieceIsFit, AllStand, HoldsFunctions};
+ghost use Rattle.c25_code.specs.Programs.{ProgramStands, MeetsFromReset, IsOutcomeOf, effort_of};
 
 /// Straight code that stands in program memory leads from a calm state to a calm state, in one step an instruction.
 pub fn straight_code_leads()
-    ensures leads { (program : Memory) (code : List Instr) (pc : ℕ) (w u : Work) (put : Outputs) → CodeAt program pc code → CodeRuns code w u put
+    ensures leads { (program : Memory) (code : List Instr) (pc : ℕ) (w u : Work) (put : Outputs) → CodeAt program pc code → CodeRuns code w u put → pc + code_size code < 65536
         → Leads (length code) (calm program pc w) (calm program (pc + code_size code) u) put }
     // The run ends at an input of a port that has no word left, behind a step for each instruction before it.
     ensures ends { (program : Memory) (code : List Instr) (pc : ℕ) (w : Work) (put : Outputs) (ending : Ending) → CodeAt program pc code → (at : EndsAtInput code w put ending)
@@ -43,17 +45,37 @@ pub fn straight_code_leads()
     ensures ranges { (i : Instr) (w : Work) → IsInstr i → InstrReady i w → InRange w → InRange (behind_instr i w) }
 {}
 
+/// Straight code that doesn't mind the modes leads on at any: it forms no sum, takes no product and sets no mode. Jumps, calls and returns lead
+/// on at any, and IDLE ends there.
+pub fn code_leads_at_modes()
+    // A state without a repeat is one at its modes, as each is behind a reset.
+    ensures each { (s : State) → s.repeats ≡ None → s ≡ at_modes (modes_of s) s.program s.pc (work_of s) }
+    ensures leads { (modes : Modes) (program : Memory) (code : List Instr) (pc : ℕ) (w u : Work) (put : Outputs) → FitModes modes (code_minds_modes code) → CodeAt program pc code → CodeRuns code w u put → pc + code_size code < 65536
+        → Leads (length code) (at_modes modes program pc w) (at_modes modes program (pc + code_size code) u) put }
+    ensures ends { (modes : Modes) (program : Memory) (code : List Instr) (pc : ℕ) (w : Work) (put : Outputs) (ending : Ending) → FitModes modes (code_minds_modes code) → CodeAt program pc code → (at : EndsAtInput code w put ending)
+        → (t : State) × Leads (length at.front) (at_modes modes program pc w) t put × (step t ≡ Over ending) }
+    ensures part { (modes : Modes) (program : Memory) (code : List Instr) (pc : ℕ) (w : Work) (put : Outputs) → FitModes modes (code_minds_modes code) → CodeAt program pc code → (at : RunsInPart code w put)
+        → (t : State) × Leads (length at.front) (at_modes modes program pc w) t put }
+    ensures branch { (modes : Modes) (program : Memory) (pc : ℕ) (w : Work) (op : JumpOp) (to : ℕ) (i : Indirect) → StandsAt program pc (Branch op to i) → (is_taken op w.acc ≡ false → pc + 2 < 65536)
+        → Leads 1 (at_modes modes program pc w) (at_modes modes program (branch_target op w.acc to (pc + 2)) (behind_operand (Through i) w)) [] }
+    ensures call { (modes : Modes) (program : Memory) (pc : ℕ) (w : Work) (to : ℕ) (i : Indirect) → StandsAt program pc (Call to i) → length w.stack < 8 → pc + 2 < 65536
+        → Leads 1 (at_modes modes program pc w) (at_modes modes program to (behind_operand (Through i) (record w { stack = (pc + 2) ∷ w.stack }))) [] }
+    ensures back { (modes : Modes) (program : Memory) (pc : ℕ) (w : Work) → StandsAt program pc Ret → NonEmpty w.stack
+        → Leads 1 (at_modes modes program pc w) (at_modes modes program (first_of w.stack) (record w { stack = rest_of w.stack })) [] }
+    ensures end { (modes : Modes) (program : Memory) (pc : ℕ) (w : Work) → StandsAt program pc Idle → step (at_modes modes program pc w) ≡ Over (Returned (wrap16 w.acc)) }
+{}
+
 /// Jumps, calls and returns lead from a calm state to a calm state in one step, and IDLE ends there.
 pub fn jumps_lead()
-    ensures branch { (program : Memory) (pc : ℕ) (w : Work) (op : JumpOp) (to : ℕ) (i : Indirect) → StandsAt program pc (Branch op to i)
+    ensures branch { (program : Memory) (pc : ℕ) (w : Work) (op : JumpOp) (to : ℕ) (i : Indirect) → StandsAt program pc (Branch op to i) → (is_taken op w.acc ≡ false → pc + 2 < 65536)
         → Leads 1 (calm program pc w) (calm program (branch_target op w.acc to (pc + 2)) (behind_operand (Through i) w)) [] }
-    ensures call { (program : Memory) (pc : ℕ) (w : Work) (to : ℕ) (i : Indirect) → StandsAt program pc (Call to i) → length w.stack < 8
+    ensures call { (program : Memory) (pc : ℕ) (w : Work) (to : ℕ) (i : Indirect) → StandsAt program pc (Call to i) → length w.stack < 8 → pc + 2 < 65536
         → Leads 1 (calm program pc w) (calm program to (behind_operand (Through i) (record w { stack = (pc + 2) ∷ w.stack }))) [] }
     ensures back { (program : Memory) (pc : ℕ) (w : Work) → StandsAt program pc Ret → NonEmpty w.stack
         → Leads 1 (calm program pc w) (calm program (first_of w.stack) (record w { stack = rest_of w.stack })) [] }
     ensures end { (program : Memory) (pc : ℕ) (w : Work) → StandsAt program pc Idle → step (calm program pc w) ≡ Over (Returned (wrap16 w.acc)) }
     // ROVM and SPM make each state calm where no repeat is pending.
-    ensures calms { (s : State) → s.repeats ≡ None → CodeAt s.program s.pc (Rovm ∷ Spm ∷ []) → Leads 2 s (calm s.program (s.pc + 1 + 1) (work_of s)) [] }
+    ensures calms { (s : State) → s.repeats ≡ None → CodeAt s.program s.pc (Rovm ∷ Spm ∷ []) → s.pc + 2 < 65536 → Leads 2 s (calm s.program (s.pc + 1 + 1) (work_of s)) [] }
 {}
 
 /// A word that may be repeated is done so often behind RPTK.
@@ -68,23 +90,47 @@ pub fn divides_words()
 
 /// Structured code does what it means, for steps and tests of any kind that are emitted right.
 pub fn structured_code_arrives<S, T, A, R>()
-    ensures arrives { (m : Meaning S T A) (e : Emission S T) (pairs : R → A × Work) (limit : ℕ) (program : Memory) (entries labels : ℕ → ℕ) (n : ℕ) (stack : List ℕ) (call : ℕ → A → Result A)
-        → EmitsRight S T A m e (Related pairs) limit program entries → NonEmpty stack → length stack ≤ limit → CallsArrive A (Related pairs) program entries n stack call
-        → CodeArrives S T A m e (Related pairs) program entries labels n stack call }
-    // Calls of functions that stand at their entries come back with what the functions mean, as long as the stack has room for the levels.
-    ensures calls { (m : Meaning S T A) (e : Emission S T) (pairs : R → A × Work) (limit : ℕ) (program : Memory) (entries : ℕ → ℕ) (bodies : ℕ → Option (Structured S T)) (labels : ℕ → ℕ → ℕ) (n depth : ℕ) (stack : List ℕ)
-        → EmitsRight S T A m e (Related pairs) limit program entries → FunctionsStand S T e program entries bodies labels → depth + length stack ≤ limit
-        → CallsArrive A (Related pairs) program entries n stack (call_function m bodies n depth) }
+    ensures arrives { (m : Meaning S T A) (e : Emission S T) (pairs : R → A × Work) (limit : ℕ) (program : Memory) (names : List ℕ → ℕ) (callers : ℕ → ℕ → Bool) (marks : ℕ → ℕ) (n function : ℕ) (begin : Work) (call : ℕ → A → Result A)
+        → EmitsRight S T A m e (Related pairs) limit callers → CanReturn limit (e.word function) begin.stack
+        → CodeArrives S T A m e (Related pairs) limit program names callers marks n function begin call }
+    // Calls of functions that stand at the addresses of their names come back with what the functions mean, where the hardware stack has room.
+    ensures calls { (m : Meaning S T A) (e : Emission S T) (pairs : R → A × Work) (limit : ℕ) (program : Memory) (names : List ℕ → ℕ) (callers : ℕ → ℕ → Bool) (bodies : ℕ → Option (Structured S T)) (marks : ℕ → ℕ → ℕ) (rank room : ℕ → ℕ) (n levels : ℕ) (stack : List ℕ) (function : ℕ)
+        → EmitsRight S T A m e (Related pairs) limit callers → StepsEmitRight S T A m e (Related pairs) limit program names callers bodies → HasCallers S T callers bodies → FunctionsStand S T e program names bodies marks → CallsFit S T e.word bodies rank room → rank function < levels → length stack + room function ≤ limit
+        → CallArrives A (Related pairs) program e.word callers n stack function (names (e.name function)) (call_function m bodies n levels function) }
+    // Where calls go to lower ranks a table may take all functions of higher ranks for callers.
+    ensures ranked { (word : ℕ → Option ℕ) (bodies : ℕ → Option (Structured S T)) (rank room : ℕ → ℕ) → CallsFit S T word bodies rank room → HasCallers S T (by_rank rank) bodies }
+    // Steps that are emitted right in each function are so in all bodies.
+    ensures steps { (m : Meaning S T A) (e : Emission S T) (pairs : R → A × Work) (limit : ℕ) (program : Memory) (names : List ℕ → ℕ) (callers : ℕ → ℕ → Bool) (bodies : ℕ → Option (Structured S T))
+        → ((function : ℕ) (s : S) → StepEmitsRight S T A m e (Related pairs) limit program names callers function s)
+        → StepsEmitRight S T A m e (Related pairs) limit program names callers bodies }
+    // Levels of calls that are enough give what any more give.
+    ensures levels { (m : Meaning S T A) (word : ℕ → Option ℕ) (bodies : ℕ → Option (Structured S T)) (rank room : ℕ → ℕ) (n few more function : ℕ) (a : A) → CallsFit S T word bodies rank room → rank function < few → rank function < more
+        → call_function m bodies n more function a ≡ call_function m bodies n few function a }
 {}
 
-/// Linked functions one behind another stand each at its entry, where the marks of each step are its own.
-pub fn linked_functions_stand<S, T, I>()
-    ensures stand { (e : Emission S T) (program : Memory) (entries : ℕ → ℕ) (functions : List (Structured S T)) (pc : ℕ) → StepsOwnMarks e
-        → CodeAt program pc (functions_code (function_lines e) entries pc functions)
-        → (name : ℕ) (body : Structured S T) → body_of functions name ≡ Some body → LinesAt program entries (labels_of (function_lines e) pc functions name) (entry_of (function_lines e) pc functions name) (function_lines e body) }
-    // So do pieces of any kind whose marks differ: routines and functions side by side.
-    ensures pieces { (lines : I → List Line) (program : Memory) (entries : ℕ → ℕ) (all : List I) (pc : ℕ) → ((i : I) → MarksDiffer (lines i)) → CodeAt program pc (functions_code lines entries pc all)
-        → (name : ℕ) (piece : I) → body_of all name ≡ Some piece → LinesAt program entries (labels_of lines pc all name) (entry_of lines pc all name) (lines piece) }
+/// Pieces whose instructions stand in program memory one behind another stand each at its address, with their marks at their addresses.
+pub fn linked_pieces_stand<S, T>()
+    ensures pieces { (program : Memory) (all : List Piece) → AllByRecursion PieceIsFit all → pieces_size all ≤ 65536 → CodeAt program 0 (pieces_code (address_of all) 0 all) → AllStand program all }
+    // So do those of an image at a reset.
+    ensures image { (b : Start) (all : List Piece) (image : Contents) → Linked all image → BeginsWith image.words b
+        → PiecesFit all → AllByRecursion PieceIsFit all → pieces_size all ≤ 65536 → AllStand b.program all }
+    // The marks of a function are fit where those of its steps are their own.
+    ensures marks { (e : Emission S T) (function : ℕ) (body : Structured S T) → StepsOwnMarks e → MarksAreFit (function_items e function body) }
+    // So functions among such pieces stand.
+    ensures functions { (e : Emission S T) (program : Memory) (all : List Piece) (bodies : ℕ → Option (Structured S T)) → AllStand program all → HoldsFunctions e bodies all
+        → FunctionsStand S T e program (address_of all) bodies (λ function. marks_of 0 all (e.name function)) }
+{}
+
+/// A run agrees where another one does that keeps it, part by part; a limit of steps may be widened.
+pub fn agreement_composes()
+    ensures ends { (most : ℕ → ℕ) (run other : Outcomes) (machine : Steps) → Keeps run other → EndsAlike (at_most most) other machine → EndsAlike (at_most most) run machine }
+    ensures goes_on { (run other : Outcomes) (machine : Steps) → Keeps run other → GoesOnAlike other machine → GoesOnAlike run machine }
+    // The other run may end or go on there.
+    ensures undefined { (run other : Outcomes) (machine : Steps) → Keeps run other → AgreesAt other machine → PutsBefore run machine }
+    ensures all { (run other : Outcomes) (machine : Steps) → Keeps run other → AgreesAt other machine → AgreesAt run machine }
+    ensures everywhere { (run other : SourceRuns) (words : List ℕ) → ((input : Input) → IsInput input → Keeps (run input) (other input)) → Agrees other words → Agrees run words }
+    ensures wider { (few most : ℕ → ℕ) (run : Outcomes) (machine : Steps) → ((n : ℕ) (outs : Outputs) (ending : Ending) → run n ≡ source.Ended outs ending → few n ≤ most n) → EndsAlike (at_most few) run machine → EndsAlike (at_most most) run machine }
+    ensures any { (most : ℕ → ℕ) (run : Outcomes) (machine : Steps) → EndsAlike (at_most most) run machine → EndsAlike any_number run machine }
 {}
 
 /// What ended, or what a trap stopped, is so at every greater number of steps.
@@ -94,19 +140,21 @@ pub fn stopped_runs_stay()
 
 /// A whole program does from a reset what it means, so it agrees with each source whose outcomes are its results.
 pub fn programs_agree<S, T, A, R>()
-    ensures meets { (m : Meaning S T A) (e : Emission S T) (pairs : R → A × Work) (limit : ℕ) (value : A → ℕ) (b : Start) (input : Input) (bodies : ℕ → Option (Structured S T)) (main : ℕ) (first : A) (n : ℕ)
-        → ProgramStands S T A m e (Related pairs) limit value b input bodies main first
-        → MeetsFromReset value b input n (call_function m bodies n limit main first) }
-    ensures agrees { (m : Meaning S T A) (e : Emission S T) (pairs : R → A × Work) (limit : ℕ) (value : A → ℕ) (b : Start) (input : Input) (bodies : ℕ → Option (Structured S T)) (main : ℕ) (first : A) (run : ℕ → Outcome)
-        → ProgramStands S T A m e (Related pairs) limit value b input bodies main first
-        → ((n : ℕ) → IsOutcomeOf value (call_function m bodies n limit main first) (run n))
+    ensures meets { (m : Meaning S T A) (e : Emission S T) (pairs : R → A × Work) (limit levels steps : ℕ) (value : A → ℕ) (b : Start) (input : Input) (bodies : ℕ → Option (Structured S T)) (main : ℕ) (first : A) (n : ℕ)
+        → ProgramStands S T A m e (Related pairs) limit levels steps value b input bodies main first
+        → MeetsFromReset value b input (steps + 3) n (call_function m bodies n levels main first) }
+    ensures agrees { (m : Meaning S T A) (e : Emission S T) (pairs : R → A × Work) (limit levels steps : ℕ) (value : A → ℕ) (b : Start) (input : Input) (bodies : ℕ → Option (Structured S T)) (main : ℕ) (first : A) (run : ℕ → Outcome)
+        → ProgramStands S T A m e (Related pairs) limit levels steps value b input bodies main first
+        → ((n : ℕ) → IsOutcomeOf value (call_function m bodies n levels main first) (run n))
         → AgreesAt run (machine_run b input) }
-{}
-
-/// Programs over accesses to lists do from a reset what they mean, by their words alone.
-pub fn access_programs_agree()
-    ensures agrees { (bases sizes : ℕ → ℕ) (b : Start) (input : Input) (init : List Instr) (bodies : List AccessBody) (main : ℕ) (first : Cells) (run : ℕ → Outcome)
-        → AccessProgramStands bases sizes b input init bodies main first
-        → ((n : ℕ) → IsOutcomeOf (λ c. wrap16 c.acc) (call_function (access_meaning sizes) (body_of bodies) n 8 main first) (run n))
-        → AgreesAt run (machine_run b input) }
+    // From every start at once.
+    ensures everywhere { (m : Meaning S T A) (e : Emission S T) (pairs : R → A × Work) (limit levels steps : ℕ) (value : A → ℕ) (bodies : ℕ → Option (Structured S T)) (main : ℕ) (first : Start → Input → A) (run : SourceRuns) (words : List ℕ)
+        → ((b : Start) (input : Input) → IsStart b → BeginsWith words b → IsInput input → ProgramStands S T A m e (Related pairs) limit levels steps value b input bodies main (first b input))
+        → ((b : Start) (input : Input) (n : ℕ) → IsStart b → BeginsWith words b → IsInput input → IsOutcomeOf value (call_function m bodies n levels main (first b input)) (run input n))
+        → Agrees run words }
+    // It ends within 64 steps for each effort, and the startup's.
+    ensures within { (m : Meaning S T A) (e : Emission S T) (pairs : R → A × Work) (limit levels steps : ℕ) (value : A → ℕ) (b : Start) (input : Input) (bodies : ℕ → Option (Structured S T)) (main : ℕ) (first : A) (run : ℕ → Outcome)
+        → ProgramStands S T A m e (Related pairs) limit levels steps value b input bodies main first
+        → ((n : ℕ) → IsOutcomeOf value (call_function m bodies n levels main first) (run n))
+        → EndsAlike (at_most (λ n. 64 * effort_of (call_function m bodies n levels main first) + (steps + 3))) run (machine_run b input) }
 {}

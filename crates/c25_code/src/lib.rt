@@ -1,12 +1,16 @@
 //! What emitted code does: laws on straight code, jumps, calls, repeats and structured code over c25_isa's machine, a routine, and a division.
-//! Crates that write code cite them, and then say nothing of steps and addresses themselves.
+//! A crate that writes code says of its own steps what they do where they stand; control flow, calls, marks and counts are done here.
 #![tactic(auto)]
 
 mod laws;
+mod operations;
 mod routines;
+mod starting;
 
 pub use laws::{
-    access_programs_agree, divides_words, jumps_lead, linked_functions_stand, programs_agree,
-    repeats_lead, stopped_runs_stay, straight_code_leads, structured_code_arrives,
+    agreement_composes, code_leads_at_modes, divides_words, jumps_lead, linked_pieces_stand,
+    programs_agree, repeats_lead, stopped_runs_stay, straight_code_leads, structured_code_arrives,
 };
+pub use operations::access_programs_agree;
 pub use routines::shift_code;
+pub use starting::{items_run, startups_arrive};

@@ -1,5 +1,5 @@
 -- Instructions that stand in program memory.
-use Rattle.std.proofs.Common.{◌≡◌, ℕ, suc, ◌+◌, ◌<◌, List, [], ◌∷◌, ◌++◌, length, Option, Some, None, sym, ap, ◌∙◌, subst, arith}
+use Rattle.std.proofs.Common.{◌≡◌, ℕ, suc, ◌+◌, ◌<◌, ◌≤◌, List, [], ◌∷◌, ◌++◌, length, Option, Some, None, ap, ◌∙◌, subst, arith}
 use Rattle.std.specs.List.{AllByRecursion}
 use Rattle.c25_isa.specs.declared.instruction.Instr.{Instr}
 use Rattle.c25_isa.specs.State.{State, Memory, Start, BeginsWith}
@@ -40,7 +40,7 @@ cut program pc first (Some word) rest at =
     }
 
 -- the words of instructions are these instructions
-pub code_at : (program : Memory) (code : List Instr) (pc : ℕ) → AllByRecursion IsInstr code → WordsAt program pc (code_words code) → pc + length (code_words code) < 65536 → CodeAt program pc code
+pub code_at : (program : Memory) (code : List Instr) (pc : ℕ) → AllByRecursion IsInstr code → WordsAt program pc (code_words code) → pc + length (code_words code) ≤ 65536 → CodeAt program pc code
 code_at program [] pc fits at room = tt
 code_at program (i ∷ code) pc fits at room =
     let parts = cut program pc (first_word i) (second_word i) (code_words code) at in (
@@ -48,19 +48,26 @@ code_at program (i ∷ code) pc fits at room =
       code_at program code (pc + length_of (second_word i)) fits.1 parts.rest_at (omega (arith, parts.size)),
     )
 
+-- an instruction has a word
+one_word : (o : Option ℕ) → 1 ≤ length_of o
+one_word None = omega arith
+one_word (Some word) = omega arith
+
+pub stands_below : (program : Memory) (pc : ℕ) (i : Instr) → StandsAt program pc i → pc < 65536
+stands_below program pc i at = omega (arith, at.room, one_word (second_word i))
+
 -- at a reset the program memory begins with these instructions
-pub code_at_reset : (s : Start) (code : List Instr) → AllByRecursion IsInstr code → BeginsWith (code_words code) s → length (code_words code) < 65536 → CodeAt s.program 0 code
+pub code_at_reset : (s : Start) (code : List Instr) → AllByRecursion IsInstr code → BeginsWith (code_words code) s → length (code_words code) ≤ 65536 → CodeAt s.program 0 code
 code_at_reset s code fits begins room =
     code_at s.program code 0 fits (λ a lt. let e : 0 + a ≡ a = omega arith in ap s.program e ∙ begins a lt) (omega arith)
 
 -- the machine does the instruction at PC
 pub step_at : (s : State) (i : Instr) → StandsAt s.program s.pc i → step s ≡ perform s (Some (i, length_of (second_word i)))
 step_at s i at =
-    let next : wrap16 (s.pc + 1) ≡ s.pc + 1 = wrapped (second_word i) at.room in
     ap (perform s)
     (ap (λ w. decode w (s.program (wrap16 (s.pc + 1)))) at.first
-    ∙ decode-first_word i (s.program (wrap16 (s.pc + 1))) at.fits (subst (λ n. Follows (second_word i) (s.program n)) (sym next) at.second))
+    ∙ decode-first_word i (s.program (wrap16 (s.pc + 1))) at.fits (next (second_word i) at.second at.room))
   where
-    wrapped : (o : Option ℕ) → s.pc + length_of o < 65536 → wrap16 (s.pc + 1) ≡ s.pc + 1
-    wrapped None room = omega arith
-    wrapped (Some w) room = omega arith
+    next : (o : Option ℕ) → Follows o (s.program (s.pc + 1)) → s.pc + length_of o ≤ 65536 → Follows o (s.program (wrap16 (s.pc + 1)))
+    next None follows room = tt
+    next (Some w) follows room = let e : wrap16 (s.pc + 1) ≡ s.pc + 1 = omega arith in ap s.program e ∙ follows

@@ -1,5 +1,5 @@
 -- Pieces whose words, marks and ranges were worked out by hand from the instruction table of docs/MACHINE.md.
-use Rattle.std.proofs.Common.{◌≡◌, ℕ, List, [], ◌∷◌, true, false, None, Some, refl}
+use Rattle.std.proofs.Common.{◌≡◌, ℕ, List, [], ◌∷◌, true, false, None, Some, refl, lit≤}
 use Rattle.std.specs.Prelude.{codes}
 use Rattle.c25_isa.specs.declared.operand.Change.TheVariants.{Stay, Up}
 use Rattle.c25_isa.specs.declared.operand.Indirect.{Indirect}
@@ -7,8 +7,7 @@ use Rattle.c25_isa.specs.declared.instruction.JumpOp.TheVariants.{B, Bgz}
 use Rattle.c25_isa.specs.declared.instruction.Instr.TheVariants.{Rovm, Lack, Subk, Lalk, Idle, Ret, Branch}
 use Rattle.c25_isa.specs.declared.piece.PieceItem.{PieceItem}
 use Rattle.c25_isa.specs.declared.piece.PieceItem.TheVariants.{Do, Mark, Jump, CallTo}
-use Rattle.c25_isa.specs.Step.{wrap16}
-use Rattle.c25_isa.specs.Pieces.{Piece, items_size, mark_address, items_code, piece_address, range_of, Linked}
+use Rattle.c25_isa.specs.Pieces.{Piece, items_size, mark_address, items_code, piece_address, pieces_code, range_of, Linked}
 
 abbrev star : Indirect
 star = record { change = Stay; next = None }
@@ -68,7 +67,7 @@ linked : Linked (start ∷ count ∷ []) (record {
   words = 0xce02 ∷ 0xfe80 ∷ 0x0004 ∷ 0xce1f ∷ 0xcd01 ∷ 0xf180 ∷ 0x0004 ∷ 0xffab ∷ 0x000a ∷ 0xca05 ∷ 0xce26 ∷ [];
   functions = range_of (codes "count") 4 7 ∷ [];
 })
-linked = record { words = refl; functions = refl }
+linked = record { words = refl; functions = refl; listed = (λ e. cc, (λ e. lit≤ tt, tt)) }
 
 last_word : (range_of (codes "count") 4 7).last ≡ 10
 last_word = refl
@@ -78,7 +77,7 @@ linked_behind : Linked (count ∷ start ∷ []) (record {
   words = 0xcd01 ∷ 0xf180 ∷ 0x0000 ∷ 0xffab ∷ 0x0006 ∷ 0xca05 ∷ 0xce26 ∷ 0xce02 ∷ 0xfe80 ∷ 0x0000 ∷ 0xce1f ∷ [];
   functions = range_of (codes "count") 0 7 ∷ [];
 })
-linked_behind = record { words = refl; functions = refl }
+linked_behind = record { words = refl; functions = refl; listed = (λ e. lit≤ tt, (λ e. cc, tt)) }
 
 -- two pieces with a mark of the same number: each jumps to its own
 abbrev spin : List ℕ → Piece
@@ -88,12 +87,12 @@ own_marks : Linked (spin (codes "f") ∷ spin (codes "g") ∷ []) (record {
   words = 0xff80 ∷ 0x0000 ∷ 0xff80 ∷ 0x0002 ∷ [];
   functions = range_of (codes "f") 0 2 ∷ range_of (codes "g") 2 2 ∷ [];
 })
-own_marks = record { words = refl; functions = refl }
+own_marks = record { words = refl; functions = refl; listed = (λ e. lit≤ tt, (λ e. lit≤ tt, tt)) }
 
 -- an instruction of two words counts as two: LALK 1234h,3 is d301 1234
 two_words : Linked (record { name = codes ".start"; listed = false; items = Do (Lalk 3 0x1234) ∷ Mark 0 ∷ Jump B 0 star ∷ [] } ∷ []) (record { words = 0xd301 ∷ 0x1234 ∷ 0xff80 ∷ 0x0002 ∷ []; functions = [] })
-two_words = record { words = refl; functions = refl }
+two_words = record { words = refl; functions = refl; listed = (λ e. cc, tt) }
 
 -- the word behind program word 65,535 is word 0
-wraps : wrap16 (mark_address 0xffff (Do Ret ∷ Mark 1 ∷ []) 1) ≡ 0
+wraps : pieces_code (λ name. 0) 0xffff (record { name = []; listed = false; items = Do Ret ∷ Mark 1 ∷ Jump B 1 star ∷ [] } ∷ []) ≡ Ret ∷ Branch B 0 star ∷ []
 wraps = refl

@@ -1,24 +1,18 @@
 -- Which words of data memory a range of program words names by direct operands: docs/MACHINE.md, "Walks".
-use Rattle.std.specs.Prelude.{ℕ, ◌+◌, ◌*◌, Bool, true, false, not, nat_le, ◌==◌, ◌&&◌, ◌||◌, if◌then◌else◌, List, [], ◌∷◌, ◌++◌, Option, Some, None, option_map, option_to_list, option_and_then, IsTrue}
+use Rattle.std.specs.Prelude.{ℕ, ◌+◌, ◌*◌, Bool, true, false, not, nat_le, ◌==◌, ◌&&◌, ◌||◌, if◌then◌else◌, List, [], ◌∷◌, ◌++◌, Option, Some, None, option_map, option_to_list, option_and_then, IsTrue, is_none}
 use Rattle.std.specs.List.{list_any, list_all}
 use Rattle.c25_isa.specs.declared.operand.Operand.{Operand}
 use Rattle.c25_isa.specs.declared.operand.Operand.TheVariants as operand
 use Rattle.c25_isa.specs.declared.instruction.Instr.{Instr}
 use Rattle.c25_isa.specs.declared.instruction.Instr.TheVariants.{Ldpk}
-use Rattle.c25_isa.specs.declared.mnemonic.Access.{Access}
-use Rattle.c25_isa.specs.declared.mnemonic.Access.TheVariants.{Neither, Reads, Writes}
 use Rattle.c25_isa.specs.Rows.{row, row_of}
+use Rattle.c25_isa.specs.MemoryUse.{writes}
 use Rattle.c25_isa.specs.Step.{data_operand}
 use Rattle.c25_isa.specs.Walk.{Placed, code_of, stretches}
 
-abbrev pub writes : Access → Bool
-writes Neither = false
-writes Reads = false
-writes Writes = true
-
 -- the rows that write data memory
 abbrev pub is_store : Instr → Bool
-is_store i = writes (row (row_of i)).access
+is_store i = writes (row (row_of i)).memory
 
 -- the sixteen words for numbers that are kept for a few instructions
 abbrev pub is_scratch : ℕ → Bool
@@ -87,10 +81,11 @@ is_direct_from w d [] = true
 is_direct_from w d (p ∷ ps) =
     is_direct_operand w d (is_store p.instr) (direct_offset p.instr) && is_direct_from w (done_behind d p.instr) ps
 
--- each direct operand of a range may be there, by the function's own frame, its places and what it gives
+-- no word of a range is faulty, and each direct operand may be there, by the function's own frame, its places and what it gives
 abbrev pub is_direct : List ℕ → ℕ → ℕ → List ℕ → List ℕ → List ℕ → Bool
 is_direct words first last own places given =
-    list_all
+    is_none (code_of words first last).fault
+    && list_all
     (is_direct_from (record { own = own; places = places; given = given }) nothing_done)
     (stretches (code_of words first last))
 

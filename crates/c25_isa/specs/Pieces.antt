@@ -1,6 +1,6 @@
 -- Code before it is linked (docs/MACHINE.md, "Pieces"): how many words its items take, where its marks are, its instructions once marks and
 -- names have addresses, and pieces one behind another in an image.
-use Rattle.std.specs.Prelude.{◌≡◌, ℕ, ◌+◌, ◌-◌, Bool, false, ◌==◌, if◌then◌else◌, List, [], ◌∷◌, ◌++◌, flat_map}
+use Rattle.std.specs.Prelude.{◌≡◌, ℕ, ◌+◌, ◌-◌, ◌≤◌, Bool, true, false, ◌==◌, if◌then◌else◌, List, [], ◌∷◌, ◌++◌, flat_map}
 use Rattle.std.specs.Str.{bytes_eq}
 use Rattle.c25_isa.specs.declared.instruction.Instr.{Instr}
 use Rattle.c25_isa.specs.declared.instruction.Instr.TheVariants.{Branch, Call}
@@ -8,6 +8,7 @@ use Rattle.c25_isa.specs.declared.piece.Piece as code
 use Rattle.c25_isa.specs.declared.piece.PieceItem.{PieceItem}
 use Rattle.c25_isa.specs.declared.piece.PieceItem.TheVariants.{Do, Mark, Jump, CallTo}
 use Rattle.c25_isa.specs.declared.image.FunctionRange.{FunctionRange}
+use Rattle.c25_isa.specs.Items.{ItemsFit}
 use Rattle.c25_isa.specs.State.{Memory}
 use Rattle.c25_isa.specs.Table.{second_word, length_of, code_words}
 use Rattle.c25_isa.specs.Step.{wrap16}
@@ -76,6 +77,11 @@ pieces_code names at (p ∷ ps) =
     items_code (λ mark. wrap16 (mark_address at p.items mark)) names p.items
     ++ pieces_code names (at + items_size p.items) ps
 
+-- operands are in their ranges, as those of each piece in memory are
+abbrev pub PiecesFit : List Piece → Type 0
+PiecesFit [] = Unit {0}
+PiecesFit (p ∷ ps) = ItemsFit p.items × PiecesFit ps
+
 -- the range of so many words from an address on
 abbrev pub range_of : List ℕ → ℕ → ℕ → FunctionRange
 range_of name at size = record { name = name; first = at; last = at + size - 1 }
@@ -87,7 +93,13 @@ listed_ranges at (p ∷ ps) =
     (if p.listed then range_of p.name at (items_size p.items) ∷ [] else [])
     ++ listed_ranges (at + items_size p.items) ps
 
+-- each that is listed has a word
+abbrev pub ListedHaveWords : List Piece → Type 0
+ListedHaveWords [] = Unit {0}
+ListedHaveWords (p ∷ ps) = (p.listed ≡ true → 1 ≤ items_size p.items) × ListedHaveWords ps
+
 -- an image is these pieces one behind another from program word 0 on
 pub record Linked (pieces : List Piece) (image : Contents) : Type 0 where
   pub words : image.words ≡ code_words (pieces_code (λ name. wrap16 (piece_address 0 pieces name)) 0 pieces)
   pub functions : image.functions ≡ listed_ranges 0 pieces
+  pub listed : ListedHaveWords pieces

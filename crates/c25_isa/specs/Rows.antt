@@ -9,8 +9,8 @@ use Rattle.c25_isa.specs.declared.mnemonic.Mnemonic.{Mnemonic}
 use Rattle.c25_isa.specs.declared.mnemonic.Mnemonic.TheVariants as mnemonic
 use Rattle.c25_isa.specs.declared.mnemonic.Form.{Form}
 use Rattle.c25_isa.specs.declared.mnemonic.Form.TheVariants as form
-use Rattle.c25_isa.specs.declared.mnemonic.Access.{Access}
-use Rattle.c25_isa.specs.declared.mnemonic.Access.TheVariants.{Neither, Reads, Writes}
+use Rattle.c25_isa.specs.declared.mnemonic.MemoryUse.{MemoryUse}
+use Rattle.c25_isa.specs.declared.mnemonic.MemoryUse.TheVariants.{Neither, Reads, Writes}
 use Rattle.c25_isa.specs.declared.fields.Fields.{Fields}
 use Rattle.c25_isa.specs.declared.fields.Fields.TheVariants as fields
 
@@ -19,10 +19,10 @@ pub record Row : Type 0 where
   pub name : List ℕ
   pub base : ℕ
   pub form : Form
-  pub access : Access
+  pub memory : MemoryUse
 
-abbrev pub row_with : List ℕ → ℕ → Form → Access → Row
-row_with name base form access = record { name = name; base = base; form = form; access = access }
+abbrev pub row_with : List ℕ → ℕ → Form → MemoryUse → Row
+row_with name base form memory = record { name = name; base = base; form = form; memory = memory }
 
 abbrev pub jump_name : JumpOp → List ℕ
 jump_name jump.Bgz = codes "BGZ"
@@ -33,7 +33,7 @@ jump_name jump.Bnz = codes "BNZ"
 jump_name jump.Bz = codes "BZ"
 jump_name jump.B = codes "B"
 
--- the first word of a jump over the operand byte 0
+-- the first word of a jump where the operand byte is 0
 abbrev pub jump_word : JumpOp → ℕ
 jump_word jump.Bgz = 0xf100
 jump_word jump.Blez = 0xf200

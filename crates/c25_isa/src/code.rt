@@ -1,5 +1,7 @@
 //! Instructions one behind another.
-ghost use Rattle.std.specs.Prelude.{◌≡◌, ◌++◌, All, IfOk, OnOk};
+ghost use Rattle.std.specs.Prelude.{◌≡◌, ℕ, ◌<◌, ◌++◌, List, All, IfOk, OnOk};
+ghost use Rattle.std.specs.List.{AllByRecursion};
+ghost use Rattle.c25_isa.specs.Pieces.{Piece, PiecesFit, pieces_code};
 ghost use Rattle.c25_isa.specs.Table.{IsInstr, instr_words, code_words};
 
 use crate::encoder::encode;
@@ -31,3 +33,8 @@ fn push_words(words: &mut Vec<u16>, instr: &Instr) -> Result<(), NoMemory>
     }
     Ok(())
 }
+
+/// The instructions of pieces are instructions, at whatever addresses they stand. The call does nothing.
+pub fn pieces_have_instructions()
+    ensures { (names : List ℕ → ℕ) (pieces : List Piece) (at : ℕ) → ((name : List ℕ) → names name < 65536) → PiecesFit pieces → AllByRecursion IsInstr (pieces_code names at pieces) }
+{}

@@ -1,10 +1,13 @@
 //! An instruction as a row of the table with its operands.
-ghost use Rattle.std.specs.Prelude.{◌≡◌, IfSome, Some};
+ghost use Rattle.std.specs.Prelude.{◌≡◌, ℕ, false, is_some, IfSome, Some};
 ghost use Rattle.c25_isa.specs.declared.fields.Fields.{Fields as SomeFields};
 ghost use Rattle.c25_isa.specs.declared.instruction.Instr.{Instr as AnInstr};
 ghost use Rattle.c25_isa.specs.declared.mnemonic.Mnemonic.{Mnemonic as ARow};
-ghost use Rattle.c25_isa.specs.Rows.{fields_of, instr_of, IsOf, row_of};
-ghost use Rattle.c25_isa.specs.Table.{AreFields, IsIndirect, IsOperand, memory_of, pointer_of};
+ghost use Rattle.c25_isa.specs.Rows.{fields_of, instr_of, IsOf, row, row_of};
+ghost use Rattle.c25_isa.specs.MemoryUse.{has_operand, writes, LeavesRam};
+ghost use Rattle.c25_isa.specs.State.{State};
+ghost use Rattle.c25_isa.specs.Step.{effect};
+ghost use Rattle.c25_isa.specs.Table.{AreFields, FitsForm, IsIndirect, IsInstr, IsOperand, memory_of, pointer_of};
 
 use crate::instruction::Instr;
 use crate::mnemonic::Mnemonic;
@@ -188,8 +191,12 @@ impl Fields {
     }
 }
 
-/// A row with operands of its form is an instruction, both ways. The call does nothing.
+/// A row with operands as it takes them is an instruction, both ways, and what the table says of data memory is what the machine does. The
+/// call does nothing.
 pub fn rows_are_instructions()
     ensures whole { (i : AnInstr) → instr_of (row_of i) (fields_of i) ≡ Some i }
     ensures parts { (m : ARow) (f : SomeFields) → IfSome (instr_of m f) (IsOf m f) }
+    ensures made { (m : ARow) (f : SomeFields) → FitsForm (row m).form f → (i : AnInstr) × (instr_of m f ≡ Some i) × IsInstr i }
+    ensures operand { (i : AnInstr) → has_operand (row (row_of i)).memory ≡ is_some (memory_of (fields_of i)) }
+    ensures keeps { (s : State) (length : ℕ) (i : AnInstr) → writes (row (row_of i)).memory ≡ false → LeavesRam s (effect s length i) }
 {}

@@ -3,9 +3,10 @@ ghost use Rattle.std.specs.Prelude.{◌≡◌};
 ghost use Rattle.c25_isa.specs.Rows as table;
 
 use crate::instruction::JumpOp;
+use std::fmt;
 
 /// A row of the instruction table, by its mnemonic.
-#[derive(Clone, Copy, Debug, PartialEq, Eq)]
+#[derive(Clone, Copy, PartialEq, Eq)]
 pub enum Mnemonic {
     Add,
     Sub,
@@ -98,7 +99,7 @@ pub enum Form {
 
 /// What a row does to the word of data memory that it has as operand.
 #[derive(Clone, Copy, Debug, PartialEq, Eq)]
-pub enum Access {
+pub enum MemoryUse {
     /// It has none.
     Neither,
     Reads,
@@ -113,7 +114,13 @@ pub struct Row {
     /// The first word where all operands are 0.
     pub base: u16,
     pub form: Form,
-    pub access: Access,
+    pub memory: MemoryUse,
+}
+
+impl fmt::Debug for Mnemonic {
+    fn fmt<W: fmt::Write>(&self, f: &mut fmt::Formatter<W>) -> fmt::Result {
+        f.write_str(self.row().name)
+    }
 }
 
 impl Mnemonic {
@@ -122,9 +129,9 @@ impl Mnemonic {
         ensures name { result.name.now ≡ (table.row self).name }
         ensures base { result.base ≡ (table.row self).base }
         ensures form { result.form ≡ (table.row self).form }
-        ensures access { result.access ≡ (table.row self).access }
+        ensures memory { result.memory ≡ (table.row self).memory }
     {
-        use Access::{Neither, Reads, Writes};
+        use MemoryUse::{Neither, Reads, Writes};
         match self {
             Mnemonic::Add => row_with("ADD", 0x0000, Form::ShiftedMemory { shifts: 16 }, Reads),
             Mnemonic::Sub => row_with("SUB", 0x1000, Form::ShiftedMemory { shifts: 16 }, Reads),
@@ -201,7 +208,7 @@ impl JumpOp {
         }
     }
 
-    // The first word over the operand byte 0.
+    // The first word where the operand byte is 0.
     fn base(self) -> u16
         ensures { result ≡ table.jump_word self }
     {
@@ -217,13 +224,13 @@ impl JumpOp {
     }
 }
 
-fn row_with(name: &'static str, base: u16, form: Form, access: Access) -> Row
-    ensures { result ≡ record { name = name.entry; base = base; form = form; access = access } }
+fn row_with(name: &'static str, base: u16, form: Form, memory: MemoryUse) -> Row
+    ensures { result ≡ record { name = name.entry; base = base; form = form; memory = memory } }
 {
     Row {
         name,
         base,
         form,
-        access,
+        memory,
     }
 }

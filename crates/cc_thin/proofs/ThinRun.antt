@@ -1,5 +1,5 @@
 -- The run of a thin program, and instructions that agree with it.
-use Rattle.std.proofs.Common.{◌≡◌, ◌<◌, ◌-◌, ◌*◌, ◌^◌, ℕ, [], ◌∷◌, refl, ap, ◌∙◌, arith, rules, inl, lit<, lit≤}
+use Rattle.std.proofs.Common.{◌≡◌, ◌<◌, ◌-◌, ℕ, List, [], ◌∷◌, refl, ap, ◌∙◌, arith, rules, inl, lit<, lit≤}
 use Rattle.word_base.specs.declared.outcome.Ending.TheVariants.{Returned}
 use Rattle.word_base.specs.declared.outcome.Outcome.TheVariants as source
 use Rattle.word_base.specs.Ports.{Input}
@@ -9,15 +9,24 @@ use Rattle.std.specs.Prelude.{All}
 use Rattle.std.specs.List.{AllByRecursion}
 use Rattle.std.proofs.lemmas.List.Elements.{All-from_recursion}
 use Rattle.c25_isa.specs.Table.{IsInstr, code_words}
-use Rattle.c25_isa.specs.State.{State, Start, BeginsWith, write}
-use Rattle.c25_isa.specs.Step.{Over, wrap16, wrap32, extended, step}
+use Rattle.c25_isa.specs.State.{Start, BeginsWith}
+use Rattle.c25_isa.specs.Step.{Over}
 use Rattle.c25_isa.specs.MachineRun.{Ended, reset, machine_run}
 use Rattle.c25_isa.specs.Agrees.{Agrees}
 use Rattle.c25_isa.specs.CodeAt.{CodeAt}
 use Rattle.c25_isa.proofs.CodeAt.{code_at_reset}
-use Rattle.c25_isa.specs.Leads.{Leads}
-use Rattle.c25_isa.proofs.Leads.{leads_on, leads_to_end, ldpk_leads, lalk_leads, sacl_leads, out_leads, idle_ends, low_half, low_half_stored}
+use Rattle.c25_isa.proofs.Leads.{leads_to_end}
 use Rattle.c25_isa.specs.Image.{IsRange}
+use Rattle.c25_isa.specs.declared.operand.Operand.TheVariants.{Direct}
+use Rattle.c25_isa.specs.declared.instruction.Instr.{Instr}
+use Rattle.c25_isa.specs.declared.instruction.Instr.TheVariants.{Ldpk, Lalk, Sacl, Out, Idle}
+use Rattle.c25_code.specs.Work.{Work, modes_of, work_of}
+use Rattle.c25_code.specs.Straight.{behind_code}
+use Rattle.c25_code.specs.CodeRuns.{CodeRuns}
+use Rattle.c25_code.proofs.Halves.{low_half, low_half_stored}
+use Rattle.c25_code.proofs.Pieces.{code_front, code_back}
+use Rattle.c25_code.proofs.CodeRuns.{runs_lead_at}
+use Rattle.c25_code.proofs.Jumps.{idle_ends_at}
 use Rattle.cc_thin.specs.Thin.{IsThinNumbers, ThinShape, thin_program, thin_code}
 
 -- a lower-case letter may stand in a name
@@ -48,45 +57,28 @@ thin_instructions port word answer h =
     All-from_recursion IsInstr (thin_code port word answer) (are_instructions port word answer h.port_fits h.word_fits h.answer_fits)
 
 module _ (s : Start) (input : Input) (port c d : ℕ) (port_lt : port < 16) (c_lt : c < 65536) (d_lt : d < 65536) (begins : BeginsWith (code_words (thin_code port c d)) s) where
-  code : CodeAt s.program 0 (thin_code port c d)
-  code = code_at_reset s (thin_code port c d) (are_instructions port c d port_lt c_lt d_lt) begins (lit< tt)
+  there : CodeAt s.program 0 (thin_code port c d)
+  there = code_at_reset s (thin_code port c d) (are_instructions port c d port_lt c_lt d_lt) begins (lit≤ tt)
 
-  abbrev stored : ℕ
-  stored = wrap16 (wrap32 (extended s.sxm c * 2 ^ 0) * 2 ^ 0)
+  abbrev before : Work
+  before = work_of (reset s input)
 
-  abbrev s0 : State
-  s0 = reset s input
+  -- all but the end
+  abbrev front : List Instr
+  front = Ldpk 6 ∷ Lalk 0 c ∷ Sacl 0 (Direct 0) ∷ Out port (Direct 0) ∷ Lalk 0 d ∷ []
 
-  abbrev s1 : State
-  s1 = record s0 { dp = 6; pc = 1 }
-
-  abbrev s2 : State
-  s2 = record s1 { acc = wrap32 (extended s.sxm c * 2 ^ 0); pc = 3 }
-
-  abbrev s3 : State
-  s3 = record s2 { ram = write s.ram 768 stored; pc = 4 }
-
-  abbrev s4 : State
-  s4 = record s3 { pc = 5 }
-
-  abbrev s5 : State
-  s5 = record s4 { acc = wrap32 (extended s.sxm d * 2 ^ 0); pc = 7 }
-
-  to_end : Leads 5 s0 s5 ((port, stored) ∷ [])
-  to_end =
-      leads_on 1 4 s0 s1 s5 [] _ (ldpk_leads s0 6 refl code.0)
-      (leads_on 1 3 s1 s2 s5 [] _ (lalk_leads s1 c refl code.1.0)
-      (leads_on 1 2 s2 s3 s5 [] _ (sacl_leads s2 0 refl code.1.1.0 (lit≤ tt))
-      (leads_on 1 1 s3 s4 s5 ((port, stored) ∷ []) [] (out_leads s3 port 0 refl code.1.1.1.0 (lit≤ tt))
-      (lalk_leads s4 d refl code.1.1.1.1.0))))
-
-  ends : step s5 ≡ Over (Returned d)
-  ends = idle_ends s5 refl code.1.1.1.1.1.0 ∙ ap (λ w. Over (Returned w)) (low_half s.sxm d d_lt)
+  runs : CodeRuns front before (behind_code front before) ((port, c) ∷ [])
+  runs = record {
+    ready = (tt, (tt, (lit≤ tt, (lit≤ tt, (tt, tt)))));
+    reaches = refl;
+    outputs = ap (λ w. (port, w) ∷ []) (low_half_stored s.sxm c c_lt);
+  }
 
   pub code_runs : machine_run s input 6 ≡ Ended ((port, c) ∷ []) (Returned d)
   code_runs =
-      leads_to_end 5 s0 s5 ((port, stored) ∷ []) (Returned d) to_end ends
-      ∙ ap (λ w. Ended ((port, w) ∷ []) (Returned d)) (low_half_stored s.sxm c c_lt)
+      leads_to_end 5 (reset s input) _ _ _
+      (runs_lead_at (modes_of (reset s input)) s.program front 0 before _ _ (inl refl) (code_front s.program front (Idle ∷ []) 0 there) runs (lit< tt))
+      (idle_ends_at (modes_of (reset s input)) s.program 7 (behind_code front before) (code_back s.program front (Idle ∷ []) 0 there).0 ∙ ap (λ w. Over (Returned w)) (low_half s.sxm d d_lt))
 
 pub thin_agrees : (shape : ThinShape) (port word answer : ℕ) → IsThinNumbers port word answer → Agrees (source_run (thin_program shape port word answer)) (code_words (thin_code port word answer))
 thin_agrees shape port word answer h s input ok begins fits = record {

@@ -7,8 +7,8 @@ use Rattle.c_tree.specs.declared.program.ScalarType.{ScalarType}
 use Rattle.c_tree.specs.declared.program.VarRef.{VarRef}
 use Rattle.c_tree.specs.TypedTree.{Kind, Expr, Node, Out, Stmt, Stmts, Block, Do_expr, Return, done, both, ObjectTree, FunctionTree, ProgramTree}
 use Rattle.c_tree.specs.SourceRun.{main_name}
-use Rattle.c_tree.specs.View.{stmt_of, statement_list}
-use Rattle.cc_thin.specs.Thin.{ThinShape, IsThinNumbers, IsThin, IsThinProgram, IsThinMain, thin_constant, thin_output, thin_return, thin_function, thin_program}
+use Rattle.c_tree.specs.View.{statement_list}
+use Rattle.cc_thin.specs.Thin.{ThinShape, IsThinNumbers, IsThin, IsThinProgram, IsThinMain, thin_constant, thin_output, thin_return, thin_function}
 
 -- a list of three or more isn't one of two
 pub three_statements : (l : List TypedStmt) (x y : TypedStmt) (rest : List TypedStmt) → l ≡ x ∷ y ∷ rest → 0 < length rest → (a b : Stmt) → statement_list l ≡ both a (both b done) → ⊥

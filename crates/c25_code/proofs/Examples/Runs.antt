@@ -7,9 +7,9 @@ use Rattle.c25_isa.specs.declared.instruction.Instr.{Instr}
 use Rattle.c25_isa.specs.declared.instruction.Instr.TheVariants.{Sacl, Sach, Ldpk, Lack, Lalk, In, Out, Idle, Call}
 use Rattle.c25_isa.specs.State.{zero_start}
 use Rattle.c25_isa.specs.Table.{code_words}
-use Rattle.c25_isa.specs.MachineRun.{Reached, Running, Ended, machine_run}
+use Rattle.c25_isa.specs.MachineRun.{Running, Ended, machine_run}
 use Rattle.word_base.specs.Ports.{Input}
-use Rattle.c25_code.specs.Lines.{no_change}
+use Rattle.c25_code.specs.Items.{no_change}
 use Rattle.c25_code.specs.Routines.{division_code, shift_routine}
 
 abbrev no_words : Input

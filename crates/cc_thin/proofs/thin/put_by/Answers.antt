@@ -1,7 +1,6 @@
-use Rattle.std.proofs.Common.{◌≡◌, ◌∙◌, ap, sym, rules}
+use Rattle.std.proofs.Common.{◌∙◌, ap, sym}
 use Rattle.c_tree.specs.TypedTree.{Do_expr, Node, Out}
 use Rattle.c_tree.specs.View.{expr_of, form_of, stmt_of}
-use Rattle.c_tree.specs.declared.typed_expression.ExprForm as form
 use Rattle.cc_thin.proofs.thin.put_by.Goals as goal
 
 pub returns-in-Out : goal.returns-in-Out

@@ -1,4 +1,4 @@
-use Rattle.cc_thin.proofs.ThinTree.{no_function, no_main, no_block, no_two, no_output, no_return, thin_found}
+use Rattle.cc_thin.proofs.ThinTree.{no_function, thin_found}
 use Rattle.cc_thin.proofs.thin.read_thin.Goals as goal
 
 pub returns-in_err-function : goal.returns-in_err-function
