@@ -1,0 +1,6 @@
+use Rattle.std.proofs.Common.{◌≡◌, map, take}
+use Rattle.c_tree.specs.View.{object_of}
+use Rattle.tree_code.proofs.copies.copied_objects.Given as goal
+
+abbrev pub invariant-loop-o : goal.invariant-loop-o
+invariant-loop-o l = map object_of l.copies.items ≡ map object_of (take l.o-index l.list)

@@ -1,0 +1,23 @@
+//! Word trees: a typed program whose operations are chosen by type, on words alone.
+//!
+//! `lower` makes one of a `Program`. The folder `specs` says which tree that is, case by case.
+#![tactic(auto)]
+
+mod copies;
+mod counting;
+mod expressions;
+mod lowering;
+mod operator;
+mod program;
+mod statements;
+mod word_expression;
+mod word_statement;
+
+pub use c_syntax::UnaryOp;
+pub use c_tree::{Base, Initial, Object, Program, ScalarType, VarRef};
+pub use counting::temporaries;
+pub use lowering::lower;
+pub use operator::WordOp;
+pub use program::{TreeFunction, TreeProgram};
+pub use word_expression::{WordExpr, WordForm, WordTarget, WordTargetForm};
+pub use word_statement::{WordChoice, WordStmt};
