@@ -69,36 +69,35 @@ fn decode_by_parts(high: u8, n: u8, low: u8, second: u16) -> Option<(Instr, u8)>
 fn decode_loads(n: u8, low: u8) -> Option<(Instr, u8)>
     ensures { result ≡ decode_3 n low }
 {
-    match n {
-        0..=7 => {
-            let operand = Operand::from_byte(low)?;
-            one_word(Instr::Lar {
-                register: n,
-                operand,
-            })
-        }
-        8 => one_word(Instr::Mpy(Operand::from_byte(low)?)),
-        12 => one_word(Instr::Lt(Operand::from_byte(low)?)),
-        _ => None,
-    }
+    let operand = Operand::from_byte(low)?;
+    one_word(match n {
+        0..=7 => Instr::Lar {
+            register: n,
+            operand,
+        },
+        8 => Instr::Mpy(operand),
+        12 => Instr::Lt(operand),
+        _ => return None,
+    })
 }
 
 // First words 4xxx.
 fn decode_word_operations(n: u8, low: u8) -> Option<(Instr, u8)>
     ensures { result ≡ decode_4 n low }
 {
-    match n {
-        1 => one_word(Instr::Zals(Operand::from_byte(low)?)),
-        2 => one_word(Instr::Lact(Operand::from_byte(low)?)),
-        5 => one_word(Instr::Subs(Operand::from_byte(low)?)),
-        7 => one_word(Instr::Subc(Operand::from_byte(low)?)),
-        9 => one_word(Instr::Adds(Operand::from_byte(low)?)),
-        11 => one_word(Instr::Rpt(Operand::from_byte(low)?)),
-        12 => one_word(Instr::Xor(Operand::from_byte(low)?)),
-        13 => one_word(Instr::Or(Operand::from_byte(low)?)),
-        14 => one_word(Instr::And(Operand::from_byte(low)?)),
-        _ => None,
-    }
+    let operand = Operand::from_byte(low)?;
+    one_word(match n {
+        1 => Instr::Zals(operand),
+        2 => Instr::Lact(operand),
+        5 => Instr::Subs(operand),
+        7 => Instr::Subc(operand),
+        9 => Instr::Adds(operand),
+        11 => Instr::Rpt(operand),
+        12 => Instr::Xor(operand),
+        13 => Instr::Or(operand),
+        14 => Instr::And(operand),
+        _ => return None,
+    })
 }
 
 // First words 5xxx.
@@ -131,77 +130,74 @@ fn decode_accumulator_stores(n: u8, low: u8) -> Option<(Instr, u8)>
 fn decode_register_stores(n: u8, low: u8) -> Option<(Instr, u8)>
     ensures { result ≡ decode_7 n low }
 {
-    match n {
-        0..=7 => {
-            let operand = Operand::from_byte(low)?;
-            one_word(Instr::Sar {
-                register: n,
-                operand,
-            })
-        }
-        10 => one_word(Instr::Popd(Operand::from_byte(low)?)),
-        14 => one_word(Instr::Adrk(low)),
-        15 => one_word(Instr::Sbrk(low)),
-        _ => None,
-    }
+    one_word(match n {
+        0..=7 => Instr::Sar {
+            register: n,
+            operand: Operand::from_byte(low)?,
+        },
+        10 => Instr::Popd(Operand::from_byte(low)?),
+        14 => Instr::Adrk(low),
+        15 => Instr::Sbrk(low),
+        _ => return None,
+    })
 }
 
 // First words cxxx.
 fn decode_constants(n: u8, low: u8) -> Option<(Instr, u8)>
     ensures { result ≡ decode_c n low }
 {
-    match n {
-        0..=7 => one_word(Instr::Lark {
+    one_word(match n {
+        0..=7 => Instr::Lark {
             register: n,
             constant: low,
-        }),
-        8..=9 => one_word(Instr::Ldpk((n as u16 - 8) * 256 + low as u16)),
-        10 => one_word(Instr::Lack(low)),
-        11 => one_word(Instr::Rptk(low)),
-        12 => one_word(Instr::Addk(low)),
-        13 => one_word(Instr::Subk(low)),
-        14 => decode_fixed_words(low),
-        _ => None,
-    }
+        },
+        8..=9 => Instr::Ldpk((n as u16 - 8) * 256 + low as u16),
+        10 => Instr::Lack(low),
+        11 => Instr::Rptk(low),
+        12 => Instr::Addk(low),
+        13 => Instr::Subk(low),
+        14 => return decode_fixed_words(low),
+        _ => return None,
+    })
 }
 
 // First words cexx.
 fn decode_fixed_words(low: u8) -> Option<(Instr, u8)>
     ensures { result ≡ decode_ce low }
 {
-    match low {
-        0x01 => one_word(Instr::Dint),
-        0x02 => one_word(Instr::Rovm),
-        0x06 => one_word(Instr::Rsxm),
-        0x07 => one_word(Instr::Ssxm),
-        0x08 => one_word(Instr::Spm),
-        0x14 => one_word(Instr::Pac),
-        0x15 => one_word(Instr::Apac),
-        0x16 => one_word(Instr::Spac),
-        0x18 => one_word(Instr::Sfl),
-        0x19 => one_word(Instr::Sfr),
-        0x1f => one_word(Instr::Idle),
-        0x23 => one_word(Instr::Neg),
-        0x26 => one_word(Instr::Ret),
-        0x27 => one_word(Instr::Cmpl),
-        _ => None,
-    }
+    one_word(match low {
+        0x01 => Instr::Dint,
+        0x02 => Instr::Rovm,
+        0x06 => Instr::Rsxm,
+        0x07 => Instr::Ssxm,
+        0x08 => Instr::Spm,
+        0x14 => Instr::Pac,
+        0x15 => Instr::Apac,
+        0x16 => Instr::Spac,
+        0x18 => Instr::Sfl,
+        0x19 => Instr::Sfr,
+        0x1f => Instr::Idle,
+        0x23 => Instr::Neg,
+        0x26 => Instr::Ret,
+        0x27 => Instr::Cmpl,
+        _ => return None,
+    })
 }
 
 // First words dxxx. Those without a shift or a register have the number 0.
 fn decode_word_constants(n: u8, low: u8, word: u16) -> Option<(Instr, u8)>
     ensures { result ≡ decode_d n low word }
 {
-    match low {
-        0 if n < 8 => two_words(Instr::Lrlk { register: n, word }),
-        1 => two_words(Instr::Lalk { shift: n, word }),
-        2 => two_words(Instr::Adlk { shift: n, word }),
-        3 => two_words(Instr::Sblk { shift: n, word }),
-        4 if n == 0 => two_words(Instr::Andk(word)),
-        5 if n == 0 => two_words(Instr::Ork(word)),
-        6 if n == 0 => two_words(Instr::Xork(word)),
-        _ => None,
-    }
+    two_words(match low {
+        0 if n < 8 => Instr::Lrlk { register: n, word },
+        1 => Instr::Lalk { shift: n, word },
+        2 => Instr::Adlk { shift: n, word },
+        3 => Instr::Sblk { shift: n, word },
+        4 if n == 0 => Instr::Andk(word),
+        5 if n == 0 => Instr::Ork(word),
+        6 if n == 0 => Instr::Xork(word),
+        _ => return None,
+    })
 }
 
 // First words fxxx.

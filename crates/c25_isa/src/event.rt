@@ -3,7 +3,7 @@ use crate::trap::TrapKind;
 use word_base::{Ending, Outs, PortWord};
 
 /// What one step comes to.
-#[derive(Clone, Copy, Debug, PartialEq, Eq)]
+#[derive(Clone, Copy, Debug)]
 pub enum Event {
     /// The machine went on.
     Ran,

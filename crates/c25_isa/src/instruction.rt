@@ -4,7 +4,7 @@ ghost use Rattle.std.specs.Prelude.{◌≡◌};
 use crate::operand::{Indirect, Operand};
 
 /// When a jump is taken, by the 32 bits of ACC as a signed number.
-#[derive(Clone, Copy, Debug, PartialEq, Eq)]
+#[derive(Clone, Copy, Debug)]
 pub enum JumpOp {
     /// Always.
     B,
@@ -24,7 +24,7 @@ pub enum JumpOp {
 
 /// An instruction, by its mnemonic. An extended word has 32 bits, with its sign where SXM is 1. A constant has 8 bits
 /// where nothing else is said. Sums wrap at 32 bits.
-#[derive(Clone, Copy, Debug, PartialEq, Eq)]
+#[derive(Clone, Copy)]
 pub enum Instr {
     /// ACC plus the extended word, shifted to the left by 0 to 15.
     Add {

@@ -6,7 +6,7 @@ use crate::instruction::JumpOp;
 use std::fmt;
 
 /// A row of the instruction table, by its mnemonic.
-#[derive(Clone, Copy, PartialEq, Eq)]
+#[derive(Clone, Copy)]
 pub enum Mnemonic {
     Add,
     Sub,
@@ -66,7 +66,7 @@ pub enum Mnemonic {
 }
 
 /// Which operands a row takes, in the order of `Fields`.
-#[derive(Clone, Copy, Debug, PartialEq, Eq)]
+#[derive(Clone, Copy, Debug)]
 pub enum Form {
     NoOperand,
     /// A word of data memory.
@@ -98,7 +98,7 @@ pub enum Form {
 }
 
 /// What a row does to the word of data memory that it has as operand.
-#[derive(Clone, Copy, Debug, PartialEq, Eq)]
+#[derive(Clone, Copy, Debug)]
 pub enum MemoryUse {
     /// It has none.
     Neither,
@@ -126,68 +126,78 @@ impl fmt::Debug for Mnemonic {
 impl Mnemonic {
     /// The row.
     pub fn row(self) -> Row
-        ensures name { result.name.now ≡ (table.row self).name }
-        ensures base { result.base ≡ (table.row self).base }
-        ensures form { result.form ≡ (table.row self).form }
-        ensures memory { result.memory ≡ (table.row self).memory }
+        ensures { table.row_with result.name.now result.base result.form result.memory ≡ table.row self }
+    {
+        let (name, base, form, memory) = self.columns();
+        Row {
+            name,
+            base,
+            form,
+            memory,
+        }
+    }
+
+    // What the row has, in the order of `Row`.
+    fn columns(self) -> (&'static str, u16, Form, MemoryUse)
+        ensures { table.row_with result.0.now result.1 result.2 result.3 ≡ table.row self }
     {
         use MemoryUse::{Neither, Reads, Writes};
         match self {
-            Mnemonic::Add => row_with("ADD", 0x0000, Form::ShiftedMemory { shifts: 16 }, Reads),
-            Mnemonic::Sub => row_with("SUB", 0x1000, Form::ShiftedMemory { shifts: 16 }, Reads),
-            Mnemonic::Lac => row_with("LAC", 0x2000, Form::ShiftedMemory { shifts: 16 }, Reads),
-            Mnemonic::Lar => row_with("LAR", 0x3000, Form::RegisterMemory, Reads),
-            Mnemonic::Mpy => row_with("MPY", 0x3800, Form::Memory, Reads),
-            Mnemonic::Lt => row_with("LT", 0x3c00, Form::Memory, Reads),
-            Mnemonic::Zals => row_with("ZALS", 0x4100, Form::Memory, Reads),
-            Mnemonic::Lact => row_with("LACT", 0x4200, Form::Memory, Reads),
-            Mnemonic::Subs => row_with("SUBS", 0x4500, Form::Memory, Reads),
-            Mnemonic::Subc => row_with("SUBC", 0x4700, Form::Memory, Reads),
-            Mnemonic::Adds => row_with("ADDS", 0x4900, Form::Memory, Reads),
-            Mnemonic::Rpt => row_with("RPT", 0x4b00, Form::Memory, Reads),
-            Mnemonic::Xor => row_with("XOR", 0x4c00, Form::Memory, Reads),
-            Mnemonic::Or => row_with("OR", 0x4d00, Form::Memory, Reads),
-            Mnemonic::And => row_with("AND", 0x4e00, Form::Memory, Reads),
-            Mnemonic::Pshd => row_with("PSHD", 0x5400, Form::Memory, Reads),
-            Mnemonic::Mar => row_with("MAR", 0x5500, Form::Pointer, Neither),
-            Mnemonic::Sacl => row_with("SACL", 0x6000, Form::ShiftedMemory { shifts: 8 }, Writes),
-            Mnemonic::Sach => row_with("SACH", 0x6800, Form::ShiftedMemory { shifts: 8 }, Writes),
-            Mnemonic::Sar => row_with("SAR", 0x7000, Form::RegisterMemory, Writes),
-            Mnemonic::Popd => row_with("POPD", 0x7a00, Form::Memory, Writes),
-            Mnemonic::Adrk => row_with("ADRK", 0x7e00, Form::Constant8, Neither),
-            Mnemonic::Sbrk => row_with("SBRK", 0x7f00, Form::Constant8, Neither),
-            Mnemonic::In => row_with("IN", 0x8000, Form::PortMemory, Writes),
-            Mnemonic::Mpyk => row_with("MPYK", 0xa000, Form::Constant13, Neither),
-            Mnemonic::Lark => row_with("LARK", 0xc000, Form::RegisterConstant, Neither),
-            Mnemonic::Ldpk => row_with("LDPK", 0xc800, Form::Constant9, Neither),
-            Mnemonic::Lack => row_with("LACK", 0xca00, Form::Constant8, Neither),
-            Mnemonic::Rptk => row_with("RPTK", 0xcb00, Form::Constant8, Neither),
-            Mnemonic::Addk => row_with("ADDK", 0xcc00, Form::Constant8, Neither),
-            Mnemonic::Subk => row_with("SUBK", 0xcd00, Form::Constant8, Neither),
-            Mnemonic::Dint => row_with("DINT", 0xce01, Form::NoOperand, Neither),
-            Mnemonic::Rovm => row_with("ROVM", 0xce02, Form::NoOperand, Neither),
-            Mnemonic::Rsxm => row_with("RSXM", 0xce06, Form::NoOperand, Neither),
-            Mnemonic::Ssxm => row_with("SSXM", 0xce07, Form::NoOperand, Neither),
-            Mnemonic::Spm => row_with("SPM", 0xce08, Form::NoOperand, Neither),
-            Mnemonic::Pac => row_with("PAC", 0xce14, Form::NoOperand, Neither),
-            Mnemonic::Apac => row_with("APAC", 0xce15, Form::NoOperand, Neither),
-            Mnemonic::Spac => row_with("SPAC", 0xce16, Form::NoOperand, Neither),
-            Mnemonic::Sfl => row_with("SFL", 0xce18, Form::NoOperand, Neither),
-            Mnemonic::Sfr => row_with("SFR", 0xce19, Form::NoOperand, Neither),
-            Mnemonic::Idle => row_with("IDLE", 0xce1f, Form::NoOperand, Neither),
-            Mnemonic::Neg => row_with("NEG", 0xce23, Form::NoOperand, Neither),
-            Mnemonic::Ret => row_with("RET", 0xce26, Form::NoOperand, Neither),
-            Mnemonic::Cmpl => row_with("CMPL", 0xce27, Form::NoOperand, Neither),
-            Mnemonic::Lrlk => row_with("LRLK", 0xd000, Form::RegisterWord, Neither),
-            Mnemonic::Lalk => row_with("LALK", 0xd001, Form::ShiftedWord, Neither),
-            Mnemonic::Adlk => row_with("ADLK", 0xd002, Form::ShiftedWord, Neither),
-            Mnemonic::Sblk => row_with("SBLK", 0xd003, Form::ShiftedWord, Neither),
-            Mnemonic::Andk => row_with("ANDK", 0xd004, Form::Word, Neither),
-            Mnemonic::Ork => row_with("ORK", 0xd005, Form::Word, Neither),
-            Mnemonic::Xork => row_with("XORK", 0xd006, Form::Word, Neither),
-            Mnemonic::Out => row_with("OUT", 0xe000, Form::PortMemory, Reads),
-            Mnemonic::Branch(op) => row_with(op.name(), op.base(), Form::Target, Neither),
-            Mnemonic::Call => row_with("CALL", 0xfe00, Form::Target, Neither),
+            Mnemonic::Add => ("ADD", 0x0000, Form::ShiftedMemory { shifts: 16 }, Reads),
+            Mnemonic::Sub => ("SUB", 0x1000, Form::ShiftedMemory { shifts: 16 }, Reads),
+            Mnemonic::Lac => ("LAC", 0x2000, Form::ShiftedMemory { shifts: 16 }, Reads),
+            Mnemonic::Lar => ("LAR", 0x3000, Form::RegisterMemory, Reads),
+            Mnemonic::Mpy => ("MPY", 0x3800, Form::Memory, Reads),
+            Mnemonic::Lt => ("LT", 0x3c00, Form::Memory, Reads),
+            Mnemonic::Zals => ("ZALS", 0x4100, Form::Memory, Reads),
+            Mnemonic::Lact => ("LACT", 0x4200, Form::Memory, Reads),
+            Mnemonic::Subs => ("SUBS", 0x4500, Form::Memory, Reads),
+            Mnemonic::Subc => ("SUBC", 0x4700, Form::Memory, Reads),
+            Mnemonic::Adds => ("ADDS", 0x4900, Form::Memory, Reads),
+            Mnemonic::Rpt => ("RPT", 0x4b00, Form::Memory, Reads),
+            Mnemonic::Xor => ("XOR", 0x4c00, Form::Memory, Reads),
+            Mnemonic::Or => ("OR", 0x4d00, Form::Memory, Reads),
+            Mnemonic::And => ("AND", 0x4e00, Form::Memory, Reads),
+            Mnemonic::Pshd => ("PSHD", 0x5400, Form::Memory, Reads),
+            Mnemonic::Mar => ("MAR", 0x5500, Form::Pointer, Neither),
+            Mnemonic::Sacl => ("SACL", 0x6000, Form::ShiftedMemory { shifts: 8 }, Writes),
+            Mnemonic::Sach => ("SACH", 0x6800, Form::ShiftedMemory { shifts: 8 }, Writes),
+            Mnemonic::Sar => ("SAR", 0x7000, Form::RegisterMemory, Writes),
+            Mnemonic::Popd => ("POPD", 0x7a00, Form::Memory, Writes),
+            Mnemonic::Adrk => ("ADRK", 0x7e00, Form::Constant8, Neither),
+            Mnemonic::Sbrk => ("SBRK", 0x7f00, Form::Constant8, Neither),
+            Mnemonic::In => ("IN", 0x8000, Form::PortMemory, Writes),
+            Mnemonic::Mpyk => ("MPYK", 0xa000, Form::Constant13, Neither),
+            Mnemonic::Lark => ("LARK", 0xc000, Form::RegisterConstant, Neither),
+            Mnemonic::Ldpk => ("LDPK", 0xc800, Form::Constant9, Neither),
+            Mnemonic::Lack => ("LACK", 0xca00, Form::Constant8, Neither),
+            Mnemonic::Rptk => ("RPTK", 0xcb00, Form::Constant8, Neither),
+            Mnemonic::Addk => ("ADDK", 0xcc00, Form::Constant8, Neither),
+            Mnemonic::Subk => ("SUBK", 0xcd00, Form::Constant8, Neither),
+            Mnemonic::Dint => ("DINT", 0xce01, Form::NoOperand, Neither),
+            Mnemonic::Rovm => ("ROVM", 0xce02, Form::NoOperand, Neither),
+            Mnemonic::Rsxm => ("RSXM", 0xce06, Form::NoOperand, Neither),
+            Mnemonic::Ssxm => ("SSXM", 0xce07, Form::NoOperand, Neither),
+            Mnemonic::Spm => ("SPM", 0xce08, Form::NoOperand, Neither),
+            Mnemonic::Pac => ("PAC", 0xce14, Form::NoOperand, Neither),
+            Mnemonic::Apac => ("APAC", 0xce15, Form::NoOperand, Neither),
+            Mnemonic::Spac => ("SPAC", 0xce16, Form::NoOperand, Neither),
+            Mnemonic::Sfl => ("SFL", 0xce18, Form::NoOperand, Neither),
+            Mnemonic::Sfr => ("SFR", 0xce19, Form::NoOperand, Neither),
+            Mnemonic::Idle => ("IDLE", 0xce1f, Form::NoOperand, Neither),
+            Mnemonic::Neg => ("NEG", 0xce23, Form::NoOperand, Neither),
+            Mnemonic::Ret => ("RET", 0xce26, Form::NoOperand, Neither),
+            Mnemonic::Cmpl => ("CMPL", 0xce27, Form::NoOperand, Neither),
+            Mnemonic::Lrlk => ("LRLK", 0xd000, Form::RegisterWord, Neither),
+            Mnemonic::Lalk => ("LALK", 0xd001, Form::ShiftedWord, Neither),
+            Mnemonic::Adlk => ("ADLK", 0xd002, Form::ShiftedWord, Neither),
+            Mnemonic::Sblk => ("SBLK", 0xd003, Form::ShiftedWord, Neither),
+            Mnemonic::Andk => ("ANDK", 0xd004, Form::Word, Neither),
+            Mnemonic::Ork => ("ORK", 0xd005, Form::Word, Neither),
+            Mnemonic::Xork => ("XORK", 0xd006, Form::Word, Neither),
+            Mnemonic::Out => ("OUT", 0xe000, Form::PortMemory, Reads),
+            Mnemonic::Branch(op) => (op.name(), op.base(), Form::Target, Neither),
+            Mnemonic::Call => ("CALL", 0xfe00, Form::Target, Neither),
         }
     }
 }
@@ -221,16 +231,5 @@ impl JumpOp {
             JumpOp::Bz => 0xf600,
             JumpOp::B => 0xff00,
         }
-    }
-}
-
-fn row_with(name: &'static str, base: u16, form: Form, memory: MemoryUse) -> Row
-    ensures { result ≡ record { name = name.entry; base = base; form = form; memory = memory } }
-{
-    Row {
-        name,
-        base,
-        form,
-        memory,
     }
 }

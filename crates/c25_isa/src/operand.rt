@@ -36,7 +36,7 @@ impl Change {
 
 /// The word at the current address register. `next` is the register, below 8, that is current
 /// afterwards, where that changes.
-#[derive(Clone, Copy, Debug, PartialEq, Eq)]
+#[derive(Clone, Copy, Debug)]
 pub struct Indirect {
     pub change: Change,
     pub next: Option<u8>,
@@ -86,7 +86,7 @@ fn next_from_low(low: u8) -> Option<Option<u8>>
 }
 
 /// Where an instruction finds its word.
-#[derive(Clone, Copy, Debug, PartialEq, Eq)]
+#[derive(Clone, Copy, Debug)]
 pub enum Operand {
     /// The word at this offset, below 128, of the current page.
     Direct(u8),
