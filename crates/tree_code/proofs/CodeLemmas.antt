@@ -2,13 +2,15 @@
 use Rattle.std.proofs.Common.{◌≡◌, ◌<◌, ◌≤◌, refl, ap, ◌∙◌, sym, subst, ℕ, zero, suc, ◌+◌, Bool, true, false, if◌then◌else◌, List, [], ◌∷◌, length, map, All, get_or, Option, Some, None, arith}
 use Rattle.std.specs.Prelude.{◌≢◌, AllPairs, slice_get, nat_lt, option_map}
 use Rattle.std.specs.List.{Any, sum_by, fold}
-use Rattle.std.proofs.Math.Logic.{∥∥₁_map}
+use Rattle.std.proofs.Math.Bridge.{le_prop}
+use Rattle.std.proofs.Math.Logic.{∥∥₁_elim, ∥∥₁_map}
 use Rattle.std.proofs.lemmas.Bool.{lt-ltb}
-use Rattle.std.proofs.lemmas.List.{length-map}
+use Rattle.std.proofs.lemmas.List.{get_or-map, length-map}
 use Rattle.std.proofs.lemmas.List.Elements.{All-map}
 use Rattle.std.proofs.lemmas.Option.{slice_get_within, slice_get-map}
 use Rattle.word_base.specs.Name.{IsName}
 use Rattle.c_tree.specs.declared.enclosing.Enclosing.TheVariants as around
+use Rattle.c_tree.specs.declared.program.Function.{Function}
 use Rattle.c_tree.specs.declared.program.VarRef.{VarRef}
 use Rattle.c_tree.specs.declared.program.VarRef.TheVariants.{Scalar, Local, Static}
 use Rattle.c_tree.specs.declared.limits.TheConstants.{MOST_CASES, MOST_FRAME_SCALARS, MOST_PARAMETERS}
@@ -17,12 +19,13 @@ use Rattle.c_tree.specs.TypedTree.{Kind, ObjectTree, FunctionTree, ProgramTree}
 use Rattle.c_tree.specs.Temporaries as source_counts
 use Rattle.c_tree.specs.Uses.{called, case_counts}
 use Rattle.c_tree.specs.Uses as source_uses
+use Rattle.c_tree.specs.View.{function_of}
 use Rattle.c_tree.specs.WellFormed.{Shape, opened}
 use Rattle.c_tree.specs.WellFormedProgram as source
 use Rattle.c_tree.specs.WellFormedProgram.{IsObject, IsFunction, IsProgram, object_in, static_names, names_within, object_shape, scalar_shape, signature, kind_of_parameter, program_calls}
 use Rattle.tree_code.specs.WordTree.{code, FunctionCode}
-use Rattle.tree_code.specs.WordTemporaries.{statement_temporaries}
-use Rattle.tree_code.specs.Lowered.{lowered_statement, lowered_function, lowered_program}
+use Rattle.tree_code.specs.WordTemporaries.{word_statement_temporaries}
+use Rattle.tree_code.specs.Lowered.{HasFewScalars, lowered_statement, lowered_function, lowered_program}
 use Rattle.tree_code.specs.WellFormedCode.{IsObjectAmong, IsCodeParameter, IsFunctionCode, IsMainCode, IsCode, cells_in, length_of, parameter_count, code_calls}
 use Rattle.tree_code.proofs.KeptLemmas.{statement_kept, statement_uses_kept}
 use Rattle.tree_code.proofs.SoundLemmas.{arity, Knows, opened_known, sound_statement}
@@ -48,7 +51,7 @@ module _ (p : ProgramTree) (f : FunctionTree) where
 
   scalar_there : (n : ℕ) → n < length f.scalars → cells (Scalar n) ≡ Some 1
   scalar_there n within =
-      let t : ℕ = statement_temporaries (lowered_statement f.body) in
+      let t : ℕ = word_statement_temporaries (lowered_statement f.body) in
       scalar_cell (nat_lt (n + t) (length f.scalars + t)) (lt-ltb (n + t) (length f.scalars + t) (omega (arith, within)))
 
   scalar_known : (n : ℕ) (k : Kind) (s : Shape) → slice_get f.scalars n ≡ k → scalar_shape k ≡ Some s → cells (Scalar n) ≡ Some s.length
@@ -133,3 +136,11 @@ pub code_of : (p : ProgramTree) (statics : List ObjectTree) (functions : List Fu
     → ∥ IsProgram p ∥₁ → ∥ IsCode (code statics functions) ∥₁
 code_of p statics functions same alike known =
     ∥∥₁_map known (λ is. subst (λ s. IsCode (code s functions)) (sym same) (subst (λ f. IsCode (code p.statics f)) (sym alike) (well_formed_code p is)))
+
+few : (fs : List Function) → All HasFewScalars (map function_of fs) → All (λ f. HasFewScalars (function_of f)) fs
+few fs all = λ k d within. subst HasFewScalars (get_or-map function_of fs k d (function_of d) within) (all k (function_of d) (omega (arith, length-map fs function_of, within)))
+
+-- the functions of a program have few scalars
+pub few_scalars : (p : ProgramTree) (fs list : List Function) → p.functions ≡ map function_of fs → list ≡ fs → ∥ IsProgram p ∥₁ → All (λ f. HasFewScalars (function_of f)) list
+few_scalars p fs list same alike known =
+    ∥∥₁_elim known (hlevel le_prop) (λ is. subst (λ l. All (λ f. HasFewScalars (function_of f)) l) (sym alike) (few fs (subst (All HasFewScalars) same is.limits.scalars)))

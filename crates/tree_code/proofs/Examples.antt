@@ -1,5 +1,5 @@
 -- Small programs with their word trees, which were written by hand. Behind a colon stands the C source of each.
-use Rattle.std.specs.Prelude.{◌≡◌, false, [], ◌∷◌, Some}
+use Rattle.std.specs.Prelude.{◌≡◌, ℕ, false, [], ◌∷◌, Some}
 use Rattle.std.proofs.Common.{refl}
 use Rattle.c_syntax.specs.declared.operator.BinaryOp.{BinaryOp}
 use Rattle.c_syntax.specs.declared.operator.BinaryOp.TheVariants as op
@@ -13,14 +13,16 @@ use Rattle.c_tree.proofs.Examples.Types.{int, unsigned, int_pointer, int_at, uns
 use Rattle.tree_code.specs.declared.operator.WordOp.{WordOp}
 use Rattle.tree_code.specs.declared.operator.WordOp.TheVariants as operation
 use Rattle.tree_code.specs.Lowered.{lowered, lowered_program}
+use Rattle.tree_code.specs.ByteCount.{in_byte}
+use Rattle.tree_code.specs.WordTemporaries.{word_temporaries}
 use Rattle.tree_code.specs.WordTree as word
 use Rattle.tree_code.specs.WordTree.{Node, ProgramCode}
 
 -- an operator between two names, in the source and in words
-abbrev between : BinaryOp → ScalarType → ScalarType → word.Expr
+abbrev between : BinaryOp → ScalarType → ScalarType → word.ExprCode
 between o k l = lowered (tree.Node (tree.Binary o (tree.Node (tree.Read (Scalar 0)) (Some k) 0) (tree.Node (tree.Read (Scalar 1)) (Some l) 4)) (Some int) 0)
 
-abbrev of_words : WordOp → word.Expr
+abbrev of_words : WordOp → word.ExprCode
 of_words o = Node (word.Binary o (Node (word.Read (Scalar 0)) 0) (Node (word.Read (Scalar 1)) 4)) 0
 
 -- two ints
@@ -175,6 +177,53 @@ minus_constant = refl
 minus_converted : lowered (unsigned_at 0 (tree.Unary Minus (unsigned_at 1 (tree.Convert (int_at 11 (tree.Const 5))))))
     ≡ Node (word.Unary Minus (Node (word.Unary Plus (Node (word.Const 5) 11)) 11)) 0
 minus_converted = refl
+
+-- counts in a byte
+few_counted : in_byte 64 ≡ 64
+few_counted = refl
+
+most_counted : in_byte 255 ≡ 255
+most_counted = refl
+
+many_counted : in_byte 256 ≡ 255
+many_counted = refl
+
+-- temporaries of words: (x + 1) * (x + 2) keeps its left operand, x * (x + 2) keeps x, and 3 * (x + 2) keeps nothing
+abbrev read_x : word.ExprCode
+read_x = Node (word.Read (Scalar 0)) 0
+
+abbrev sum_with : ℕ → word.ExprCode
+sum_with n = Node (word.Binary operation.Add read_x (Node (word.Const n) 4)) 0
+
+abbrev product : word.ExprCode → word.ExprCode → word.ExprCode
+product a b = Node (word.Binary operation.Mul a b) 0
+
+sums_multiplied : word_temporaries (product (sum_with 1) (sum_with 2)) ≡ 1
+sums_multiplied = refl
+
+name_multiplied : word_temporaries (product read_x (sum_with 2)) ≡ 1
+name_multiplied = refl
+
+constant_multiplied : word_temporaries (product (Node (word.Const 3) 0) (sum_with 2)) ≡ 0
+constant_multiplied = refl
+
+sum_multiplied : word_temporaries (product (sum_with 2) read_x) ≡ 0
+sum_multiplied = refl
+
+-- *p = x + 1 keeps the address, and *p += x + 1 the address and what was there
+stored : word_temporaries (Node (word.Assign (word.At read_x 0) (sum_with 1)) 0) ≡ 1
+stored = refl
+
+updated : word_temporaries (Node (word.AssignOp operation.Add (word.At read_x 0) (sum_with 1)) 0) ≡ 2
+updated = refl
+
+-- f(x, x + 1, x + 2): two arguments are kept while the last is evaluated
+called : word_temporaries (Node (word.Call 0 (word.more read_x (word.more (sum_with 1) (word.more (sum_with 2) word.none)))) 0) ≡ 2
+called = refl
+
+-- f(1, (x + 1) * (x + 2)): one is kept, and one more in the product
+called_with_product : word_temporaries (Node (word.Call 0 (word.more (Node (word.Const 1) 0) (word.more (product (sum_with 1) (sum_with 2)) word.none))) 0) ≡ 2
+called_with_product = refl
 
 -- an array with an initialiser, a loop, and a switch that is fallen into. The product keeps its left operand in a temporary:
 -- int main(void) {int n[3] = {4, 1}; int x; x = __in(0); while (x) x--; switch (x) {case 1: __out(0, n[x]); break; default: x = (x + 1) * (x + 2);} return x;}

@@ -14,31 +14,31 @@ use Rattle.tree_code.specs.WordTree.{Node}
 use Rattle.tree_code.specs.WordTemporaries as counts
 use Rattle.tree_code.specs.WordUses as uses
 use Rattle.tree_code.specs.WordLabels as labels
-use Rattle.tree_code.specs.Lowered.{is_minus, is_converted, is_number, unary, lowered, lowered_form, lowered_target, lowered_list, lowered_optional, lowered_statement, lowered_statements, lowered_choices}
+use Rattle.tree_code.specs.Lowered.{is_minus, is_converted, is_number, lowered_unary, lowered, lowered_form, lowered_target, lowered_list, lowered_optional, lowered_statement, lowered_statements, lowered_choices}
 
 alike : {A B C : Type 0} (node : A → B → C) {a c : A} {b d : B} → a ≡ c → b ≡ d → node a b ≡ node c d
 alike node {c = c} {b = b} first second = ap (λ x. node x b) first ∙ ap (node c) second
 
 -- what is so of both of two is so of the one that is taken
-of_either : {X : Type 0} (f : word.Expr → X) (b : Bool) (x y : word.Expr) (z : X) → f x ≡ z → f y ≡ z → f (if b then x else y) ≡ z
+of_either : {X : Type 0} (f : word.ExprCode → X) (b : Bool) (x y : word.ExprCode) (z : X) → f x ≡ z → f y ≡ z → f (if b then x else y) ≡ z
 of_either f true x y z first second = first
 of_either f false x y z first second = second
 
-unary_uses : (o : UnaryOp) (c : Bool) (w : word.Expr) (at : ℕ) → uses.uses (unary o c w at) ≡ uses.uses w
+unary_uses : (o : UnaryOp) (c : Bool) (w : word.ExprCode) (at : ℕ) → uses.word_uses (lowered_unary o c w at) ≡ uses.word_uses w
 unary_uses o c (Node form place) at =
-    of_either uses.uses (is_minus o && (c && is_number form)) (Node (word.Unary o (Node (word.Unary Plus (Node form place)) place)) at) (Node (word.Unary o (Node form place)) at)
-    (uses.form_uses form place) refl refl
+    of_either uses.word_uses (is_minus o && (c && is_number form)) (Node (word.Unary o (Node (word.Unary Plus (Node form place)) place)) at) (Node (word.Unary o (Node form place)) at)
+    (uses.word_form_uses form place) refl refl
 
-unary_temporaries : (o : UnaryOp) (c : Bool) (w : word.Expr) (at : ℕ) → counts.temporaries (unary o c w at) ≡ counts.temporaries w
+unary_temporaries : (o : UnaryOp) (c : Bool) (w : word.ExprCode) (at : ℕ) → counts.word_temporaries (lowered_unary o c w at) ≡ counts.word_temporaries w
 unary_temporaries o c (Node form place) at =
-    of_either counts.temporaries (is_minus o && (c && is_number form)) (Node (word.Unary o (Node (word.Unary Plus (Node form place)) place)) at) (Node (word.Unary o (Node form place)) at)
-    (counts.form_temporaries form) refl refl
+    of_either counts.word_temporaries (is_minus o && (c && is_number form)) (Node (word.Unary o (Node (word.Unary Plus (Node form place)) place)) at) (Node (word.Unary o (Node form place)) at)
+    (counts.word_form_temporaries form) refl refl
 
 mutual
-  pub uses_kept : (e : tree.Expr) → uses.uses (lowered e) ≡ source_uses.uses e
+  pub uses_kept : (e : tree.Expr) → uses.word_uses (lowered e) ≡ source_uses.uses e
   uses_kept (tree.Node form kind at) = form_uses_kept form kind at
 
-  form_uses_kept : (form : tree.Form) (kind : Kind) (at : ℕ) → uses.uses (lowered_form form kind at) ≡ source_uses.form_uses form at
+  form_uses_kept : (form : tree.Form) (kind : Kind) (at : ℕ) → uses.word_uses (lowered_form form kind at) ≡ source_uses.form_uses form at
   form_uses_kept (tree.Const w) kind at = refl
   form_uses_kept (tree.Read v) kind at = refl
   form_uses_kept (tree.AddressOf v) kind at = refl
@@ -59,11 +59,11 @@ mutual
   form_uses_kept (tree.Comma a b) kind at = alike (λ xs ys. xs ++ ys) (uses_kept a) (uses_kept b)
   form_uses_kept (tree.Convert e) kind at = uses_kept e
 
-  target_uses_kept : (l : tree.Lvalue) → uses.target_uses (lowered_target l) ≡ source_uses.target_uses l
+  target_uses_kept : (l : tree.Lvalue) → uses.word_target_uses (lowered_target l) ≡ source_uses.target_uses l
   target_uses_kept (tree.Named v at) = refl
   target_uses_kept (tree.At e at) = uses_kept e
 
-  list_uses_kept : (es : tree.Exprs) → uses.list_uses (lowered_list es) ≡ source_uses.list_uses es
+  list_uses_kept : (es : tree.Exprs) → uses.word_list_uses (lowered_list es) ≡ source_uses.list_uses es
   list_uses_kept tree.none = refl
   list_uses_kept (tree.more e rest) = alike (λ xs ys. xs ++ ys) (uses_kept e) (list_uses_kept rest)
 
@@ -78,7 +78,7 @@ case_count_kept (tree.default rest) = case_count_kept rest
 case_count_kept (tree.body s rest) = case_count_kept rest
 
 mutual
-  pub statement_uses_kept : (s : tree.Stmt) → uses.statement_uses (lowered_statement s) ≡ source_uses.statement_uses s
+  pub statement_uses_kept : (s : tree.Stmt) → uses.word_statement_uses (lowered_statement s) ≡ source_uses.statement_uses s
   statement_uses_kept (tree.Block declared ss) = statements_uses_kept ss
   statement_uses_kept (tree.Fill n) = refl
   statement_uses_kept (tree.Do_expr e) = uses_kept e
@@ -93,11 +93,11 @@ mutual
   statement_uses_kept tree.Continue = refl
   statement_uses_kept (tree.Return e) = optional_uses_kept e
 
-  statements_uses_kept : (ss : tree.Stmts) → uses.statements_uses (lowered_statements ss) ≡ source_uses.statements_uses ss
+  statements_uses_kept : (ss : tree.Stmts) → uses.word_statements_uses (lowered_statements ss) ≡ source_uses.statements_uses ss
   statements_uses_kept tree.done = refl
   statements_uses_kept (tree.both s rest) = alike (λ xs ys. xs ++ ys) (statement_uses_kept s) (statements_uses_kept rest)
 
-  choices_uses_kept : (cs : tree.Choices) → uses.choices_uses (lowered_choices cs) ≡ source_uses.choices_uses cs
+  choices_uses_kept : (cs : tree.Choices) → uses.word_choices_uses (lowered_choices cs) ≡ source_uses.choices_uses cs
   choices_uses_kept tree.no_more = refl
   choices_uses_kept (tree.case w rest) = choices_uses_kept rest
   choices_uses_kept (tree.default rest) = choices_uses_kept rest
@@ -123,18 +123,18 @@ repeats_label_kept (tree.default rest) = alike (λ a b. a || b) (has_default_kep
 repeats_label_kept (tree.body s rest) = repeats_label_kept rest
 
 -- constant operands and simple ones
-abbrev number_in : word.Expr → Bool
+abbrev number_in : word.ExprCode → Bool
 number_in (Node form place) = is_number form
 
 and_false : (b : Bool) → false ≡ (b && false)
 and_false true = refl
 and_false false = refl
 
-unary_number : (o : UnaryOp) (c : Bool) (w : word.Expr) (at : ℕ) → number_in (unary o c w at) ≡ false
+unary_number : (o : UnaryOp) (c : Bool) (w : word.ExprCode) (at : ℕ) → number_in (lowered_unary o c w at) ≡ false
 unary_number o c (Node form place) at =
     of_either number_in (is_minus o && (c && is_number form)) (Node (word.Unary o (Node (word.Unary Plus (Node form place)) place)) at) (Node (word.Unary o (Node form place)) at) false refl refl
 
-minus_constant : (c : Bool) (w : word.Expr) (at : ℕ) → counts.is_constant_word (unary Minus c w at) ≡ (number_in w && not c)
+minus_constant : (c : Bool) (w : word.ExprCode) (at : ℕ) → counts.is_constant_word (lowered_unary Minus c w at) ≡ (number_in w && not c)
 minus_constant true (Node (word.Const w) place) at = refl
 minus_constant false (Node (word.Const w) place) at = refl
 minus_constant true (Node (word.Read v) place) at = refl
@@ -172,10 +172,10 @@ minus_constant false (Node (word.Out port a) place) at = refl
 minus_constant true (Node (word.Comma a b) place) at = refl
 minus_constant false (Node (word.Comma a b) place) at = refl
 
-plus_constant : (c : Bool) (w : word.Expr) (at : ℕ) → counts.is_constant_word (unary Plus c w at) ≡ false
+plus_constant : (c : Bool) (w : word.ExprCode) (at : ℕ) → counts.is_constant_word (lowered_unary Plus c w at) ≡ false
 plus_constant c (Node form place) at = refl
 
-complement_constant : (c : Bool) (w : word.Expr) (at : ℕ) → counts.is_constant_word (unary Complement c w at) ≡ false
+complement_constant : (c : Bool) (w : word.ExprCode) (at : ℕ) → counts.is_constant_word (lowered_unary Complement c w at) ≡ false
 complement_constant c (Node form place) at = refl
 
 source_minus_constant : (e : tree.Expr) (kind : Kind) (at : ℕ) → (number_in (lowered e) && not (is_converted e)) ≡ source_counts.is_constant (tree.Node (tree.Unary Minus e) kind at)
@@ -222,7 +222,7 @@ constant_kept (tree.Node (tree.Out port a) kind at) = refl
 constant_kept (tree.Node (tree.Comma a b) kind at) = refl
 constant_kept (tree.Node (tree.Convert a) kind at) = constant_kept a
 
-minus_simple : (c : Bool) (w : word.Expr) (at : ℕ) → counts.is_simple_word (unary Minus c w at) ≡ (number_in w && not c)
+minus_simple : (c : Bool) (w : word.ExprCode) (at : ℕ) → counts.is_simple_word (lowered_unary Minus c w at) ≡ (number_in w && not c)
 minus_simple true (Node (word.Const w) place) at = refl
 minus_simple false (Node (word.Const w) place) at = refl
 minus_simple true (Node (word.Read v) place) at = refl
@@ -260,10 +260,10 @@ minus_simple false (Node (word.Out port a) place) at = refl
 minus_simple true (Node (word.Comma a b) place) at = refl
 minus_simple false (Node (word.Comma a b) place) at = refl
 
-plus_simple : (c : Bool) (w : word.Expr) (at : ℕ) → counts.is_simple_word (unary Plus c w at) ≡ false
+plus_simple : (c : Bool) (w : word.ExprCode) (at : ℕ) → counts.is_simple_word (lowered_unary Plus c w at) ≡ false
 plus_simple c (Node form place) at = refl
 
-complement_simple : (c : Bool) (w : word.Expr) (at : ℕ) → counts.is_simple_word (unary Complement c w at) ≡ false
+complement_simple : (c : Bool) (w : word.ExprCode) (at : ℕ) → counts.is_simple_word (lowered_unary Complement c w at) ≡ false
 complement_simple c (Node form place) at = refl
 
 source_minus_simple : (e : tree.Expr) (kind : Kind) (at : ℕ) → (number_in (lowered e) && not (is_converted e)) ≡ source_counts.is_simple (tree.Node (tree.Unary Minus e) kind at)
@@ -321,10 +321,10 @@ binary_kept a b {n = n} {q = q} first second =
     ∙ alike (λ x y. if source_counts.is_constant a then x else y) second (unless_kept b (ap (λ n. 1 + n) second)))
 
 mutual
-  pub temporaries_kept : (e : tree.Expr) → counts.temporaries (lowered e) ≡ source_counts.temporaries e
+  pub temporaries_kept : (e : tree.Expr) → counts.word_temporaries (lowered e) ≡ source_counts.temporaries e
   temporaries_kept (tree.Node form kind at) = form_kept form kind at
 
-  form_kept : (form : tree.Form) (kind : Kind) (at : ℕ) → counts.temporaries (lowered_form form kind at) ≡ source_counts.form_temporaries form
+  form_kept : (form : tree.Form) (kind : Kind) (at : ℕ) → counts.word_temporaries (lowered_form form kind at) ≡ source_counts.form_temporaries form
   form_kept (tree.Const w) kind at = refl
   form_kept (tree.Read v) kind at = refl
   form_kept (tree.AddressOf v) kind at = refl
@@ -347,11 +347,11 @@ mutual
   form_kept (tree.Comma a b) kind at = alike max (temporaries_kept a) (temporaries_kept b)
   form_kept (tree.Convert e) kind at = temporaries_kept e
 
-  target_kept : (l : tree.Lvalue) → counts.target_temporaries (lowered_target l) ≡ source_counts.target_temporaries l
+  target_kept : (l : tree.Lvalue) → counts.word_target_temporaries (lowered_target l) ≡ source_counts.target_temporaries l
   target_kept (tree.Named v at) = refl
   target_kept (tree.At e at) = temporaries_kept e
 
-  arguments_kept : (es : tree.Exprs) → counts.argument_temporaries (lowered_list es) ≡ source_counts.argument_temporaries es
+  arguments_kept : (es : tree.Exprs) → counts.word_argument_temporaries (lowered_list es) ≡ source_counts.argument_temporaries es
   arguments_kept tree.none = refl
   arguments_kept (tree.more e tree.none) = temporaries_kept e
   arguments_kept (tree.more e (tree.more f rest)) = alike max (temporaries_kept e) (ap (λ n. 1 + n) (arguments_kept (tree.more f rest)))
@@ -362,7 +362,7 @@ optional_kept (Some e) = temporaries_kept e
 
 mutual
   -- the temporaries of a word tree are those of its source
-  pub statement_kept : (s : tree.Stmt) → counts.statement_temporaries (lowered_statement s) ≡ source_counts.statement_temporaries s
+  pub statement_kept : (s : tree.Stmt) → counts.word_statement_temporaries (lowered_statement s) ≡ source_counts.statement_temporaries s
   statement_kept (tree.Block declared ss) = statements_kept ss
   statement_kept (tree.Fill n) = refl
   statement_kept (tree.Do_expr e) = temporaries_kept e
@@ -375,11 +375,11 @@ mutual
   statement_kept tree.Continue = refl
   statement_kept (tree.Return e) = optional_kept e
 
-  statements_kept : (ss : tree.Stmts) → counts.statements_temporaries (lowered_statements ss) ≡ source_counts.statements_temporaries ss
+  statements_kept : (ss : tree.Stmts) → counts.word_statements_temporaries (lowered_statements ss) ≡ source_counts.statements_temporaries ss
   statements_kept tree.done = refl
   statements_kept (tree.both s rest) = alike max (statement_kept s) (statements_kept rest)
 
-  choices_kept : (cs : tree.Choices) → counts.choices_temporaries (lowered_choices cs) ≡ source_counts.choices_temporaries cs
+  choices_kept : (cs : tree.Choices) → counts.word_choices_temporaries (lowered_choices cs) ≡ source_counts.choices_temporaries cs
   choices_kept tree.no_more = refl
   choices_kept (tree.case w rest) = choices_kept rest
   choices_kept (tree.default rest) = choices_kept rest

@@ -14,8 +14,8 @@ use Rattle.tree_code.specs.WordTree.{Node}
 use Rattle.c_syntax.specs.declared.operator.UnaryOp.{UnaryOp}
 use Rattle.c_syntax.specs.declared.operator.UnaryOp.TheVariants.{Plus}
 use Rattle.std.specs.Prelude.{◌&&◌}
-use Rattle.tree_code.specs.Lowered.{is_minus, is_number, is_converted, unary, lowered, lowered_form, lowered_target, lowered_list, lowered_optional, lowered_statement, lowered_statements, lowered_choices}
-use Rattle.tree_code.specs.WellFormedCode.{IsThereForWords, TakesSo, count, IsDeclared, IsSound, IsSoundTarget, AreSound, IsSoundOptional, IsSoundStatement, AreSoundStatements, AreSoundChoices}
+use Rattle.tree_code.specs.Lowered.{is_minus, is_number, is_converted, lowered_unary, lowered, lowered_form, lowered_target, lowered_list, lowered_optional, lowered_statement, lowered_statements, lowered_choices}
+use Rattle.tree_code.specs.WellFormedCode.{IsThereForWords, TakesSo, argument_count, IsDeclared, IsSound, IsSoundTarget, AreSound, IsSoundOptional, IsSoundStatement, AreSoundStatements, AreSoundChoices}
 use Rattle.tree_code.proofs.KeptLemmas.{repeats_label_kept}
 
 -- how many parameters a function takes
@@ -42,20 +42,20 @@ shape_there : (object : Option Shape) (c : Option ℕ) → ((s : Shape) → obje
 shape_there None c known there = absurd there
 shape_there (Some s) c known there = there_by (known s refl)
 
-count_kinds : (es : tree.Exprs) → length (typed.kinds_of es) ≡ count (lowered_list es)
+count_kinds : (es : tree.Exprs) → length (typed.kinds_of es) ≡ argument_count (lowered_list es)
 count_kinds tree.none = refl
 count_kinds (tree.more e es) = ap suc (count_kinds es)
 
-takes_so : (function : Option Signature) (es : tree.Exprs) (kind : Kind) → typed.IsCall function (typed.kinds_of es) kind → TakesSo (arity function) (count (lowered_list es))
+takes_so : (function : Option Signature) (es : tree.Exprs) (kind : Kind) → typed.IsCall function (typed.kinds_of es) kind → TakesSo (arity function) (argument_count (lowered_list es))
 takes_so None es kind is = tt
 takes_so (Some s) es kind is = sym (ap length is.0) ∙ count_kinds es
 
 module _ (cells : VarRef → Option ℕ) (parameters : ℕ → Option ℕ) where
-  either_sound : (b : Bool) (x y : word.Expr) → IsSound cells parameters x → IsSound cells parameters y → IsSound cells parameters (if b then x else y)
+  either_sound : (b : Bool) (x y : word.ExprCode) → IsSound cells parameters x → IsSound cells parameters y → IsSound cells parameters (if b then x else y)
   either_sound true x y first second = first
   either_sound false x y first second = second
 
-  unary_sound : (o : UnaryOp) (c : Bool) (w : word.Expr) (at : ℕ) → IsSound cells parameters w → IsSound cells parameters (unary o c w at)
+  unary_sound : (o : UnaryOp) (c : Bool) (w : word.ExprCode) (at : ℕ) → IsSound cells parameters w → IsSound cells parameters (lowered_unary o c w at)
   unary_sound o c (Node form place) at is =
       either_sound (is_minus o && (c && is_number form)) (Node (word.Unary o (Node (word.Unary Plus (Node form place)) place)) at) (Node (word.Unary o (Node form place)) at) is is
 
@@ -80,7 +80,7 @@ module _ (cells : VarRef → Option ℕ) (parameters : ℕ → Option ℕ) where
       sound_form (tree.StepBefore up l) kind at is = sound_target l kind is
       sound_form (tree.StepAfter up l) kind at is = sound_target l kind is
       sound_form (tree.Call f es) kind at is =
-          (sound_list es is.0, subst (λ n. TakesSo n (count (lowered_list es))) (sym (takes f)) (takes_so (names.function f) es kind is.1))
+          (sound_list es is.0, subst (λ n. TakesSo n (argument_count (lowered_list es))) (sym (takes f)) (takes_so (names.function f) es kind is.1))
       sound_form (tree.In port) kind at is = is.0
       sound_form (tree.Out port e) kind at is = (sound e is.0, is.2)
       sound_form (tree.Comma a b) kind at is = (sound a is.0, sound b is.1)

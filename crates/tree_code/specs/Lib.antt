@@ -5,6 +5,7 @@ pub mod WordView
 pub mod ProgramView
 pub mod WordTemporaries
 pub mod OperandForms
+pub mod ByteCount
 pub mod Lowered
 pub mod WordLabels
 pub mod WordUses

@@ -16,10 +16,10 @@ use Rattle.c_tree.specs.Uses.{called, case_counts}
 use Rattle.c_tree.specs.WellFormed.{IsAddressable, IsAutomatic}
 use Rattle.c_tree.specs.WellFormedProgram.{IsObject}
 use Rattle.tree_code.specs.WordTree as tree
-use Rattle.tree_code.specs.WordTree.{Expr, Node, Lvalue, Named, At, Form, Exprs, none, more, Stmt, Stmts, Choices, FunctionCode, ProgramCode}
+use Rattle.tree_code.specs.WordTree.{ExprCode, Node, LvalueCode, Named, At, FormCode, ExprsCode, none, more, StmtCode, StmtsCode, ChoicesCode, FunctionCode, ProgramCode}
 use Rattle.tree_code.specs.WordLabels.{repeats_word_label}
-use Rattle.tree_code.specs.WordTemporaries.{statement_temporaries}
-use Rattle.tree_code.specs.WordUses.{statement_uses}
+use Rattle.tree_code.specs.WordTemporaries.{word_statement_temporaries}
+use Rattle.tree_code.specs.WordUses.{word_statement_uses}
 
 -- something that is there
 abbrev pub IsThereForWords : Option ℕ → Type 0
@@ -27,9 +27,9 @@ IsThereForWords None = ⊥
 IsThereForWords (Some n) = ⊤
 
 -- how many arguments
-abbrev pub count : Exprs → ℕ
-count none = 0
-count (more e es) = suc (count es)
+abbrev pub argument_count : ExprsCode → ℕ
+argument_count none = 0
+argument_count (more e es) = suc (argument_count es)
 
 -- a call has an argument for each parameter. That the function is there is said of all calls of a program at once
 abbrev pub TakesSo : Option ℕ → ℕ → Type 0
@@ -44,10 +44,10 @@ pub record IsDeclared (cells : VarRef → Option ℕ) (v : VarRef) : Type 0 wher
 -- trees in a function, by how many cells the object of a name has and how many parameters a function takes
 module _ (cells : VarRef → Option ℕ) (parameters : ℕ → Option ℕ) where
   abbrev mutual
-    pub IsSound : Expr → Type 0
+    pub IsSound : ExprCode → Type 0
     IsSound (Node form at) = HasSound form
 
-    pub HasSound : Form → Type 0
+    pub HasSound : FormCode → Type 0
     HasSound (tree.Const w) = ⊤
     HasSound (tree.Read v) = cells v ≡ Some 1
     HasSound (tree.AddressOf v) = IsAddressable v × IsThereForWords (cells v)
@@ -62,26 +62,26 @@ module _ (cells : VarRef → Option ℕ) (parameters : ℕ → Option ℕ) where
     HasSound (tree.AssignOp o l e) = IsSoundTarget l × IsSound e
     HasSound (tree.StepBefore up l) = IsSoundTarget l
     HasSound (tree.StepAfter up l) = IsSoundTarget l
-    HasSound (tree.Call f es) = AreSound es × TakesSo (parameters f) (count es)
+    HasSound (tree.Call f es) = AreSound es × TakesSo (parameters f) (argument_count es)
     HasSound (tree.In port) = port < 16
     HasSound (tree.Out port e) = IsSound e × (port < 16)
     HasSound (tree.Comma a b) = IsSound a × IsSound b
 
-    pub IsSoundTarget : Lvalue → Type 0
+    pub IsSoundTarget : LvalueCode → Type 0
     IsSoundTarget (Named v at) = cells v ≡ Some 1
     IsSoundTarget (At e at) = IsSound e
 
-    pub AreSound : Exprs → Type 0
+    pub AreSound : ExprsCode → Type 0
     AreSound none = ⊤
     AreSound (more e es) = IsSound e × AreSound es
 
-  abbrev pub IsSoundOptional : Option Expr → Type 0
+  abbrev pub IsSoundOptional : Option ExprCode → Type 0
   IsSoundOptional None = ⊤
   IsSoundOptional (Some e) = IsSound e
 
   abbrev mutual
     -- a statement, in what encloses it
-    pub IsSoundStatement : Enclosing → Stmt → Type 0
+    pub IsSoundStatement : Enclosing → StmtCode → Type 0
     IsSoundStatement c (tree.Block declared ss) = All (IsDeclared cells) declared × AreSoundStatements c ss
     IsSoundStatement c (tree.Fill n) = IsThereForWords (cells (Local n))
     IsSoundStatement c (tree.Do_expr e) = IsSound e
@@ -94,11 +94,11 @@ module _ (cells : VarRef → Option ℕ) (parameters : ℕ → Option ℕ) where
     IsSoundStatement c tree.Continue = may_continue c ≡ true
     IsSoundStatement c (tree.Return e) = IsSoundOptional e
 
-    pub AreSoundStatements : Enclosing → Stmts → Type 0
+    pub AreSoundStatements : Enclosing → StmtsCode → Type 0
     AreSoundStatements c tree.done = ⊤
     AreSoundStatements c (tree.both s rest) = IsSoundStatement c s × AreSoundStatements c rest
 
-    pub AreSoundChoices : Enclosing → Choices → Type 0
+    pub AreSoundChoices : Enclosing → ChoicesCode → Type 0
     AreSoundChoices c tree.no_more = ⊤
     AreSoundChoices c (tree.case w rest) = AreSoundChoices c rest
     AreSoundChoices c (tree.default rest) = AreSoundChoices c rest
@@ -111,7 +111,7 @@ length_of (Some o) = Some o.length
 
 -- the objects of a function: temporaries follow the frame scalars, and no name stands for one
 abbrev pub cells_in : ProgramCode → FunctionCode → VarRef → Option ℕ
-cells_in p f (Scalar n) = if nat_lt (n + statement_temporaries f.body) f.scalars then Some 1 else None
+cells_in p f (Scalar n) = if nat_lt (n + word_statement_temporaries f.body) f.scalars then Some 1 else None
 cells_in p f (Local n) = length_of (slice_get f.locals n)
 cells_in p f (Static n) = length_of (slice_get p.statics n)
 
@@ -131,12 +131,12 @@ IsObjectAmong statics = IsObject (record { statics = statics; functions = [] })
 
 pub record IsFunctionCode (p : ProgramCode) (f : FunctionCode) : Type 0 where
   pub most_scalars : f.scalars ≤ MOST_FRAME_SCALARS
-  pub temporaries : statement_temporaries f.body ≤ f.scalars
+  pub temporaries : word_statement_temporaries f.body ≤ f.scalars
   pub most_parameters : length f.params ≤ MOST_PARAMETERS
   pub locals : All (IsObjectAmong p.statics) f.locals
   pub parameters : All (IsCodeParameter p f) f.params
   pub differ : AllPairs (λ a b. a ≢ b) f.params
-  pub cases : All (λ n. n ≤ MOST_CASES) (case_counts (statement_uses f.body))
+  pub cases : All (λ n. n ≤ MOST_CASES) (case_counts (word_statement_uses f.body))
   pub body : IsSoundStatement (cells_in p f) (λ n. parameter_count (slice_get p.functions n)) around.Body f.body
 
 -- `main` takes no parameters
@@ -146,7 +146,7 @@ pub record IsMainCode (f : FunctionCode) : Type 0 where
 
 -- the functions that each calls
 abbrev pub code_calls : List FunctionCode → List (List ℕ)
-code_calls fs = map (λ f. called (statement_uses f.body)) fs
+code_calls fs = map (λ f. called (word_statement_uses f.body)) fs
 
 -- the objects in memory
 abbrev pub code_object_count : ProgramCode → ℕ

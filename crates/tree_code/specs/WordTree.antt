@@ -7,66 +7,66 @@ use Rattle.tree_code.specs.declared.operator.WordOp.{WordOp}
 
 mutual
   -- an expression: its form, and its place in bytes of the source
-  pub data Expr : Type 0 where
-    Node : Form → ℕ → Expr
+  pub data ExprCode : Type 0 where
+    Node : FormCode → ℕ → ExprCode
 
   -- what is assigned to, with its place: a name, or the word at an address
-  pub data Lvalue : Type 0 where
-    Named : VarRef → ℕ → Lvalue
-    At : Expr → ℕ → Lvalue
+  pub data LvalueCode : Type 0 where
+    Named : VarRef → ℕ → LvalueCode
+    At : ExprCode → ℕ → LvalueCode
 
   -- the forms of expressions
-  pub data Form : Type 0 where
-    Const : ℕ → Form
-    Read : VarRef → Form
-    AddressOf : VarRef → Form
-    Load : Expr → Form
-    Unary : UnaryOp → Expr → Form
-    Binary : WordOp → Expr → Expr → Form
-    And : Expr → Expr → Form
-    Or : Expr → Expr → Form
-    Not : Expr → Form
-    Pick : Expr → Expr → Expr → Form
-    Assign : Lvalue → Expr → Form
-    AssignOp : WordOp → Lvalue → Expr → Form
-    StepBefore : Bool → Lvalue → Form
-    StepAfter : Bool → Lvalue → Form
-    Call : ℕ → Exprs → Form
-    In : ℕ → Form
-    Out : ℕ → Expr → Form
-    Comma : Expr → Expr → Form
+  pub data FormCode : Type 0 where
+    Const : ℕ → FormCode
+    Read : VarRef → FormCode
+    AddressOf : VarRef → FormCode
+    Load : ExprCode → FormCode
+    Unary : UnaryOp → ExprCode → FormCode
+    Binary : WordOp → ExprCode → ExprCode → FormCode
+    And : ExprCode → ExprCode → FormCode
+    Or : ExprCode → ExprCode → FormCode
+    Not : ExprCode → FormCode
+    Pick : ExprCode → ExprCode → ExprCode → FormCode
+    Assign : LvalueCode → ExprCode → FormCode
+    AssignOp : WordOp → LvalueCode → ExprCode → FormCode
+    StepBefore : Bool → LvalueCode → FormCode
+    StepAfter : Bool → LvalueCode → FormCode
+    Call : ℕ → ExprsCode → FormCode
+    In : ℕ → FormCode
+    Out : ℕ → ExprCode → FormCode
+    Comma : ExprCode → ExprCode → FormCode
 
   -- the arguments of a call, from left to right
-  pub data Exprs : Type 0 where
-    none : Exprs
-    more : Expr → Exprs → Exprs
+  pub data ExprsCode : Type 0 where
+    none : ExprsCode
+    more : ExprCode → ExprsCode → ExprsCode
 
 mutual
   -- the forms of statements
-  pub data Stmt : Type 0 where
-    Block : List VarRef → Stmts → Stmt
-    Fill : ℕ → Stmt
-    Do_expr : Expr → Stmt
-    If : Expr → Stmt → Stmt → Stmt
-    While : Expr → Stmt → Stmt
-    Do_while : Stmt → Expr → Stmt
-    For : Option Expr → Option Expr → Option Expr → Stmt → Stmt
-    Switch : Expr → Choices → Stmt
-    Break : Stmt
-    Continue : Stmt
-    Return : Option Expr → Stmt
+  pub data StmtCode : Type 0 where
+    Block : List VarRef → StmtsCode → StmtCode
+    Fill : ℕ → StmtCode
+    Do_expr : ExprCode → StmtCode
+    If : ExprCode → StmtCode → StmtCode → StmtCode
+    While : ExprCode → StmtCode → StmtCode
+    Do_while : StmtCode → ExprCode → StmtCode
+    For : Option ExprCode → Option ExprCode → Option ExprCode → StmtCode → StmtCode
+    Switch : ExprCode → ChoicesCode → StmtCode
+    Break : StmtCode
+    Continue : StmtCode
+    Return : Option ExprCode → StmtCode
 
   -- statements, one after another
-  pub data Stmts : Type 0 where
-    done : Stmts
-    both : Stmt → Stmts → Stmts
+  pub data StmtsCode : Type 0 where
+    done : StmtsCode
+    both : StmtCode → StmtsCode → StmtsCode
 
   -- the labels and statements of a switch, in order
-  pub data Choices : Type 0 where
-    no_more : Choices
-    case : ℕ → Choices → Choices
-    default : Choices → Choices
-    body : Stmt → Choices → Choices
+  pub data ChoicesCode : Type 0 where
+    no_more : ChoicesCode
+    case : ℕ → ChoicesCode → ChoicesCode
+    default : ChoicesCode → ChoicesCode
+    body : StmtCode → ChoicesCode → ChoicesCode
 
 -- a function: so many scalars, temporaries among them
 pub record FunctionCode : Type 0 where
@@ -74,7 +74,7 @@ pub record FunctionCode : Type 0 where
   pub scalars : ℕ
   pub params : List VarRef
   pub locals : List ObjectTree
-  pub body : Stmt
+  pub body : StmtCode
 
 -- objects and functions, each named by its number
 pub record ProgramCode : Type 0 where

@@ -1,33 +1,27 @@
 //! How many temporaries the code of a word tree needs.
 //!
-//! The code of an operator keeps its left operand in one while it evaluates the right one, unless that one is simple.
-ghost use Rattle.std.specs.Prelude.{◌≡◌, ◌+◌, ℕ, max, IfOk};
+//! The code of an operator keeps its left operand in one while it evaluates the right one, unless that one is simple. Counts
+//! stop at 255, which no statement of a program comes to.
+ghost use Rattle.std.specs.Prelude.{◌≡◌, ◌≤◌, ◌+◌, ℕ, max};
+ghost use Rattle.c_tree.specs.declared.limits.TheConstants.{MOST_FRAME_SCALARS};
 ghost use Rattle.tree_code.specs.WordTree.{no_more, Node, Unary, Binary, Assign, AssignOp};
 ghost use Rattle.c_syntax.specs.declared.operator.UnaryOp.TheVariants.{Minus};
 ghost use Rattle.tree_code.specs.declared.operator.WordOp.{WordOp};
-ghost use Rattle.tree_code.specs.WordView.{word_expr_of, lvalue_of, word_argument_list, optional_word_of, stmt_of, word_statement_list, word_choice_list, choice_before};
+ghost use Rattle.tree_code.specs.WordView.{word_expr_of, word_lvalue_of, word_argument_list, optional_word_of, word_stmt_of, word_statement_list, word_choice_list, word_choice_before};
+ghost use Rattle.tree_code.specs.ByteCount.{in_byte};
 ghost use Rattle.tree_code.specs.OperandForms.{constant_form, simple_form};
 ghost use Rattle.tree_code.specs.WordTemporaries as counts;
 
 use crate::word_expression::{WordExpr, WordForm, WordTarget, WordTargetForm};
 use crate::word_statement::{WordChoice, WordStmt};
 use c_syntax::UnaryOp;
-use word_base::NoMemory;
 
-/// The number of temporaries of a statement. They follow the scalars of the source in a frame.
-pub fn temporaries(s: &WordStmt) -> Result<u32, NoMemory>
-    ensures { IfOk result (λ n. n ≡ counts.statement_temporaries (stmt_of s.now)) }
+/// The number of temporaries of a statement. They follow the scalars of the source in a frame, which has few of both.
+pub fn temporaries(s: &WordStmt) -> u8
+    requires { counts.word_statement_temporaries (word_stmt_of s.now) ≤ MOST_FRAME_SCALARS }
+    ensures { result ≡ counts.word_statement_temporaries (word_stmt_of s.now) }
 {
     statement(s)
-}
-
-fn sum(count: u32, more: u32) -> Result<u32, NoMemory>
-    ensures { IfOk result (λ n. n ≡ count + more) }
-{
-    match count.checked_add(more) {
-        Some(n) => Ok(n),
-        None => Err(NoMemory),
-    }
 }
 
 /// What an operand is.
@@ -77,89 +71,66 @@ fn negative_form(e: &WordExpr) -> OperandForm
 }
 
 // So many with those that are kept while an operand is evaluated, unless it is simple.
-fn behind(kept: u32, e: &WordExpr, count: u32) -> Result<u32, NoMemory>
-    ensures { IfOk result (λ n. n ≡ counts.unless_simple_word (word_expr_of e.now) (kept + count)) }
+fn behind(kept: u8, e: &WordExpr, count: u8) -> u8
+    requires { count ≡ in_byte (counts.word_temporaries (word_expr_of e.now)) }
+    ensures { result ≡ in_byte (counts.unless_simple_word (word_expr_of e.now) (kept + counts.word_temporaries (word_expr_of e.now))) }
 {
     match operand_form(e) {
-        OperandForm::Constant | OperandForm::Name => Ok(0),
-        OperandForm::Computed => sum(kept, count),
+        OperandForm::Constant | OperandForm::Name => 0,
+        OperandForm::Computed => kept.saturating_add(count),
     }
 }
 
-// The larger of two counts, where both are known.
-fn larger(a: Result<u32, NoMemory>, b: Result<u32, NoMemory>) -> Result<u32, NoMemory>
-    ensures { (m n : ℕ) → IfOk a (λ x. x ≡ m) → IfOk b (λ y. y ≡ n) → IfOk result (λ z. z ≡ max m n) }
+fn larger(a: u8, b: u8) -> u8
+    ensures { (m n : ℕ) → a ≡ in_byte m → b ≡ in_byte n → result ≡ in_byte (max m n) }
 {
-    Ok(a?.max(b?))
+    if a < b { b } else { a }
 }
 
-// An operator on two operands that want so many, unless their count wanted memory.
-fn binary(
-    left: &WordExpr,
-    first: Result<u32, NoMemory>,
-    right: &WordExpr,
-    second: Result<u32, NoMemory>,
-) -> Result<u32, NoMemory>
-    requires first { IfOk first (λ n. n ≡ counts.temporaries (word_expr_of left.now)) }
-    requires second { IfOk second (λ n. n ≡ counts.temporaries (word_expr_of right.now)) }
-    ensures { (op : WordOp) → IfOk result (λ n. n ≡ counts.form_temporaries (Binary op (word_expr_of left.now) (word_expr_of right.now))) }
+// An operator on two operands that want so many.
+fn binary(left: &WordExpr, first: u8, right: &WordExpr, second: u8) -> u8
+    requires first { first ≡ in_byte (counts.word_temporaries (word_expr_of left.now)) }
+    requires second { second ≡ in_byte (counts.word_temporaries (word_expr_of right.now)) }
+    ensures { (op : WordOp) → result ≡ in_byte (counts.word_form_temporaries (Binary op (word_expr_of left.now) (word_expr_of right.now))) }
 {
-    let (first, second) = (first?, second?);
-    let second = match operand_form(left) {
-        OperandForm::Constant => second,
-        OperandForm::Name | OperandForm::Computed => behind(1, right, second)?,
-    };
-    Ok(first.max(second))
+    match operand_form(left) {
+        OperandForm::Constant => larger(first, second),
+        OperandForm::Name | OperandForm::Computed => larger(first, behind(1, right, second)),
+    }
 }
 
-fn assignment(
-    to: &WordTarget,
-    first: Result<u32, NoMemory>,
-    value: &WordExpr,
-    second: Result<u32, NoMemory>,
-) -> Result<u32, NoMemory>
-    requires first { IfOk first (λ n. n ≡ counts.target_temporaries (lvalue_of to.now.form to.now.at)) }
-    requires second { IfOk second (λ n. n ≡ counts.temporaries (word_expr_of value.now)) }
-    ensures { IfOk result (λ n. n ≡ counts.form_temporaries (Assign (lvalue_of to.now.form to.now.at) (word_expr_of value.now))) }
+fn assignment(to: &WordTarget, first: u8, value: &WordExpr, second: u8) -> u8
+    requires first { first ≡ in_byte (counts.word_target_temporaries (word_lvalue_of to.now.form to.now.at)) }
+    requires second { second ≡ in_byte (counts.word_temporaries (word_expr_of value.now)) }
+    ensures { result ≡ in_byte (counts.word_form_temporaries (Assign (word_lvalue_of to.now.form to.now.at) (word_expr_of value.now))) }
 {
     match &to.form {
         WordTargetForm::Named(_) => second,
-        WordTargetForm::At(_) => {
-            let second = behind(1, value, second?)?;
-            Ok(first?.max(second))
-        }
+        WordTargetForm::At(_) => larger(first, behind(1, value, second)),
     }
 }
 
 // An assignment by an operator, which keeps what was there as well.
-fn update(
-    to: &WordTarget,
-    first: Result<u32, NoMemory>,
-    value: &WordExpr,
-    second: Result<u32, NoMemory>,
-) -> Result<u32, NoMemory>
-    requires first { IfOk first (λ n. n ≡ counts.target_temporaries (lvalue_of to.now.form to.now.at)) }
-    requires second { IfOk second (λ n. n ≡ counts.temporaries (word_expr_of value.now)) }
-    ensures { (op : WordOp) → IfOk result (λ n. n ≡ counts.form_temporaries (AssignOp op (lvalue_of to.now.form to.now.at) (word_expr_of value.now))) }
+fn update(to: &WordTarget, first: u8, value: &WordExpr, second: u8) -> u8
+    requires first { first ≡ in_byte (counts.word_target_temporaries (word_lvalue_of to.now.form to.now.at)) }
+    requires second { second ≡ in_byte (counts.word_temporaries (word_expr_of value.now)) }
+    ensures { (op : WordOp) → result ≡ in_byte (counts.word_form_temporaries (AssignOp op (word_lvalue_of to.now.form to.now.at) (word_expr_of value.now))) }
 {
     match &to.form {
-        WordTargetForm::Named(_) => behind(1, value, second?),
-        WordTargetForm::At(_) => {
-            let second = behind(2, value, second?)?;
-            Ok(first?.max(second))
-        }
+        WordTargetForm::Named(_) => behind(1, value, second),
+        WordTargetForm::At(_) => larger(first, behind(2, value, second)),
     }
 }
 
 #[cycle(expressions)]
-fn expression(e: &WordExpr) -> Result<u32, NoMemory>
-    ensures { IfOk result (λ n. n ≡ counts.temporaries (word_expr_of e.now)) }
+fn expression(e: &WordExpr) -> u8
+    ensures { result ≡ in_byte (counts.word_temporaries (word_expr_of e.now)) }
 {
     match &e.form {
-        WordForm::Const(_) => Ok(0),
-        WordForm::Read(_) => Ok(0),
-        WordForm::AddressOf(_) => Ok(0),
-        WordForm::In { .. } => Ok(0),
+        WordForm::Const(_) => 0,
+        WordForm::Read(_) => 0,
+        WordForm::AddressOf(_) => 0,
+        WordForm::In { .. } => 0,
         WordForm::Load(value) => expression(value),
         WordForm::Not(value) => expression(value),
         WordForm::Unary { value, .. } => expression(value),
@@ -182,48 +153,46 @@ fn expression(e: &WordExpr) -> Result<u32, NoMemory>
 }
 
 #[cycle(expressions)]
-fn target(to: &WordTarget) -> Result<u32, NoMemory>
-    ensures { IfOk result (λ n. n ≡ counts.target_temporaries (lvalue_of to.now.form to.now.at)) }
+fn target(to: &WordTarget) -> u8
+    ensures { result ≡ in_byte (counts.word_target_temporaries (word_lvalue_of to.now.form to.now.at)) }
 {
     match &to.form {
-        WordTargetForm::Named(_) => Ok(0),
+        WordTargetForm::Named(_) => 0,
         WordTargetForm::At(pointer) => expression(pointer),
     }
 }
 
 // Each argument is kept until the call, other than the last.
 #[cycle(expressions)]
-fn arguments(list: &[WordExpr]) -> Result<u32, NoMemory>
-    ensures { IfOk result (λ n. n ≡ counts.argument_temporaries (word_argument_list list.now)) }
+fn arguments(list: &[WordExpr]) -> u8
+    ensures { result ≡ in_byte (counts.word_argument_temporaries (word_argument_list list.now)) }
 {
-    let mut kept = 0;
-    let mut most: u32 = 0;
+    let mut kept: u8 = 0;
+    let mut most = 0;
     for e in list {
-        let count = expression(e)?;
-        let here = sum(kept, count)?;
-        most = most.max(here);
-        kept = sum(kept, 1)?;
+        most = larger(most, kept.saturating_add(expression(e)));
+        kept = kept.saturating_add(1);
     }
-    Ok(most)
+    most
 }
 
-fn optional(e: &Option<WordExpr>) -> Result<u32, NoMemory>
-    ensures { IfOk result (λ n. n ≡ counts.optional_word_temporaries (optional_word_of e.now)) }
+fn optional(e: &Option<WordExpr>) -> u8
+    ensures { result ≡ in_byte (counts.optional_word_temporaries (optional_word_of e.now)) }
 {
     match e {
         Some(e) => expression(e),
-        None => Ok(0),
+        None => 0,
     }
 }
 
 #[cycle(statements)]
-fn statement(s: &WordStmt) -> Result<u32, NoMemory>
-    ensures { IfOk result (λ n. n ≡ counts.statement_temporaries (stmt_of s.now)) }
+fn statement(s: &WordStmt) -> u8
+    ensures { result ≡ in_byte (counts.word_statement_temporaries (word_stmt_of s.now)) }
 {
     match s {
-        WordStmt::Fill(_) => Ok(0),
-        WordStmt::Break => Ok(0),
-        WordStmt::Continue => Ok(0),
+        WordStmt::Fill(_) => 0,
+        WordStmt::Break => 0,
+        WordStmt::Continue => 0,
         WordStmt::Expr(e) => expression(e),
         WordStmt::Return(value) => optional(value),
         WordStmt::Block { body, .. } => statements(body),
@@ -250,35 +219,33 @@ fn statement(s: &WordStmt) -> Result<u32, NoMemory>
 }
 
 #[cycle(statements)]
-fn statements(list: &[WordStmt]) -> Result<u32, NoMemory>
-    ensures { IfOk result (λ n. n ≡ counts.statements_temporaries (word_statement_list list.now)) }
+fn statements(list: &[WordStmt]) -> u8
+    ensures { result ≡ in_byte (counts.word_statements_temporaries (word_statement_list list.now)) }
 {
-    let mut most: u32 = 0;
+    let mut most = 0;
     for s in list {
-        let count = statement(s)?;
-        most = most.max(count);
+        most = larger(most, statement(s));
     }
-    Ok(most)
+    most
 }
 
 #[cycle(statements)]
-fn choices(list: &[WordChoice]) -> Result<u32, NoMemory>
-    ensures { IfOk result (λ n. n ≡ counts.choices_temporaries (word_choice_list list.now)) }
+fn choices(list: &[WordChoice]) -> u8
+    ensures { result ≡ in_byte (counts.word_choices_temporaries (word_choice_list list.now)) }
 {
-    let mut most: u32 = 0;
+    let mut most = 0;
     for part in list {
-        let count = choice(part)?;
-        most = most.max(count);
+        most = larger(most, choice(part));
     }
-    Ok(most)
+    most
 }
 
 #[cycle(statements)]
-fn choice(part: &WordChoice) -> Result<u32, NoMemory>
-    ensures { IfOk result (λ n. n ≡ counts.choices_temporaries (choice_before part.now no_more)) }
+fn choice(part: &WordChoice) -> u8
+    ensures { result ≡ in_byte (counts.word_choices_temporaries (word_choice_before part.now no_more)) }
 {
     match part {
-        WordChoice::Case(_) | WordChoice::Default => Ok(0),
+        WordChoice::Case(_) | WordChoice::Default => 0,
         WordChoice::Body(s) => statement(s),
     }
 }

@@ -4,7 +4,7 @@ ghost use Rattle.c_tree.specs.View as typed;
 ghost use Rattle.tree_code.specs.Lowered as lowering;
 ghost use Rattle.tree_code.specs.Lowered.{lowered, lowered_form, lowered_target, lowered_list, lowered_optional};
 ghost use Rattle.tree_code.specs.WordTree as word;
-ghost use Rattle.tree_code.specs.WordView.{word_expr_of, form_of, lvalue_of, word_argument_list, optional_word_of};
+ghost use Rattle.tree_code.specs.WordView.{word_expr_of, word_form_of, word_lvalue_of, word_argument_list, optional_word_of};
 
 use crate::operator::{WordOp, word_op};
 use crate::word_expression::{WordExpr, WordForm, WordTarget, WordTargetForm};
@@ -29,7 +29,7 @@ fn is_conversion(form: &ExprForm) -> bool
 }
 
 fn is_number(form: &WordForm) -> bool
-    ensures { result ≡ lowering.is_number (form_of form.now) }
+    ensures { result ≡ lowering.is_number (word_form_of form.now) }
 {
     match form {
         WordForm::Const(_) => true,
@@ -64,7 +64,7 @@ fn operator_on(
     value: WordExpr,
     at: u32,
 ) -> Result<WordExpr, NoMemory>
-    ensures { IfOk result (λ w. word_expr_of w ≡ lowering.unary op converted (word_expr_of value) at) }
+    ensures { IfOk result (λ w. word_expr_of w ≡ lowering.lowered_unary op converted (word_expr_of value) at) }
 {
     if is_minus(op) && (converted && is_number(&value.form)) {
         let place = value.at;
@@ -125,7 +125,7 @@ fn operation(
 }
 
 fn leaf(form: WordForm, at: u32) -> Result<WordExpr, NoMemory>
-    ensures { IfOk result (λ w. word_expr_of w ≡ word.Node (form_of form) at) }
+    ensures { IfOk result (λ w. word_expr_of w ≡ word.Node (word_form_of form) at) }
 {
     Ok(WordExpr { form, at })
 }
@@ -172,7 +172,7 @@ fn out(alloc: Global, port: u8, value: &TypedExpr, at: u32) -> Result<WordExpr, 
 
 #[cycle(expressions)]
 fn unary(alloc: Global, op: UnaryOp, value: &TypedExpr, at: u32) -> Result<WordExpr, NoMemory>
-    ensures { IfOk result (λ w. word_expr_of w ≡ lowering.unary op (lowering.is_converted (typed.expr_of value.now)) (lowered (typed.expr_of value.now)) at) }
+    ensures { IfOk result (λ w. word_expr_of w ≡ lowering.lowered_unary op (lowering.is_converted (typed.expr_of value.now)) (lowered (typed.expr_of value.now)) at) }
 {
     let converted = is_conversion(&value.form);
     operator_on(alloc, op, converted, expression(alloc, value)?, at)
@@ -253,7 +253,7 @@ fn pick(
 
 #[cycle(expressions)]
 fn assign(alloc: Global, value: &TypedExpr, to: WordTarget, at: u32) -> Result<WordExpr, NoMemory>
-    ensures { IfOk result (λ w. word_expr_of w ≡ word.Node (word.Assign (lvalue_of to.form to.at) (lowered (typed.expr_of value.now))) at) }
+    ensures { IfOk result (λ w. word_expr_of w ≡ word.Node (word.Assign (word_lvalue_of to.form to.at) (lowered (typed.expr_of value.now))) at) }
 {
     let value = part(alloc, value)?;
     Ok(WordExpr {
@@ -270,7 +270,7 @@ fn assign_op(
     to: WordTarget,
     at: u32,
 ) -> Result<WordExpr, NoMemory>
-    ensures { IfOk result (λ w. word_expr_of w ≡ word.Node (word.AssignOp op (lvalue_of to.form to.at) (lowered (typed.expr_of value.now))) at) }
+    ensures { IfOk result (λ w. word_expr_of w ≡ word.Node (word.AssignOp op (word_lvalue_of to.form to.at) (lowered (typed.expr_of value.now))) at) }
 {
     let value = part(alloc, value)?;
     Ok(WordExpr {
@@ -314,7 +314,7 @@ fn call(alloc: Global, function: u16, list: &[TypedExpr], at: u32) -> Result<Wor
 
 #[cycle(expressions)]
 fn target(alloc: Global, to: &Target) -> Result<WordTarget, NoMemory>
-    ensures { IfOk result (λ w. lvalue_of w.form w.at ≡ lowered_target (typed.lvalue_of to.now.form to.now.at)) }
+    ensures { IfOk result (λ w. word_lvalue_of w.form w.at ≡ lowered_target (typed.lvalue_of to.now.form to.now.at)) }
 {
     let at = to.at;
     match &to.form {
@@ -328,7 +328,7 @@ fn target(alloc: Global, to: &Target) -> Result<WordTarget, NoMemory>
 
 #[cycle(expressions)]
 fn address(alloc: Global, pointer: &TypedExpr, at: u32) -> Result<WordTarget, NoMemory>
-    ensures { IfOk result (λ w. lvalue_of w.form w.at ≡ word.At (lowered (typed.expr_of pointer.now)) at) }
+    ensures { IfOk result (λ w. word_lvalue_of w.form w.at ≡ word.At (lowered (typed.expr_of pointer.now)) at) }
 {
     let pointer = part(alloc, pointer)?;
     Ok(WordTarget {

@@ -6,6 +6,7 @@
 mod copies;
 mod counting;
 mod expressions;
+mod laws;
 mod lowering;
 mod operator;
 mod program;
@@ -16,6 +17,7 @@ mod word_statement;
 pub use c_syntax::UnaryOp;
 pub use c_tree::{Base, Initial, Object, Program, ScalarType, VarRef};
 pub use counting::temporaries;
+pub use laws::kept_by_lowering;
 pub use lowering::lower;
 pub use operator::WordOp;
 pub use program::{TreeFunction, TreeProgram};

@@ -1,24 +1,26 @@
 //! Typed programs as programs on words.
-ghost use Rattle.std.specs.Prelude.{◌≡◌, ◌+◌, map, IfOk};
+ghost use Rattle.std.specs.Prelude.{◌≡◌, ◌≤◌, ◌+◌, length, map, All, IfOk};
+ghost use Rattle.c_tree.specs.declared.limits.TheConstants.{MOST_FRAME_SCALARS};
 ghost use Rattle.c_tree.specs.View as typed;
 ghost use Rattle.c_tree.specs.View.{object_of};
 ghost use Rattle.c_tree.specs.ProgramView.{program_of};
 ghost use Rattle.tree_code.specs.ProgramView.{tree_of};
-ghost use Rattle.tree_code.specs.Lowered.{lowered_function, lowered_program};
+ghost use Rattle.tree_code.specs.Lowered.{HasFewScalars, lowered_function, lowered_program};
 ghost use Rattle.tree_code.specs.WordTree.{code};
 ghost use Rattle.tree_code.specs.WellFormedCode.{IsCode};
-ghost use Rattle.tree_code.specs.WordView.{function_code_of, stmt_of};
+ghost use Rattle.tree_code.specs.WordTemporaries.{word_statement_temporaries};
+ghost use Rattle.tree_code.specs.WordView.{function_code_of, word_stmt_of};
 
 use crate::copies::{copied_name, copied_objects, copied_references};
 use crate::counting::temporaries;
 use crate::program::{TreeFunction, TreeProgram};
 use crate::statements::lowered_body;
 use crate::word_statement::WordStmt;
-use c_tree::{Function, Object, Program};
+use c_tree::{Function, Object, Program, ScalarType};
 use std::alloc::Global;
 use word_base::{Items, NoMemory};
 
-/// The word tree of a program. It fails only where memory is wanting.
+/// The word tree of a program. It fails only where an allocation fails.
 pub fn lower(alloc: Global, program: &Program) -> Result<TreeProgram, NoMemory>
     ensures { IfOk result (λ t. tree_of t ≡ lowered_program (program_of program.now)) }
 {
@@ -35,6 +37,7 @@ fn of_parts(statics: Items<Object>, functions: Items<TreeFunction>) -> TreeProgr
 }
 
 fn functions(alloc: Global, list: &[Function]) -> Result<Items<TreeFunction>, NoMemory>
+    requires { All (λ f. HasFewScalars (typed.function_of f)) list.now }
     ensures { IfOk result (λ all. map function_code_of all ≡ map lowered_function (map typed.function_of list.now)) }
 {
     let mut all = Vec::new(alloc);
@@ -45,33 +48,33 @@ fn functions(alloc: Global, list: &[Function]) -> Result<Items<TreeFunction>, No
 }
 
 fn function(alloc: Global, f: &Function) -> Result<TreeFunction, NoMemory>
+    requires { HasFewScalars (typed.function_of f.now) }
     ensures { IfOk result (λ t. function_code_of t ≡ lowered_function (typed.function_of f.now)) }
 {
     let body = lowered_body(alloc, &f.body)?;
-    let scalars = scalars(f.scalars.as_slice().len(), temporaries(&body)?)?;
-    named(alloc, f, scalars, body)
+    with_body(alloc, f, body)
 }
 
-// A function of this body.
-fn named(alloc: Global, f: &Function, scalars: u8, body: WordStmt) -> Result<TreeFunction, NoMemory>
-    ensures { IfOk result (λ t. function_code_of t ≡ record { name = f.now.name; scalars = scalars; params = f.now.params; locals = map typed.object_of f.now.locals; body = stmt_of body }) }
+fn with_body(alloc: Global, f: &Function, body: WordStmt) -> Result<TreeFunction, NoMemory>
+    requires { length f.now.scalars + word_statement_temporaries (word_stmt_of body) ≤ MOST_FRAME_SCALARS }
+    ensures { IfOk result (λ t. function_code_of t ≡ record { name = f.now.name; scalars = length f.now.scalars + word_statement_temporaries (word_stmt_of body); params = f.now.params; locals = map typed.object_of f.now.locals; body = word_stmt_of body }) }
 {
     let name = copied_name(alloc, &f.name)?;
     let params = copied_references(alloc, f.params.as_slice())?;
     let locals = copied_objects(alloc, f.locals.as_slice())?;
     Ok(TreeFunction {
         name,
-        scalars,
+        scalars: scalars(f.scalars.as_slice(), &body),
         params,
         locals,
         body,
     })
 }
 
-// The scalars of a frame: those of the source and the temporaries. A program has few of them.
-fn scalars(named: usize, kept: u32) -> Result<u8, NoMemory>
-    ensures { IfOk result (λ n. n ≡ named + kept) }
+// The scalars of a frame: those of the source and the temporaries.
+fn scalars(named: &[ScalarType], body: &WordStmt) -> u8
+    requires { length named.now + word_statement_temporaries (word_stmt_of body.now) ≤ MOST_FRAME_SCALARS }
+    ensures { result ≡ length named.now + word_statement_temporaries (word_stmt_of body.now) }
 {
-    let all = (kept as usize).checked_add(named).ok_or(NoMemory)?;
-    u8::try_from(all).map_err(|_| NoMemory)
+    named.len() as u8 + temporaries(body)
 }

@@ -4,9 +4,10 @@ ghost use Rattle.c_tree.specs.View as typed;
 ghost use Rattle.c_tree.specs.TypedTree as tree;
 ghost use Rattle.tree_code.specs.Lowered.{lowered, lowered_optional, lowered_statement, lowered_statements, lowered_choices};
 ghost use Rattle.tree_code.specs.WordTree as word;
-ghost use Rattle.tree_code.specs.WordView.{stmt_of, word_statement_list, word_choice_list, choice_before};
+ghost use Rattle.tree_code.specs.WordView.{optional_word_of, word_stmt_of, word_statement_list, word_choice_list, word_choice_before};
 
 use crate::expressions::{expression, optional};
+use crate::word_expression::WordExpr;
 use crate::word_statement::{WordChoice, WordStmt};
 use c_tree::{Choice, TypedExpr, TypedStmt, VarRef};
 use std::alloc::Global;
@@ -14,14 +15,14 @@ use word_base::NoMemory;
 
 /// The word tree of a statement.
 pub(crate) fn lowered_body(alloc: Global, s: &TypedStmt) -> Result<WordStmt, NoMemory>
-    ensures { IfOk result (λ w. stmt_of w ≡ lowered_statement (typed.stmt_of s.now)) }
+    ensures { IfOk result (λ w. word_stmt_of w ≡ lowered_statement (typed.stmt_of s.now)) }
 {
     statement(alloc, s)
 }
 
 #[cycle(statements)]
 fn statement(alloc: Global, s: &TypedStmt) -> Result<WordStmt, NoMemory>
-    ensures { IfOk result (λ w. stmt_of w ≡ lowered_statement (typed.stmt_of s.now)) }
+    ensures { IfOk result (λ w. word_stmt_of w ≡ lowered_statement (typed.stmt_of s.now)) }
 {
     match s {
         TypedStmt::Break => Ok(WordStmt::Break),
@@ -50,13 +51,13 @@ fn statement(alloc: Global, s: &TypedStmt) -> Result<WordStmt, NoMemory>
 }
 
 fn effect(alloc: Global, e: &TypedExpr) -> Result<WordStmt, NoMemory>
-    ensures { IfOk result (λ w. stmt_of w ≡ word.Do_expr (lowered (typed.expr_of e.now))) }
+    ensures { IfOk result (λ w. word_stmt_of w ≡ word.Do_expr (lowered (typed.expr_of e.now))) }
 {
     Ok(WordStmt::Expr(expression(alloc, e)?))
 }
 
 fn returned(alloc: Global, e: &Option<TypedExpr>) -> Result<WordStmt, NoMemory>
-    ensures { IfOk result (λ w. stmt_of w ≡ word.Return (lowered_optional (typed.option_expr_of e.now))) }
+    ensures { IfOk result (λ w. word_stmt_of w ≡ word.Return (lowered_optional (typed.option_expr_of e.now))) }
 {
     Ok(WordStmt::Return(optional(alloc, e)?))
 }
@@ -69,14 +70,14 @@ fn boxed(alloc: Global, s: WordStmt) -> Result<Box<WordStmt>, NoMemory>
 
 #[cycle(statements)]
 fn part(alloc: Global, s: &TypedStmt) -> Result<Box<WordStmt>, NoMemory>
-    ensures { IfOk result (λ w. stmt_of w.value ≡ lowered_statement (typed.stmt_of s.now)) }
+    ensures { IfOk result (λ w. word_stmt_of w.value ≡ lowered_statement (typed.stmt_of s.now)) }
 {
     boxed(alloc, statement(alloc, s)?)
 }
 
 #[cycle(statements)]
 fn block(alloc: Global, declared: &[VarRef], list: &[TypedStmt]) -> Result<WordStmt, NoMemory>
-    ensures { IfOk result (λ w. stmt_of w ≡ word.Block declared.now (lowered_statements (typed.statement_list list.now))) }
+    ensures { IfOk result (λ w. word_stmt_of w ≡ word.Block declared.now (lowered_statements (typed.statement_list list.now))) }
 {
     let body = statements(alloc, list)?;
     let declared = declared.to_vec(alloc)?;
@@ -91,7 +92,7 @@ fn if_else(
     yes: Box<WordStmt>,
     test: &TypedExpr,
 ) -> Result<WordStmt, NoMemory>
-    ensures { IfOk result (λ w. stmt_of w ≡ word.If (lowered (typed.expr_of test.now)) (stmt_of yes.value) (lowered_statement (typed.stmt_of no.now))) }
+    ensures { IfOk result (λ w. word_stmt_of w ≡ word.If (lowered (typed.expr_of test.now)) (word_stmt_of yes.value) (lowered_statement (typed.stmt_of no.now))) }
 {
     let no = part(alloc, no)?;
     if_both(alloc, test, yes, no)
@@ -103,7 +104,7 @@ fn if_both(
     yes: Box<WordStmt>,
     no: Box<WordStmt>,
 ) -> Result<WordStmt, NoMemory>
-    ensures { IfOk result (λ w. stmt_of w ≡ word.If (lowered (typed.expr_of test.now)) (stmt_of yes.value) (stmt_of no.value)) }
+    ensures { IfOk result (λ w. word_stmt_of w ≡ word.If (lowered (typed.expr_of test.now)) (word_stmt_of yes.value) (word_stmt_of no.value)) }
 {
     let test = expression(alloc, test)?;
     Ok(WordStmt::If {
@@ -115,7 +116,7 @@ fn if_both(
 
 #[cycle(statements)]
 fn if_alone(alloc: Global, yes: &TypedStmt, test: &TypedExpr) -> Result<WordStmt, NoMemory>
-    ensures { IfOk result (λ w. stmt_of w ≡ word.If (lowered (typed.expr_of test.now)) (lowered_statement (typed.stmt_of yes.now)) (word.Block [] word.done)) }
+    ensures { IfOk result (λ w. word_stmt_of w ≡ word.If (lowered (typed.expr_of test.now)) (lowered_statement (typed.stmt_of yes.now)) (word.Block [] word.done)) }
 {
     let yes = part(alloc, yes)?;
     let test = expression(alloc, test)?;
@@ -128,7 +129,7 @@ fn if_alone(alloc: Global, yes: &TypedStmt, test: &TypedExpr) -> Result<WordStmt
 
 #[cycle(statements)]
 fn while_loop(alloc: Global, body: &TypedStmt, test: &TypedExpr) -> Result<WordStmt, NoMemory>
-    ensures { IfOk result (λ w. stmt_of w ≡ word.While (lowered (typed.expr_of test.now)) (lowered_statement (typed.stmt_of body.now))) }
+    ensures { IfOk result (λ w. word_stmt_of w ≡ word.While (lowered (typed.expr_of test.now)) (lowered_statement (typed.stmt_of body.now))) }
 {
     let body = part(alloc, body)?;
     let test = expression(alloc, test)?;
@@ -137,7 +138,7 @@ fn while_loop(alloc: Global, body: &TypedStmt, test: &TypedExpr) -> Result<WordS
 
 #[cycle(statements)]
 fn do_loop(alloc: Global, body: &TypedStmt, test: &TypedExpr) -> Result<WordStmt, NoMemory>
-    ensures { IfOk result (λ w. stmt_of w ≡ word.Do_while (lowered_statement (typed.stmt_of body.now)) (lowered (typed.expr_of test.now))) }
+    ensures { IfOk result (λ w. word_stmt_of w ≡ word.Do_while (lowered_statement (typed.stmt_of body.now)) (lowered (typed.expr_of test.now))) }
 {
     let body = part(alloc, body)?;
     let test = expression(alloc, test)?;
@@ -152,7 +153,7 @@ fn for_loop(
     test: &Option<TypedExpr>,
     third: &Option<TypedExpr>,
 ) -> Result<WordStmt, NoMemory>
-    ensures { IfOk result (λ w. stmt_of w ≡ word.For (lowered_optional (typed.option_expr_of first.now)) (lowered_optional (typed.option_expr_of test.now)) (lowered_optional (typed.option_expr_of third.now)) (lowered_statement (typed.stmt_of body.now))) }
+    ensures { IfOk result (λ w. word_stmt_of w ≡ word.For (lowered_optional (typed.option_expr_of first.now)) (lowered_optional (typed.option_expr_of test.now)) (lowered_optional (typed.option_expr_of third.now)) (lowered_statement (typed.stmt_of body.now))) }
 {
     let body = part(alloc, body)?;
     for_over(alloc, first, test, third, body)
@@ -166,9 +167,22 @@ fn for_over(
     third: &Option<TypedExpr>,
     body: Box<WordStmt>,
 ) -> Result<WordStmt, NoMemory>
-    ensures { IfOk result (λ w. stmt_of w ≡ word.For (lowered_optional (typed.option_expr_of first.now)) (lowered_optional (typed.option_expr_of test.now)) (lowered_optional (typed.option_expr_of third.now)) (stmt_of body.value)) }
+    ensures { IfOk result (λ w. word_stmt_of w ≡ word.For (lowered_optional (typed.option_expr_of first.now)) (lowered_optional (typed.option_expr_of test.now)) (lowered_optional (typed.option_expr_of third.now)) (word_stmt_of body.value)) }
 {
     let first = optional(alloc, first)?;
+    for_from(alloc, first, test, third, body)
+}
+
+// A for whose first expression is lowered too.
+fn for_from(
+    alloc: Global,
+    first: Option<WordExpr>,
+    test: &Option<TypedExpr>,
+    third: &Option<TypedExpr>,
+    body: Box<WordStmt>,
+) -> Result<WordStmt, NoMemory>
+    ensures { IfOk result (λ w. word_stmt_of w ≡ word.For (optional_word_of first) (lowered_optional (typed.option_expr_of test.now)) (lowered_optional (typed.option_expr_of third.now)) (word_stmt_of body.value)) }
+{
     let test = optional(alloc, test)?;
     let third = optional(alloc, third)?;
     Ok(WordStmt::For {
@@ -181,7 +195,7 @@ fn for_over(
 
 #[cycle(statements)]
 fn switch(alloc: Global, all: &[Choice], value: &TypedExpr) -> Result<WordStmt, NoMemory>
-    ensures { IfOk result (λ w. stmt_of w ≡ word.Switch (lowered (typed.expr_of value.now)) (lowered_choices (typed.choice_list all.now))) }
+    ensures { IfOk result (λ w. word_stmt_of w ≡ word.Switch (lowered (typed.expr_of value.now)) (lowered_choices (typed.choice_list all.now))) }
 {
     let choices = choices(alloc, all)?;
     let value = expression(alloc, value)?;
@@ -212,7 +226,7 @@ fn choices(alloc: Global, list: &[Choice]) -> Result<Vec<WordChoice>, NoMemory>
 
 #[cycle(statements)]
 fn choice(alloc: Global, part: &Choice) -> Result<WordChoice, NoMemory>
-    ensures { IfOk result (λ w. choice_before w word.no_more ≡ lowered_choices (typed.choice_before part.now tree.no_more)) }
+    ensures { IfOk result (λ w. word_choice_before w word.no_more ≡ lowered_choices (typed.choice_before part.now tree.no_more)) }
 {
     match part {
         Choice::Case(word) => Ok(WordChoice::Case(*word)),

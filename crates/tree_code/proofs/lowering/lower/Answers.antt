@@ -1,10 +1,10 @@
-use Rattle.std.proofs.Common.{◌≡◌, map, rules}
+use Rattle.std.proofs.Common.{◌≡◌, refl, map, rules}
 use Rattle.c_tree.specs.View as typed
 use Rattle.c_tree.specs.View.{object_of}
 use Rattle.c_tree.specs.ProgramView.{program_of}
 use Rattle.tree_code.specs.Lowered.{lowered_function}
 use Rattle.tree_code.specs.WordView.{function_code_of}
-use Rattle.tree_code.proofs.CodeLemmas.{code_of}
+use Rattle.tree_code.proofs.CodeLemmas.{code_of, few_scalars}
 use Rattle.tree_code.proofs.lowering.lower.Goals as goal
 
 pub of_parts-requires : goal.of_parts-requires
@@ -12,3 +12,7 @@ of_parts-requires c =
     let statics : map object_of c.in_ok-statics.statics ≡ map object_of c.args.program.now.statics = search rules in
     let functions : map function_code_of c.in_ok-functions.functions ≡ map lowered_function (map typed.function_of c.args.program.now.functions) = search rules in
     code_of (program_of c.args.program.now) (map object_of c.in_ok-statics.statics) (map function_code_of c.in_ok-functions.functions) statics functions c.args.program.now.well_formed
+
+pub functions-requires : goal.functions-requires
+functions-requires c =
+    few_scalars (program_of c.args.program.now) c.args.program.now.functions c.as_slice.result.now refl c.as_slice.ensures c.args.program.now.well_formed
