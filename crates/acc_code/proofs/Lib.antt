@@ -1,0 +1,4 @@
+mod Gathering
+mod Frames
+mod SequenceExamples
+mod EmittableExamples

@@ -1,0 +1,9 @@
+-- The accumulator code of word trees.
+pub mod Conditions
+pub mod Forms
+pub mod Selected
+pub mod PartView
+pub mod IsSelected
+pub mod OperationWords
+pub mod Ends
+pub mod LocalObjects
