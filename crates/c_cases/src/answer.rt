@@ -1,6 +1,7 @@
-//! The answers of the front end: tokens, trees, programs and refusals.
+//! The answers: tokens, trees, programs, accesses and refusals.
 ghost use Rattle.std.specs.Prelude.{◌<◌, ◌^◌, length};
 
+use crate::accesses_text::{push_access_counts, push_accesses};
 use crate::refusal::Refusal;
 use crate::token_text::push_tokens;
 use crate::tree_text::push_tree;
@@ -25,6 +26,10 @@ pub(crate) enum Kind {
     /// The tree with places.
     Places,
     Program,
+    /// The access sequence of each function.
+    Accesses,
+    /// How many accesses in how many blocks.
+    AccessCounts,
 }
 
 impl Kind {
@@ -37,6 +42,8 @@ impl Kind {
             "tree" => Some(Kind::Tree),
             "places" => Some(Kind::Places),
             "program" => Some(Kind::Program),
+            "accesses" => Some(Kind::Accesses),
+            "access-counts" => Some(Kind::AccessCounts),
             _ => None,
         }
     }
@@ -49,6 +56,8 @@ impl Kind {
             Kind::Tree => "tree",
             Kind::Places => "places",
             Kind::Program => "program",
+            Kind::Accesses => "accesses",
+            Kind::AccessCounts => "access-counts",
         }
     }
 }
@@ -88,6 +97,8 @@ fn push_shown(
         Kind::Tree => push_tree_of(alloc, out, source, None),
         Kind::Places => push_tree_of(alloc, out, source, Some(base)),
         Kind::Program => push_program_of(alloc, out, source, base),
+        Kind::Accesses => push_accesses_of(alloc, out, source),
+        Kind::AccessCounts => push_access_counts_of(alloc, out, source),
     }
 }
 
@@ -131,6 +142,20 @@ fn push_program_of(alloc: Global, out: &mut String, source: &[u8], base: u32) ->
 {
     let program = typed_program(alloc, source)?;
     Ok(push_program(alloc, out, &program, base)?)
+}
+
+fn push_accesses_of(alloc: Global, out: &mut String, source: &[u8]) -> Result<(), Refusal>
+    requires short { length source.now < 2 ^ 32 }
+{
+    let program = typed_program(alloc, source)?;
+    Ok(push_accesses(alloc, out, &program)?)
+}
+
+fn push_access_counts_of(alloc: Global, out: &mut String, source: &[u8]) -> Result<(), Refusal>
+    requires short { length source.now < 2 ^ 32 }
+{
+    let program = typed_program(alloc, source)?;
+    Ok(push_access_counts(alloc, out, &program)?)
 }
 
 fn tree(alloc: Global, source: &[u8]) -> Result<Unit, Refusal>

@@ -1,4 +1,4 @@
-//! Cases of the language: sources with their tokens, their syntax trees, their typed programs or their refusals.
+//! Cases of the language: sources with their tokens, their syntax trees, their typed programs, their accesses or their refusals.
 //!
 //! The cases are read from standard input, and the answer of each is a line of standard output, `KIND TEXT ==> ANSWER`. Nothing is
 //! built on this program: the gate runs it on the file `stdin`, and compares what it puts with the file `stdout`, whose answers were
@@ -19,6 +19,8 @@
 //! | `tree` | the syntax tree |
 //! | `places` | the syntax tree with places |
 //! | `program` | the typed program |
+//! | `accesses` | the access sequence of each function |
+//! | `access-counts` | `N accesses in M blocks`, of all functions together |
 //!
 //! In a text, two backticks and what stands between them are `hh`, the byte of these two hexadecimal digits; or `N PIECE`, the piece
 //! N times. With `?` between them the case stands for 256 cases, one for each byte there. A line of another form is answered
@@ -44,10 +46,14 @@
 //! the program. A function has its result, its parameters, the types of its scalars, its local objects, and its body. An object has
 //! its type, its length in brackets and the cells of its list. A block names first, in brackets, what it declares.
 //!
+//! An access sequence is a function's name, how many scalars its frame has, and behind a colon its blocks between ` | `, or `-` where it
+//! has none. Those of several functions stand between `; `.
+//!
 //! A refusal is `!`, and then what is wrong and, where it has one, its place: `bad byte`, `open comment`, `bad constant`, `long name`,
 //! `too many tokens` with their count, or `syntax`; the fault of types as it is named in c_types; or `memory` or `length`.
 #![tactic(auto)]
 
+mod accesses_text;
 mod answer;
 mod case;
 mod notation;
