@@ -34,45 +34,45 @@ or_none true = refl
 or_none false = refl
 
 -- one part of what is left
-calls_step : {now next whole : List ℕ} (part rest : List Use) → now ++ called (part ++ rest) ≡ whole → next ≡ now ++ called part → next ++ called rest ≡ whole
-calls_step {now} part rest so_far added =
+calls_step : (now next whole : List ℕ) (part rest : List Use) → now ++ called (part ++ rest) ≡ whole → next ≡ now ++ called part → next ++ called rest ≡ whole
+calls_step now next whole part rest so_far added =
     ap (λ l. l ++ called rest) added ∙ append_assoc now (called part) (called rest) ∙ ap (λ l. now ++ l) (sym (called_append part rest)) ∙ so_far
 
-routine_step : {now next whole : Bool} (part rest : Bool) → (now || (part || rest)) ≡ whole → next ≡ (now || part) → (next || rest) ≡ whole
-routine_step {now} part rest so_far added = ap (λ b. b || rest) added ∙ or_further now part rest ∙ so_far
+routine_step : (now next whole : Bool) (part rest : Bool) → (now || (part || rest)) ≡ whole → next ≡ (now || part) → (next || rest) ≡ whole
+routine_step now next whole part rest so_far added = ap (λ b. b || rest) added ∙ or_further now part rest ∙ so_far
 
 -- the part of a list from a place on
 left : {A : Type 0} (list : List A) (i : ℕ) (x : A) → x ≡ get_or list i x → i < length list → drop i list ≡ x ∷ drop (i + 1) list
 left list i x is within = drop_more list i x within ∙ ap (λ y. y ∷ drop (i + 1) list) (sym is)
 
 -- a turn of the loop over arguments
-pub argument_calls : {now next whole : List ℕ} (list : List WordExpr) (i : ℕ) (x : WordExpr) → x ≡ get_or list i x → i < length list
+pub argument_calls : (now next whole : List ℕ) (list : List WordExpr) (i : ℕ) (x : WordExpr) → x ≡ get_or list i x → i < length list
     → now ++ called (word_list_uses (word_argument_list (drop i list))) ≡ whole → next ≡ now ++ called (word_uses (word_expr_of x))
     → next ++ called (word_list_uses (word_argument_list (drop (i + 1) list))) ≡ whole
-argument_calls {now} list i x is within so_far added =
-    calls_step (word_uses (word_expr_of x)) (word_list_uses (word_argument_list (drop (i + 1) list)))
+argument_calls now next whole list i x is within so_far added =
+    calls_step now next whole (word_uses (word_expr_of x)) (word_list_uses (word_argument_list (drop (i + 1) list)))
     (ap (λ l. now ++ called (word_list_uses (word_argument_list l))) (sym (left list i x is within)) ∙ so_far) added
 
-pub argument_routine : {now next whole : Bool} (list : List WordExpr) (i : ℕ) (x : WordExpr) → x ≡ get_or list i x → i < length list
+pub argument_routine : (now next whole : Bool) (list : List WordExpr) (i : ℕ) (x : WordExpr) → x ≡ get_or list i x → i < length list
     → (now || some_argument_form needs_routine (word_argument_list (drop i list))) ≡ whole → next ≡ (now || some_form needs_routine (word_expr_of x))
     → (next || some_argument_form needs_routine (word_argument_list (drop (i + 1) list))) ≡ whole
-argument_routine {now} list i x is within so_far added =
-    routine_step (some_form needs_routine (word_expr_of x)) (some_argument_form needs_routine (word_argument_list (drop (i + 1) list)))
+argument_routine now next whole list i x is within so_far added =
+    routine_step now next whole (some_form needs_routine (word_expr_of x)) (some_argument_form needs_routine (word_argument_list (drop (i + 1) list)))
     (ap (λ l. now || some_argument_form needs_routine (word_argument_list l)) (sym (left list i x is within)) ∙ so_far) added
 
 -- a turn of the loop over statements
-pub statement_calls : {now next whole : List ℕ} (list : List WordStmt) (i : ℕ) (x : WordStmt) → x ≡ get_or list i x → i < length list
+pub statement_calls : (now next whole : List ℕ) (list : List WordStmt) (i : ℕ) (x : WordStmt) → x ≡ get_or list i x → i < length list
     → now ++ called (word_statements_uses (word_statement_list (drop i list))) ≡ whole → next ≡ now ++ called (word_statement_uses (word_stmt_of x))
     → next ++ called (word_statements_uses (word_statement_list (drop (i + 1) list))) ≡ whole
-statement_calls {now} list i x is within so_far added =
-    calls_step (word_statement_uses (word_stmt_of x)) (word_statements_uses (word_statement_list (drop (i + 1) list)))
+statement_calls now next whole list i x is within so_far added =
+    calls_step now next whole (word_statement_uses (word_stmt_of x)) (word_statements_uses (word_statement_list (drop (i + 1) list)))
     (ap (λ l. now ++ called (word_statements_uses (word_statement_list l))) (sym (left list i x is within)) ∙ so_far) added
 
-pub statement_routine : {now next whole : Bool} (list : List WordStmt) (i : ℕ) (x : WordStmt) → x ≡ get_or list i x → i < length list
+pub statement_routine : (now next whole : Bool) (list : List WordStmt) (i : ℕ) (x : WordStmt) → x ≡ get_or list i x → i < length list
     → (now || some_list_form needs_routine (word_statement_list (drop i list))) ≡ whole → next ≡ (now || some_statement_form needs_routine (word_stmt_of x))
     → (next || some_list_form needs_routine (word_statement_list (drop (i + 1) list))) ≡ whole
-statement_routine {now} list i x is within so_far added =
-    routine_step (some_statement_form needs_routine (word_stmt_of x)) (some_list_form needs_routine (word_statement_list (drop (i + 1) list)))
+statement_routine now next whole list i x is within so_far added =
+    routine_step now next whole (some_statement_form needs_routine (word_stmt_of x)) (some_list_form needs_routine (word_statement_list (drop (i + 1) list)))
     (ap (λ l. now || some_list_form needs_routine (word_statement_list l)) (sym (left list i x is within)) ∙ so_far) added
 
 -- a choice, before others
@@ -88,19 +88,19 @@ routine_before choice.Default rest = refl
 routine_before (choice.Body s) rest = ap (λ b. b || some_choice_form needs_routine rest) (sym (or_none (some_statement_form needs_routine (word_stmt_of s))))
 
 -- a turn of the loop over choices
-pub choice_calls : {now next whole : List ℕ} (list : List WordChoice) (i : ℕ) (x : WordChoice) → x ≡ get_or list i x → i < length list
+pub choice_calls : (now next whole : List ℕ) (list : List WordChoice) (i : ℕ) (x : WordChoice) → x ≡ get_or list i x → i < length list
     → now ++ called (word_choices_uses (word_choice_list (drop i list))) ≡ whole → next ≡ now ++ called (word_choices_uses (word_choice_before x no_more))
     → next ++ called (word_choices_uses (word_choice_list (drop (i + 1) list))) ≡ whole
-choice_calls {now} list i x is within so_far added =
-    calls_step (word_choices_uses (word_choice_before x no_more)) (word_choices_uses (word_choice_list (drop (i + 1) list)))
+choice_calls now next whole list i x is within so_far added =
+    calls_step now next whole (word_choices_uses (word_choice_before x no_more)) (word_choices_uses (word_choice_list (drop (i + 1) list)))
     (ap (λ l. now ++ called l) (sym (calls_before x (word_choice_list (drop (i + 1) list))))
     ∙ ap (λ l. now ++ called (word_choices_uses (word_choice_list l))) (sym (left list i x is within)) ∙ so_far) added
 
-pub choice_routine : {now next whole : Bool} (list : List WordChoice) (i : ℕ) (x : WordChoice) → x ≡ get_or list i x → i < length list
+pub choice_routine : (now next whole : Bool) (list : List WordChoice) (i : ℕ) (x : WordChoice) → x ≡ get_or list i x → i < length list
     → (now || some_choice_form needs_routine (word_choice_list (drop i list))) ≡ whole → next ≡ (now || some_choice_form needs_routine (word_choice_before x no_more))
     → (next || some_choice_form needs_routine (word_choice_list (drop (i + 1) list))) ≡ whole
-choice_routine {now} list i x is within so_far added =
-    routine_step (some_choice_form needs_routine (word_choice_before x no_more)) (some_choice_form needs_routine (word_choice_list (drop (i + 1) list)))
+choice_routine now next whole list i x is within so_far added =
+    routine_step now next whole (some_choice_form needs_routine (word_choice_before x no_more)) (some_choice_form needs_routine (word_choice_list (drop (i + 1) list)))
     (ap (λ b. now || b) (sym (routine_before x (word_choice_list (drop (i + 1) list))))
     ∙ ap (λ l. now || some_choice_form needs_routine (word_choice_list l)) (sym (left list i x is within)) ∙ so_far) added
 

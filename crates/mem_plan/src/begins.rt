@@ -1,5 +1,6 @@
 //! Where frames begin, in words behind the static objects.
-ghost use Rattle.std.specs.Prelude.{◌≡◌, ◌≤◌, ◌+◌, ◌⊎◌, ℕ, length, true, slice_index, All, IfOk, Some};
+ghost use Rattle.std.specs.Prelude.{◌≡◌, ◌<◌, ◌≤◌, ◌+◌, ◌⊎◌, ℕ, length, true, slice_index, All, IfOk};
+ghost use Rattle.std.specs.List.{Contains};
 ghost use Rattle.mem_plan.specs.Begins.{IsBehind};
 ghost use Rattle.mem_plan.specs.declared.begins.TheConstants.{MOST_BEGIN};
 ghost use Rattle.mem_plan.specs.Tested.{calls_in, owns_in, IsTested};
@@ -55,40 +56,57 @@ fn are_above(begins: &[u64], needs: &[FunctionNeeds]) -> bool
 
 // Whether a frame that begins here ends before those of the functions that are called.
 fn ends_before(begin: u64, caller: &FunctionNeeds, begins: &[u64]) -> bool
-    ensures { result ≡ true → All (λ f. begin + caller.now.own ≤ slice_index begins.now f) caller.now.calls }
+    ensures { result ≡ true → (f : ℕ) → Contains caller.now.calls f → begin + caller.now.own ≤ slice_index begins.now f }
 {
     let Some(end) = begin.checked_add(caller.own) else {
         return false;
     };
     for called in caller.calls.as_slice() {
-        if !is_from(end, begins.get(usize::from(*called)).copied()) {
+        if !is_from(end, usize::from(*called), begins) {
             return false;
         }
     }
     true
 }
 
-fn is_from(end: u64, begin: Option<u64>) -> bool
-    ensures { result ≡ true → (b : ℕ) → begin ≡ Some b → end ≤ b }
+// Whether the frame of a function begins at this end or behind it.
+fn is_from(end: u64, function: usize, begins: &[u64]) -> bool
+    ensures { result ≡ true → end ≤ slice_index begins.now function }
 {
-    match begin {
-        Some(begin) => end <= begin,
+    match begins.get(function) {
+        Some(begin) => end <= *begin,
         None => false,
     }
 }
 
 // Each frame begins at 0, or where one ends whose function calls its own.
 fn are_reached(found: &Found, needs: &[FunctionNeeds]) -> bool
-    requires { length found.now.begins.items ≡ length needs.now }
     ensures { result ≡ true → (f : ℕ) → (slice_index found.now.begins.items f ≡ 0) ⊎ IsBehind (calls_in needs.now) (owns_in needs.now) (slice_index found.now.begins.items) f }
 {
-    for (number, begin) in found.begins.iter().enumerate() {
+    for number in 0..found.begins.len() {
         let origin = found.origins.get(number).copied().flatten();
-        if *begin != 0 && !is_behind(number, *begin, origin, &found.begins, needs) {
+        if !is_reached(number, origin, &found.begins, needs) {
             return false;
         }
     }
     true
+}
+
+fn is_reached(
+    number: usize,
+    origin: Option<Call>,
+    begins: &[u64],
+    needs: &[FunctionNeeds],
+) -> bool
+    requires { number < length begins.now }
+    ensures { result ≡ true → (slice_index begins.now number ≡ 0) ⊎ IsBehind (calls_in needs.now) (owns_in needs.now) (slice_index begins.now) number }
+{
+    let begin = begins[number];
+    if begin == 0 {
+        true
+    } else {
+        is_behind(number, begin, origin, begins, needs)
+    }
 }
 
 // Whether a frame begins where that of the function of this call ends.

@@ -2,8 +2,7 @@
 ghost use Rattle.std.specs.Prelude.{◌≡◌, ◌≤◌, ◌+◌, map, length, All, IfOk};
 ghost use Rattle.std.specs.List.{concat};
 ghost use Rattle.c_tree.specs.View.{object_of};
-ghost use Rattle.mem_plan.specs.DataNeeds as needs;
-ghost use Rattle.mem_plan.specs.DataNeeds.{own, objects_words};
+ghost use Rattle.mem_plan.specs.DataNeeds.{own, objects_words, needs_of};
 ghost use Rattle.mem_plan.specs.Plan as plans;
 ghost use Rattle.mem_plan.specs.Plan.{IsArranged};
 ghost use Rattle.tree_code.specs.WordView.{function_code_of};
@@ -57,7 +56,7 @@ pub(crate) fn frame(
     needs: &FunctionNeeds,
     lists: &[ScalarList],
 ) -> Result<FramePlan, NoMemory>
-    requires needs { needs.now ≡ needs.needs_of (function_code_of f.now) }
+    requires needs { needs.now ≡ needs_of (function_code_of f.now) }
     requires arranged { IsArranged (function_code_of f.now) lists.now }
     requires room { start + own (function_code_of f.now) ≤ 65536 }
     ensures { IfOk result (λ frame. frame ≡ plans.frame_of (function_code_of f.now) lists.now start) }

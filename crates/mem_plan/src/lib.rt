@@ -6,6 +6,7 @@
 mod begins;
 mod body;
 mod data_plan;
+mod laws;
 mod layout;
 mod needs;
 mod planning;
@@ -15,5 +16,6 @@ pub use data_plan::{
     DATA_START, DataPlan, FramePlan, MOST_DATA_WORDS, MOST_LISTS, PlanFault, SCRATCH_WORDS,
 };
 pub use lay_model::{Arrangement, ScalarList};
+pub use laws::plans_keep_apart;
 pub use planning::plan;
 pub use tree_code::{TreeFunction, TreeProgram};

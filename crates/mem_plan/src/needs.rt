@@ -1,7 +1,7 @@
 //! How many words of data memory functions and objects need.
 ghost use Rattle.std.specs.Prelude.{◌≡◌, ◌≤◌, IfOk, map, All};
 ghost use Rattle.c_tree.specs.View.{object_of};
-ghost use Rattle.mem_plan.specs.DataNeeds as needs;
+ghost use Rattle.mem_plan.specs.DataNeeds as data_needs;
 ghost use Rattle.mem_plan.specs.DataNeeds.{most_object_words};
 ghost use Rattle.tree_code.specs.WordView.{function_code_of};
 
@@ -24,8 +24,8 @@ pub(crate) struct FunctionNeeds {
 
 /// The words of objects, each with one spare word.
 pub(crate) fn objects_words(list: &[Object]) -> u64
-    requires { needs.objects_words (map object_of list.now) ≤ most_object_words }
-    ensures { result ≡ needs.objects_words (map object_of list.now) }
+    requires { data_needs.objects_words (map object_of list.now) ≤ most_object_words }
+    ensures { result ≡ data_needs.objects_words (map object_of list.now) }
 {
     let mut words: u64 = 0;
     for object in list {
@@ -35,8 +35,8 @@ pub(crate) fn objects_words(list: &[Object]) -> u64
 }
 
 fn function_needs(alloc: Global, f: &TreeFunction) -> Result<FunctionNeeds, NoMemory>
-    requires { needs.objects_words (map object_of f.now.locals) ≤ most_object_words }
-    ensures { IfOk result (λ n. n ≡ needs.needs_of (function_code_of f.now)) }
+    requires { data_needs.objects_words (map object_of f.now.locals) ≤ most_object_words }
+    ensures { IfOk result (λ n. n ≡ data_needs.needs_of (function_code_of f.now)) }
 {
     let body = body_of(alloc, &f.body)?;
     let returns = !body.calls.is_empty() || body.routine;
@@ -53,8 +53,8 @@ pub(crate) fn needs_of(
     alloc: Global,
     list: &[TreeFunction],
 ) -> Result<Vec<FunctionNeeds>, NoMemory>
-    requires { All (λ f. needs.objects_words (map object_of f.locals) ≤ most_object_words) list.now }
-    ensures { IfOk result (λ all. all.items ≡ map needs.needs_of (map function_code_of list.now)) }
+    requires { All (λ f. data_needs.objects_words (map object_of f.locals) ≤ most_object_words) list.now }
+    ensures { IfOk result (λ all. all.items ≡ map data_needs.needs_of (map function_code_of list.now)) }
 {
     let mut all = Vec::new(alloc);
     for f in list {

@@ -1,7 +1,7 @@
 //! The plan of a program.
 ghost use Rattle.std.specs.Prelude.{◌≡◌, ◌≤◌, ◌+◌, ◌^◌, map, max, length, slice_index, All, IfOk, IfErr};
 ghost use Rattle.mem_plan.specs.declared.begins.TheConstants.{MOST_BEGIN};
-ghost use Rattle.mem_plan.specs.DataNeeds as needs;
+ghost use Rattle.mem_plan.specs.DataNeeds as data_needs;
 ghost use Rattle.mem_plan.specs.DataNeeds.{most_object_words, own};
 ghost use Rattle.mem_plan.specs.Plan.{AreArranged, IsPlan, Says, end_from, frames_from};
 ghost use Rattle.tree_code.specs.ProgramView.{tree_of};
@@ -82,7 +82,7 @@ fn frames(
     begins: &[u64],
     arrangements: &[Arrangement],
 ) -> Result<Items<FramePlan>, NoMemory>
-    requires needs { needs.now ≡ map needs.needs_of (map function_code_of functions.now) }
+    requires needs { needs.now ≡ map data_needs.needs_of (map function_code_of functions.now) }
     requires size { length begins.now ≡ length needs.now }
     requires arranged { AreArranged (map function_code_of functions.now) arrangements.now }
     requires room { start + end_from (slice_index begins.now) 0 (map own (map function_code_of functions.now)) ≤ 65536 }
