@@ -58,7 +58,8 @@ fn greatest_end(needs: &[FunctionNeeds], begins: &[u64]) -> u64
     requires size { length begins.now ≡ length needs.now }
     requires begins { All (λ begin. begin ≤ MOST_BEGIN) begins.now }
     requires own { All (λ f. f.own ≤ 2 ^ 40) needs.now }
-    ensures { result ≡ end_from (slice_index begins.now) 0 (map (λ f. f.own) needs.now) }
+    ensures is { result ≡ end_from (slice_index begins.now) 0 (map (λ f. f.own) needs.now) }
+    ensures small { result ≤ MOST_BEGIN + 2 ^ 40 }
 {
     let mut greatest = 0;
     for (number, f) in needs.iter().enumerate() {
