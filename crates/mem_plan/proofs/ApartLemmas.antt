@@ -1,6 +1,6 @@
 -- Things of a plan lie apart.
-use Rattle.std.proofs.Common.{◌≡◌, ◌<◌, ◌≤◌, ◌+◌, ◌∙◌, ℕ, zero, suc, List, [], ◌∷◌, ◌++◌, Bool, true, false, refl, length, map, max, ap, sym, subst, inl, inr, arith, Some, None, ⊎_elim}
-use Rattle.std.specs.Prelude.{◌⊎◌, slice_get, Option, if◌then◌else◌, nat_lt, ⊤, option_map}
+use Rattle.std.proofs.Common.{◌≡◌, ◌<◌, ◌≤◌, ◌+◌, ◌∙◌, ℕ, zero, suc, List, [], ◌∷◌, Bool, true, false, refl, length, map, ap, sym, subst, inl, inr, arith, Some, None, ⊎_elim}
+use Rattle.std.specs.Prelude.{◌⊎◌, slice_get, Option, if◌then◌else◌, nat_lt, option_map}
 use Rattle.std.specs.List.{concat}
 use borrow.Author.Tests.{ltb-true}
 use Rattle.std.proofs.lemmas.Bool.{cases_lt}
@@ -13,10 +13,10 @@ use Rattle.tree_code.specs.WellFormedCode.{code_calls}
 use Rattle.mem_plan.proofs.BoundLemmas.{end_at}
 use Rattle.mem_plan.specs.declared.data_plan.DataPlan.{DataPlan}
 use Rattle.mem_plan.specs.declared.data_plan.FramePlan.{FramePlan}
-use Rattle.mem_plan.specs.Begins.{IsBegin, IsBehind}
-use Rattle.mem_plan.specs.DataNeeds.{object_words, objects_words, has_return_word, return_words, own, own_of, own_at}
-use Rattle.mem_plan.specs.Plan.{object_addresses, list_bases, frame_of, frames_from, end_from, statics_start, frames_start, plan_of, AreArranged, IsArranged, AreBegins, IsPlan}
-use Rattle.mem_plan.specs.Ranges.{Range, range, Apart, Place, ScratchWords, StaticObject, ScalarWord, LocalObject, ReturnWord, function_of, object_range, scalar_range, word_range, list_range, local_range, return_range, range_of, Reaches, CanMeet, KeepApart, IsWithin, LieWithin}
+use Rattle.mem_plan.specs.Begins.{IsBegin}
+use Rattle.mem_plan.specs.DataNeeds.{objects_words, has_return_word, return_words, own, own_of, own_at}
+use Rattle.mem_plan.specs.Plan.{object_addresses, list_bases, frame_of, frames_from, frames_start, plan_of, AreArranged, AreBegins, IsPlan}
+use Rattle.mem_plan.specs.Ranges.{Range, range, Apart, Place, ScratchWords, StaticObject, ScalarWord, LocalObject, ReturnWord, object_range, scalar_range, word_range, list_range, local_range, return_range, range_of, Reaches, KeepApart, IsWithin, LieWithin}
 
 -- a range of so many words from an address on
 record Lies (r : Range) (first words : ℕ) : Type 0 where
@@ -73,11 +73,11 @@ objects_apart at os n m r s differ h k = elim (cases_lt n m) [
       let before = object_before at os n m h.address k.address h.object less h.addressed h.there k.addressed k.object k.there
       in inl (omega (arith, before, h.lies_so.at, h.lies_so.long, k.lies_so.at))
   | inr more ↦ elim (cases_lt m n) [
-      | inl less ↦
-          let before = object_before at os m n k.address h.address k.object less k.addressed k.there h.addressed h.object h.there
-          in inr (omega (arith, before, h.lies_so.at, k.lies_so.at, k.lies_so.long))
-      | inr least ↦ absurd (differ (omega (arith, more, least)))
-    ]
+    | inl less ↦
+        let before = object_before at os m n k.address h.address k.object less k.addressed k.there h.addressed h.object h.there
+        in inr (omega (arith, before, h.lies_so.at, k.lies_so.at, k.lies_so.long))
+    | inr least ↦ absurd (differ (omega (arith, more, least)))
+  ]
 ]
 
 -- a scalar of lists from an address on
@@ -128,9 +128,9 @@ positions_apart : (b i j : ℕ) (r s : Range) → (i ≡ j → ⊥) → Lies r (
 positions_apart b i j r s differ h k = elim (cases_lt i j) [
   | inl less ↦ inl (omega (arith, less, h.at, h.long, k.at))
   | inr more ↦ elim (cases_lt j i) [
-      | inl less ↦ inr (omega (arith, less, h.at, k.at, k.long))
-      | inr least ↦ absurd (differ (omega (arith, more, least)))
-    ]
+    | inl less ↦ inr (omega (arith, less, h.at, k.at, k.long))
+    | inr least ↦ absurd (differ (omega (arith, more, least)))
+  ]
 ]
 
 scalars_apart : (at : ℕ) (lists : List (List ℕ)) (k i m j : ℕ) (r s : Range) → (k ≡ m → i ≡ j → ⊥) → ScalarAt at lists k i r → ScalarAt at lists m j s → Apart r s
@@ -139,14 +139,14 @@ scalars_apart at lists k i m j r s differ h c = elim (cases_lt k m) [
       let before = list_before at lists k m h.base c.base h.list c.list less h.based h.there c.based c.there
       in inl (omega (arith, before, h.inside, h.lies_so.at, h.lies_so.long, c.lies_so.at))
   | inr more ↦ elim (cases_lt m k) [
-      | inl less ↦
-          let before = list_before at lists m k c.base h.base c.list h.list less c.based c.there h.based h.there
-          in inr (omega (arith, before, c.inside, h.lies_so.at, c.lies_so.at, c.lies_so.long))
-      | inr least ↦
-          let same : k ≡ m = omega (arith, more, least) in
-          let one : h.base ≡ c.base = same_Some h.base c.base (sym h.based ∙ ap (slice_get (list_bases at lists)) same ∙ c.based)
-          in positions_apart c.base i j r s (differ same) (subst (λ b. Lies r (b + i) 1) one h.lies_so) c.lies_so
-    ]
+    | inl less ↦
+        let before = list_before at lists m k c.base h.base c.list h.list less c.based c.there h.based h.there
+        in inr (omega (arith, before, c.inside, h.lies_so.at, c.lies_so.at, c.lies_so.long))
+    | inr least ↦
+        let same : k ≡ m = omega (arith, more, least) in
+        let one : h.base ≡ c.base = same_Some h.base c.base (sym h.based ∙ ap (slice_get (list_bases at lists)) same ∙ c.based)
+        in positions_apart c.base i j r s (differ same) (subst (λ b. Lies r (b + i) 1) one h.lies_so) c.lies_so
+  ]
 ]
 
 -- a return word at an address
@@ -284,15 +284,15 @@ module _ (p : ProgramCode) (arrangements : List (List (List ℕ))) (arranged : A
   found_part f x r e = ⊎_elim
       (λ nothing. absurd (no_part x (subst (λ frame. part_range frame (slice_get p.functions f) (slice_get arrangements f) x ≡ Some r) nothing e)))
       (λ found.
-          let here : 0 + f ≡ f = omega arith in
-          let h : Framed p.functions arrangements plan.frames f (at_frame f) = subst (λ k. Framed p.functions arrangements plan.frames f (frames_start p + begin k)) here found
-          in record {
-            code = h.code;
-            lists = h.lists;
-            there = h.there;
-            arranged_so = h.arranged;
-            part = part_at h.code h.lists (at_frame f) x r (sym (λ i. part_range (h.frame i) (h.there i) (h.arranged i) x) ∙ e);
-          })
+      let here : 0 + f ≡ f = omega arith in
+      let h : Framed p.functions arrangements plan.frames f (at_frame f) = subst (λ k. Framed p.functions arrangements plan.frames f (frames_start p + begin k)) here found
+      in record {
+        code = h.code;
+        lists = h.lists;
+        there = h.there;
+        arranged_so = h.arranged;
+        part = part_at h.code h.lists (at_frame f) x r (sym (λ i. part_range (h.frame i) (h.there i) (h.arranged i) x) ∙ e);
+      })
       (framed (frames_start p) begin 0 f p.functions arrangements)
     where
       no_part : (y : Part) → part_range None (slice_get p.functions f) (slice_get arrangements f) y ≡ Some r → ⊥

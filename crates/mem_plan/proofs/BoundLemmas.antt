@@ -1,7 +1,6 @@
 -- How much the objects and frames of a program need at most, and that what was gathered of its functions is what they need.
-use Rattle.std.proofs.Common.{◌≡◌, ◌≤◌, ◌<◌, ◌+◌, ◌*◌, ◌^◌, ◌∙◌, ℕ, zero, suc, List, [], ◌∷◌, Bool, true, false, refl, length, map, max, get_or, ap, sym, subst, arith, Some, None, slice_index}
-use Rattle.std.specs.Prelude.{All, slice_get, Option, option_map}
-use Rattle.std.specs.List.{sum_by}
+use Rattle.std.proofs.Common.{◌≡◌, ◌≤◌, ◌<◌, ◌+◌, ◌*◌, ◌^◌, ◌∙◌, ℕ, zero, suc, List, [], ◌∷◌, Bool, true, false, refl, length, map, get_or, ap, sym, subst, arith, Some, slice_index}
+use Rattle.std.specs.Prelude.{All, slice_get, option_map}
 use Rattle.std.proofs.lemmas.List.{get_or-map, length-map}
 use Rattle.std.proofs.lemmas.List.Elements.{All-head, All-tail}
 use Rattle.std.proofs.lemmas.List.Sums.{get_or-le-sum_by}
@@ -18,13 +17,13 @@ use Rattle.tree_code.specs.ProgramView.{tree_of}
 use Rattle.tree_code.specs.WordTree as tree
 use Rattle.tree_code.specs.WordTree.{FunctionCode, ProgramCode}
 use Rattle.tree_code.specs.WordView.{function_code_of}
-use Rattle.tree_code.specs.WellFormedCode.{IsCode, IsFunctionCode, IsObjectAmong, code_calls, code_object_count}
+use Rattle.tree_code.specs.WellFormedCode.{IsCode, IsObjectAmong, code_calls}
 use Rattle.mem_plan.specs.declared.data_plan.DataPlan.{DataPlan}
 use Rattle.mem_plan.specs.declared.data_plan.FramePlan.{FramePlan}
 use Rattle.mem_plan.specs.declared.needs.FunctionNeeds.{FunctionNeeds}
 use Rattle.mem_plan.specs.Begins.{IsBegin}
 use Rattle.mem_plan.specs.DataNeeds.{objects_words, has_return_word, return_words, own, own_of, own_at, own_in, needs_of, most_object_words}
-use Rattle.mem_plan.specs.Plan.{object_addresses, frames_from, frames_start, end_from, plan_of, AreArranged, IsArranged, AreBegins}
+use Rattle.mem_plan.specs.Plan.{object_addresses, frames_from, end_from, plan_of, AreArranged, IsArranged, AreBegins}
 use Rattle.mem_plan.specs.Tested.{calls_in, owns_in, IsTested}
 
 -- each object has 32,767 cells at most
@@ -70,8 +69,8 @@ locals_bound p fs list same alike known =
     ∥∥₁_elim known (hlevel le_prop) (λ code.
     subst (All (λ f. objects_words (map object_of f.locals) ≤ most_object_words)) (sym alike)
     (λ k d within.
-        subst (λ g. objects_words g.locals ≤ most_object_words) (ap (λ l. get_or l k (function_code_of d)) same ∙ get_or-map function_code_of fs k d (function_code_of d) within)
-        (few_locals p code k (function_code_of d) (subst (λ n. k < n) (sym (ap length same ∙ length-map fs function_code_of)) within))))
+    subst (λ g. objects_words g.locals ≤ most_object_words) (ap (λ l. get_or l k (function_code_of d)) same ∙ get_or-map function_code_of fs k d (function_code_of d) within)
+    (few_locals p code k (function_code_of d) (subst (λ n. k < n) (sym (ap length same ∙ length-map fs function_code_of)) within))))
 
 pub own_bound : (p : ProgramCode) (fs : List TreeFunction) (needs list : List FunctionNeeds) → p.functions ≡ map function_code_of fs → needs ≡ map needs_of (map function_code_of fs)
     → list ≡ needs → ∥ IsCode p ∥₁ → All (λ f. f.own ≤ 2 ^ 40) list
@@ -79,8 +78,8 @@ own_bound p fs needs list same gathered alike known =
     ∥∥₁_elim known (hlevel le_prop) (λ code.
     subst (All (λ f. f.own ≤ 2 ^ 40)) (sym (alike ∙ gathered ∙ ap (map needs_of) (sym same)))
     (λ k d within.
-        let inside : k < length p.functions = subst (λ n. k < n) (length-map p.functions needs_of) within in
-        subst (λ n. n.own ≤ 2 ^ 40) (sym (get_or-map needs_of p.functions k none d inside)) (small_own p code k none inside)))
+    let inside : k < length p.functions = subst (λ n. k < n) (length-map p.functions needs_of) within in
+    subst (λ n. n.own ≤ 2 ^ 40) (sym (get_or-map needs_of p.functions k none d inside)) (small_own p code k none inside)))
   where
     none : FunctionCode
     none = record { name = []; scalars = 0; params = []; locals = []; body = tree.Break }

@@ -1,16 +1,13 @@
 -- Plans of small programs, by hand.
-use Rattle.std.proofs.Common.{◌≡◌, refl, ℕ, zero, suc, List, [], ◌∷◌, ◌++◌, replicate, Some, None, inl, inr, arith, lit≤}
-use Rattle.std.specs.Prelude.{◌⊎◌}
+use Rattle.std.proofs.Common.{◌≡◌, refl, ℕ, zero, suc, [], ◌∷◌, Some, None}
 use Rattle.c_tree.specs.TypedTree.{ObjectTree}
 use Rattle.c_tree.specs.declared.program.Base.TheVariants.{Int}
 use Rattle.c_tree.specs.declared.program.VarRef.TheVariants.{Scalar}
 use Rattle.tree_code.specs.WordTree as tree
 use Rattle.tree_code.specs.WordTree.{ExprCode, Node, StmtCode, FunctionCode, ProgramCode}
 use Rattle.tree_code.specs.declared.operator.WordOp.TheVariants as word
-use Rattle.mem_plan.specs.declared.data_plan.DataPlan.{DataPlan}
-use Rattle.mem_plan.specs.declared.data_plan.FramePlan.{FramePlan}
-use Rattle.mem_plan.specs.DataNeeds.{own, has_return_word}
-use Rattle.mem_plan.specs.Plan.{plan_of, data_need, AreBegins}
+use Rattle.mem_plan.specs.DataNeeds.{own}
+use Rattle.mem_plan.specs.Plan.{plan_of, data_need}
 
 abbrev object : ℕ → ObjectTree
 object n = record { name = []; length = n; kind = record { base = Int; stars = 0 }; initial = [] }

@@ -1,14 +1,13 @@
 -- A program has one begin for each frame: frames of functions that call have words, so begins rise along calls.
-use Rattle.std.proofs.Common.{◌≡◌, ◌≤◌, ◌<◌, ◌+◌, ◌∙◌, ℕ, zero, suc, List, [], ◌∷◌, Bool, true, false, refl, length, map, ap, sym, subst, inl, inr, arith, Some, None, ⊎_elim}
-use Rattle.std.specs.Prelude.{◌⊎◌, ◌||◌, slice_get, Option}
+use Rattle.std.proofs.Common.{◌≡◌, ◌≤◌, ◌<◌, ℕ, zero, suc, List, [], ◌∷◌, Bool, refl, sym, subst, arith, ⊎_elim}
+use Rattle.std.specs.Prelude.{◌||◌}
 use Rattle.std.specs.List.{Contains}
 use Rattle.std.proofs.lemmas.Option.{none-some, same_Some}
 use Rattle.c_tree.specs.Rounds.{CallsAmong}
 use Rattle.tree_code.specs.WordHelpers.{uses_helper}
 use Rattle.tree_code.specs.WordTree.{FunctionCode, ProgramCode}
 use Rattle.tree_code.specs.WellFormedCode.{code_calls}
-use Rattle.mem_plan.specs.Begins.{IsBegin, IsBehind}
-use Rattle.mem_plan.specs.DataNeeds.{objects_words, callees, has_any, has_return_word, return_words, own, own_of, own_at}
+use Rattle.mem_plan.specs.DataNeeds.{callees, has_any, return_words, own, own_at}
 use Rattle.mem_plan.specs.Plan.{AreBegins}
 
 some_return : (called : List ℕ) (helper : Bool) (m : ℕ) → Contains called m → return_words (has_any called || helper) ≡ 1
@@ -32,10 +31,10 @@ not_behind p b c h k zero f less = absurd (omega (arith, less))
 not_behind p b c h k (suc n) f less = ⊎_elim
     (λ first. omega (arith, first))
     (λ behind.
-        let words = calls_own p.functions behind.caller f behind.calls_it in
-        let earlier = not_behind p b c h k n behind.caller (omega (arith, less, behind.is, words)) in
-        let above = k.above behind.caller f behind.calls_it
-        in omega (arith, earlier, above, behind.is))
+    let words = calls_own p.functions behind.caller f behind.calls_it in
+    let earlier = not_behind p b c h k n behind.caller (omega (arith, less, behind.is, words)) in
+    let above = k.above behind.caller f behind.calls_it
+    in omega (arith, earlier, above, behind.is))
     (h.reached f)
 
 pub one_begin : (p : ProgramCode) (b c : ℕ → ℕ) → AreBegins p b → AreBegins p c → (f : ℕ) → b f ≡ c f

@@ -37,9 +37,9 @@ returns-then-words-from-clause-refused c =
     let begins = c.in_ok-begins.begins.items in
     let gathered = gathered_of p.functions c.as_slice-functions.result.now c.in_ok-needs.needs.items c.in_ok-needs.ensures c.as_slice-functions.ensures in
     let words : c.objects_words-static_words.result ≡ objects_words (map object_of p.statics) =
-        c.objects_words-static_words.ensures ∙ ap (λ l. objects_words (map object_of l)) c.as_slice-statics.ensures in
+    c.objects_words-static_words.ensures ∙ ap (λ l. objects_words (map object_of l)) c.as_slice-statics.ensures in
     let greatest = greatest_so p c.in_ok-needs.needs.items c.deref-2.result.now begins c.deref-3.result.now c.greatest_end.result gathered c.deref-2.ensures.value c.deref-3.ensures.value
-        c.greatest_end.ensures.is in
+    c.greatest_end.ensures.is in
     record {
       begin = slice_index begins;
       begins = found_begins p c.in_ok-needs.needs.items c.deref.result.now begins gathered c.deref.ensures.value c.in_ok-begins.ensures;
@@ -53,10 +53,10 @@ frames-requires-clause-room c =
     let begins = c.in_ok-begins.begins.items in
     let gathered = gathered_of p.functions c.as_slice-functions.result.now c.in_ok-needs.needs.items c.in_ok-needs.ensures c.as_slice-functions.ensures in
     let greatest = greatest_so p c.in_ok-needs.needs.items c.deref-2.result.now begins c.deref-3.result.now c.greatest_end.result gathered c.deref-2.ensures.value c.deref-3.ensures.value
-        c.greatest_end.ensures.is in
+    c.greatest_end.ensures.is in
     let end : end_from (slice_index c.deref-5.result.now) 0 (map own (map function_code_of c.as_slice-functions.result.now)) ≡ end_from (slice_index begins) 0 (map own (map function_code_of p.functions)) =
-        ap (λ b. end_from (slice_index b) 0 (map own (map function_code_of c.as_slice-functions.result.now))) c.deref-5.ensures.value
-        ∙ ap (λ l. end_from (slice_index begins) 0 (map own (map function_code_of l))) c.as_slice-functions.ensures
+    ap (λ b. end_from (slice_index b) 0 (map own (map function_code_of c.as_slice-functions.result.now))) c.deref-5.ensures.value
+    ∙ ap (λ l. end_from (slice_index begins) 0 (map own (map function_code_of l))) c.as_slice-functions.ensures
     in omega (arith, greatest, end, c.if-words-from.false, c.from.ensures, c.from-2.ensures)
 
 pub returns-clause-plan : goal.returns-clause-plan
@@ -65,9 +65,9 @@ returns-clause-plan c =
     let begins = c.in_ok-begins.begins.items in
     let gathered = gathered_of p.functions c.as_slice-functions.result.now c.in_ok-needs.needs.items c.in_ok-needs.ensures c.as_slice-functions.ensures in
     let words : c.objects_words-static_words.result ≡ objects_words (map object_of p.statics) =
-        c.objects_words-static_words.ensures ∙ ap (λ l. objects_words (map object_of l)) c.as_slice-statics.ensures in
+    c.objects_words-static_words.ensures ∙ ap (λ l. objects_words (map object_of l)) c.as_slice-statics.ensures in
     let greatest = greatest_so p c.in_ok-needs.needs.items c.deref-2.result.now begins c.deref-3.result.now c.greatest_end.result gathered c.deref-2.ensures.value c.deref-3.ensures.value
-        c.greatest_end.ensures.is in
+    c.greatest_end.ensures.is in
     record {
       begin = slice_index begins;
       begins = found_begins p c.in_ok-needs.needs.items c.deref.result.now begins gathered c.deref.ensures.value c.in_ok-begins.ensures;
