@@ -26,7 +26,8 @@ const STATICS_START: u32 = DATA_START as u32 + SCRATCH_WORDS as u32;
 ///
 /// # Errors
 ///
-/// `DataFull` exactly where the program needs more than `MOST_DATA_WORDS` words, and `NoMemory` where an allocation fails.
+/// `DataFull` exactly where the program needs more than `MOST_DATA_WORDS` words. `NoMemory` where an allocation fails, and, which no
+/// clause excludes, where the order in which functions are gone through didn't give each frame its begin: it is tested.
 pub fn plan(
     alloc: Global,
     tree: &TreeProgram,
