@@ -2,13 +2,11 @@
 #![tactic(auto)]
 
 mod called;
-
 mod laws;
 mod line;
 mod pieces;
 mod routine;
 mod tables;
-
 
 pub use laws::helper_pieces_fit;
 pub use pieces::{called_helpers, helpers};

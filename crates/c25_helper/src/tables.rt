@@ -7,51 +7,66 @@ use c25_isa::{Instr, JumpOp, Operand};
 const FIRST_RAM_PAGE: u16 = 6;
 
 const LEFT: Operand = Operand::Direct(0);
+
 const RIGHT: Operand = Operand::Direct(1);
+
 const SCRATCH: Operand = Operand::Direct(2);
 // The size of a signed divisor.
 const DIVISOR: Operand = Operand::Direct(3);
+
+// The greatest count of a shift.
+const GREATEST_COUNT: u8 = 15;
 
 const LOAD_DIVISOR: Instr = Instr::Lac {
     shift: 0,
     operand: DIVISOR,
 };
+
 const LOAD_LEFT: Instr = Instr::Lac {
     shift: 0,
     operand: LEFT,
 };
+
 const LOAD_RIGHT: Instr = Instr::Lac {
     shift: 0,
     operand: RIGHT,
 };
+
 const LOAD_SCRATCH: Instr = Instr::Lac {
     shift: 0,
     operand: SCRATCH,
 };
+
 const STORE_DIVISOR: Instr = Instr::Sacl {
     shift: 0,
     operand: DIVISOR,
 };
+
 const STORE_HIGH_LEFT: Instr = Instr::Sach {
     shift: 0,
     operand: LEFT,
 };
+
 const STORE_HIGH_SCRATCH: Instr = Instr::Sach {
     shift: 0,
     operand: SCRATCH,
 };
+
 const STORE_LEFT: Instr = Instr::Sacl {
     shift: 0,
     operand: LEFT,
 };
+
 const STORE_SCRATCH: Instr = Instr::Sacl {
     shift: 0,
     operand: SCRATCH,
 };
+
 const STORE_SHIFTED: Instr = Instr::Sach {
     shift: 1,
     operand: SCRATCH,
 };
+
 const SUBTRACT_RIGHT: Instr = Instr::Sub {
     shift: 0,
     operand: RIGHT,
@@ -79,7 +94,7 @@ pub const DIV_INT: [Line; 37] = [
     Line::Do(Instr::Rptk(15)),
     Line::Do(Instr::Subc(DIVISOR)),
     Line::Do(STORE_LEFT),
-    Line::Do(LOAD_SCRATCH),
+    Line::Do(LOAD_SCRATCH), // the sign of the quotient
     Line::Jump(JumpOp::Blz, 3),
     Line::Do(LOAD_LEFT),
     Line::Do(Instr::Ret),
@@ -137,7 +152,7 @@ pub const REM_INT: [Line; 35] = [
     Line::Do(Instr::Rptk(15)),
     Line::Do(Instr::Subc(DIVISOR)),
     Line::Do(STORE_HIGH_LEFT),
-    Line::Do(LOAD_SCRATCH),
+    Line::Do(LOAD_SCRATCH), // the sign of the remainder
     Line::Jump(JumpOp::Blz, 3),
     Line::Do(LOAD_LEFT),
     Line::Do(Instr::Ret),
@@ -178,7 +193,7 @@ pub const REM_UNSIGNED: [Line; 17] = [
 pub const SHR_INT: [Line; 10] = [
     Line::Do(Instr::Ldpk(FIRST_RAM_PAGE)),
     Line::Do(Instr::Ssxm),
-    Line::Do(Instr::Lack(15)),
+    Line::Do(Instr::Lack(GREATEST_COUNT)),
     Line::Do(SUBTRACT_RIGHT),
     Line::Do(STORE_SCRATCH),
     Line::Do(Instr::Lt(SCRATCH)),
@@ -191,7 +206,7 @@ pub const SHR_INT: [Line; 10] = [
 pub const SHR_UNSIGNED: [Line; 10] = [
     Line::Do(Instr::Ldpk(FIRST_RAM_PAGE)),
     Line::Do(Instr::Rsxm),
-    Line::Do(Instr::Lack(15)),
+    Line::Do(Instr::Lack(GREATEST_COUNT)),
     Line::Do(SUBTRACT_RIGHT),
     Line::Do(STORE_SCRATCH),
     Line::Do(Instr::Lt(SCRATCH)),

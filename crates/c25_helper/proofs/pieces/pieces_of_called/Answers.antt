@@ -1,4 +1,4 @@
-use Rattle.std.proofs.Common.{◌≡◌, ◌∙◌, ◌+◌, ◌++◌, [], ◌∷◌, Bool, List, if◌then◌else◌, get_or, map, drop, ap, sym, append_assoc}
+use Rattle.std.proofs.Common.{◌∙◌, ◌+◌, ◌++◌, [], ◌∷◌, Bool, List, if◌then◌else◌, get_or, map, drop, ap, sym, append_assoc}
 use Rattle.std.specs.Prelude.{filter}
 use Rattle.c25_isa.specs.Pieces.{Piece, piece_of}
 use Rattle.c25_helper.specs.declared.routine.Routine.TheVariants.{DivInt}
