@@ -1,0 +1,4 @@
+pub mod SizeLemmas
+pub mod Tables
+pub mod Images
+mod Examples
