@@ -1,0 +1,11 @@
+//! Runs: the instructions of operations of accumulator code that stand one behind another.
+//!
+//! A scalar is reached through the address register that goes over its list, by post-increment and post-decrement where its next access
+//! lies beside it. The folder `specs` says which instructions those of a run are.
+#![tactic(auto)]
+
+mod site;
+mod step;
+
+pub use site::{ScalarPlace, Site};
+pub use step::{Reach, Step};
