@@ -1,4 +1,4 @@
--- Emission: from accumulator code with a plan of data memory to pieces.
-pub mod Entries
-pub mod Flow
-pub mod Cuts
+-- Emission: the pieces of a program of accumulator code, by a plan of data memory and an arrangement of each frame.
+pub mod Frames
+pub mod Startup
+pub mod Emitted

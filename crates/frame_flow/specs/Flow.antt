@@ -6,7 +6,7 @@ use Rattle.acc_code.specs.declared.operation.Test.{Test}
 use Rattle.acc_code.specs.declared.operation.Test.TheVariants.{Gz, Lez, Lz, Gez, Nz, Z}
 use Rattle.acc_code.specs.AccTree.{Item, Op, If, Loop, Switch, Case, Clear, Call, Helper, Break, Continue, Return, ItemList, end, item}
 use Rattle.frame_runs.specs.Steps.{Operation, operation}
-use Rattle.frame_emit.specs.Entries.{Entry, Head, Place, Close, Branch, Goto, Dispatch, CallTo, CallHelper, Wipe, Ret, Finish, flushed}
+use Rattle.frame_flow.specs.Entries.{Entry, Head, Place, Close, Branch, Goto, Dispatch, CallTo, CallHelper, Wipe, Ret, Finish, flushed}
 
 -- where control goes from a list: where it ends, at a Break, at a Continue, and the label of the first case of the switch around it
 pub record Ways : Type 0 where

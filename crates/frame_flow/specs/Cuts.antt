@@ -20,8 +20,9 @@ use Rattle.acc_code.specs.declared.operation.Test.{Test}
 use Rattle.acc_code.specs.declared.operation.Test.TheVariants.{Gz, Lez, Lz, Gez, Nz, Z}
 use Rattle.acc_code.specs.AccTree.{ItemList}
 use Rattle.frame_runs.specs.Steps.{Operation}
-use Rattle.frame_emit.specs.Entries.{Entry, Run, Head, Place, Close, Branch, Goto, Dispatch, CallTo, CallHelper, Wipe, Ret, Finish}
-use Rattle.frame_emit.specs.Flow.{body_entries}
+use Rattle.frame_flow.specs.Entries.{Entry, Run, Head, Place, Close, Branch, Goto, Dispatch, CallTo, CallHelper, Wipe, Ret, Finish}
+use Rattle.frame_flow.specs.Flow.{body_entries}
+use Rattle.frame_flow.specs.Settings.{Setting, Words, cells_of, function_name, code_in}
 
 -- what stands before: an access through a list's register behind the last cut, none, or an item that control doesn't pass
 pub data Before : Type 0 where
@@ -148,21 +149,8 @@ behind_close false h l s = by s.before
     by Gone = gone (naming h s)
     by b = gone (naming h (naming l s))
 
--- words from an address on
-pub record Words : Type 0 where
-  pub first : ℕ
-  pub count : ℕ
-
--- what the code of a function is made with: the instructions of a run, the words of an object from a cell on, the word that keeps the return
--- address, and the names of functions and routines
-pub record Means : Type 0 where
-  pub run : List Operation → List Instr
-  pub cells : VarRef → ℕ → Words
-  pub back : Option ℕ
-  pub function : ℕ → List ℕ
-  pub routine : HelperName → List ℕ
-
-module _ (m : Means) where
+-- by the names of routines and the setting of the function
+module _ (routine : HelperName → List ℕ) (m : Setting) where
   -- a Clear of no words is the end of a block
   abbrev pub wiped_items : Words → ℕ → State → List PieceItem
   wiped_items w l s = if w.count == 0 then place_items (s.named l) s.before l else wipe_items w.first w.count l
@@ -176,16 +164,16 @@ module _ (m : Means) where
   finish_items false b l = plain_items (return_code m.back)
 
   abbrev pub entry_items : State → Entry → List PieceItem
-  entry_items s (Run os) = plain_items (m.run os)
+  entry_items s (Run os) = plain_items (code_in m os)
   entry_items s (Head l) = piece.Mark l ∷ []
   entry_items s (Place l) = place_items (s.named l) s.before l
   entry_items s (Close h l) = close_items (s.named h) s.before h l
   entry_items s (Branch t l) = jump_item (jump_on t) l ∷ []
   entry_items s (Goto l) = jump_item jump.B l ∷ []
   entry_items s (Dispatch cs l behind) = dispatch_items cs l behind
-  entry_items s (CallTo f) = call_item (m.function f) ∷ []
-  entry_items s (CallHelper name) = call_item (m.routine name) ∷ []
-  entry_items s (Wipe v from l) = wiped_items (m.cells v from) l s
+  entry_items s (CallTo f) = call_item (function_name m f) ∷ []
+  entry_items s (CallHelper name) = call_item (routine name) ∷ []
+  entry_items s (Wipe v from l) = wiped_items (cells_of m v from) l s
   entry_items s Ret = plain_items (return_code m.back)
   entry_items s (Finish l) = finish_items (s.named l) s.before l
 
@@ -199,7 +187,7 @@ module _ (m : Means) where
   behind_entry s (Dispatch cs l behind) = gone (naming (default_label cs l behind) (naming_cases cs l s))
   behind_entry s (CallTo f) = shut s
   behind_entry s (CallHelper name) = shut s
-  behind_entry s (Wipe v from l) = behind_wipe (m.cells v from) l s
+  behind_entry s (Wipe v from l) = behind_wipe (cells_of m v from) l s
   behind_entry s Ret = gone s
   behind_entry s (Finish l) = gone s
 
