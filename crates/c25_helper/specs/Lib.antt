@@ -1,0 +1,4 @@
+pub mod Routines
+pub mod Lines
+pub mod Calls
+pub mod Marks

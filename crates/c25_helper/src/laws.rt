@@ -1,0 +1,18 @@
+//! What is known of the pieces of routines, as laws.
+ghost use Rattle.std.specs.Prelude.{◌≡◌, ◌≤◌, false, All, sum_by};
+ghost use Rattle.word_base.specs.Name.{IsName};
+ghost use Rattle.c25_isa.specs.Pieces.{items_size};
+ghost use Rattle.c25_helper.specs.Routines.{helper_pieces};
+ghost use Rattle.c25_helper.specs.Marks.{HasItsMarks, CallsNone, NamesDiffer};
+
+/// The pieces of routines take few words, each of them some, and need nothing of other pieces. Their names are no names of C, and
+/// differ. The call does nothing.
+pub fn helper_pieces_fit()
+    ensures short { sum_by (λ p. items_size p.items) helper_pieces ≤ 600 }
+    ensures some { All (λ p. 1 ≤ items_size p.items) helper_pieces }
+    ensures unlisted { All (λ p. p.listed ≡ false) helper_pieces }
+    ensures marks { All (λ p. HasItsMarks p.items) helper_pieces }
+    ensures calls { All (λ p. CallsNone p.items) helper_pieces }
+    ensures names { NamesDiffer helper_pieces }
+    ensures no_names { All (λ p. ¬ IsName p.name) helper_pieces }
+{}

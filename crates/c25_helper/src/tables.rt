@@ -1,0 +1,202 @@
+//! The code of each routine. Left is the word at 0300h and right that at 0301h. The page is the first one of RAM.
+
+use crate::line::Line;
+use c25_isa::{Instr, JumpOp, Operand};
+
+// The first page of data memory that holds RAM.
+const FIRST_RAM_PAGE: u16 = 6;
+
+const LEFT: Operand = Operand::Direct(0);
+const RIGHT: Operand = Operand::Direct(1);
+const SCRATCH: Operand = Operand::Direct(2);
+// The size of a signed divisor.
+const DIVISOR: Operand = Operand::Direct(3);
+
+const LOAD_DIVISOR: Instr = Instr::Lac {
+    shift: 0,
+    operand: DIVISOR,
+};
+const LOAD_LEFT: Instr = Instr::Lac {
+    shift: 0,
+    operand: LEFT,
+};
+const LOAD_RIGHT: Instr = Instr::Lac {
+    shift: 0,
+    operand: RIGHT,
+};
+const LOAD_SCRATCH: Instr = Instr::Lac {
+    shift: 0,
+    operand: SCRATCH,
+};
+const STORE_DIVISOR: Instr = Instr::Sacl {
+    shift: 0,
+    operand: DIVISOR,
+};
+const STORE_HIGH_LEFT: Instr = Instr::Sach {
+    shift: 0,
+    operand: LEFT,
+};
+const STORE_HIGH_SCRATCH: Instr = Instr::Sach {
+    shift: 0,
+    operand: SCRATCH,
+};
+const STORE_LEFT: Instr = Instr::Sacl {
+    shift: 0,
+    operand: LEFT,
+};
+const STORE_SCRATCH: Instr = Instr::Sacl {
+    shift: 0,
+    operand: SCRATCH,
+};
+const STORE_SHIFTED: Instr = Instr::Sach {
+    shift: 1,
+    operand: SCRATCH,
+};
+const SUBTRACT_RIGHT: Instr = Instr::Sub {
+    shift: 0,
+    operand: RIGHT,
+};
+
+pub const DIV_INT: [Line; 37] = [
+    Line::Do(Instr::Ldpk(FIRST_RAM_PAGE)),
+    Line::Do(Instr::Ssxm),
+    Line::Do(LOAD_LEFT),
+    Line::Do(Instr::Xor(RIGHT)),
+    Line::Do(STORE_SCRATCH),
+    Line::Do(LOAD_RIGHT),
+    Line::Jump(JumpOp::Bgez, 1),
+    Line::Do(Instr::Neg),
+    Line::Mark(1),
+    Line::Do(STORE_DIVISOR),
+    Line::Do(LOAD_LEFT),
+    Line::Jump(JumpOp::Bgez, 2),
+    Line::Do(Instr::Neg),
+    Line::Mark(2),
+    Line::Do(STORE_LEFT),
+    Line::Do(LOAD_DIVISOR),
+    Line::Jump(JumpOp::Blz, 4),
+    Line::Do(Instr::Zals(LEFT)),
+    Line::Do(Instr::Rptk(15)),
+    Line::Do(Instr::Subc(DIVISOR)),
+    Line::Do(STORE_LEFT),
+    Line::Do(LOAD_SCRATCH),
+    Line::Jump(JumpOp::Blz, 3),
+    Line::Do(LOAD_LEFT),
+    Line::Do(Instr::Ret),
+    Line::Mark(3),
+    Line::Do(LOAD_LEFT),
+    Line::Do(Instr::Neg),
+    Line::Do(Instr::Ret),
+    Line::Mark(4),
+    Line::Do(LOAD_LEFT),
+    Line::Jump(JumpOp::Blz, 5),
+    Line::Do(Instr::Lack(0)),
+    Line::Do(Instr::Ret),
+    Line::Mark(5),
+    Line::Do(Instr::Lack(1)),
+    Line::Do(Instr::Ret),
+];
+
+pub const DIV_UNSIGNED: [Line; 17] = [
+    Line::Do(Instr::Ldpk(FIRST_RAM_PAGE)),
+    Line::Do(Instr::Ssxm),
+    Line::Do(LOAD_RIGHT),
+    Line::Jump(JumpOp::Blz, 1),
+    Line::Do(Instr::Zals(LEFT)),
+    Line::Do(Instr::Rptk(15)),
+    Line::Do(Instr::Subc(RIGHT)),
+    Line::Do(Instr::Ret),
+    Line::Mark(1),
+    Line::Do(Instr::Zals(LEFT)),
+    Line::Do(Instr::Subs(RIGHT)),
+    Line::Jump(JumpOp::Blz, 2),
+    Line::Do(Instr::Lack(1)),
+    Line::Do(Instr::Ret),
+    Line::Mark(2),
+    Line::Do(Instr::Lack(0)),
+    Line::Do(Instr::Ret),
+];
+
+pub const REM_INT: [Line; 35] = [
+    Line::Do(Instr::Ldpk(FIRST_RAM_PAGE)),
+    Line::Do(Instr::Ssxm),
+    Line::Do(LOAD_RIGHT),
+    Line::Jump(JumpOp::Bgez, 1),
+    Line::Do(Instr::Neg),
+    Line::Mark(1),
+    Line::Do(STORE_DIVISOR),
+    Line::Do(LOAD_LEFT),
+    Line::Do(STORE_SCRATCH),
+    Line::Jump(JumpOp::Bgez, 2),
+    Line::Do(Instr::Neg),
+    Line::Mark(2),
+    Line::Do(STORE_LEFT),
+    Line::Do(LOAD_DIVISOR),
+    Line::Jump(JumpOp::Blz, 4),
+    Line::Do(Instr::Zals(LEFT)),
+    Line::Do(Instr::Rptk(15)),
+    Line::Do(Instr::Subc(DIVISOR)),
+    Line::Do(STORE_HIGH_LEFT),
+    Line::Do(LOAD_SCRATCH),
+    Line::Jump(JumpOp::Blz, 3),
+    Line::Do(LOAD_LEFT),
+    Line::Do(Instr::Ret),
+    Line::Mark(3),
+    Line::Do(LOAD_LEFT),
+    Line::Do(Instr::Neg),
+    Line::Do(Instr::Ret),
+    Line::Mark(4),
+    Line::Do(LOAD_LEFT),
+    Line::Jump(JumpOp::Blz, 5),
+    Line::Do(LOAD_SCRATCH),
+    Line::Do(Instr::Ret),
+    Line::Mark(5),
+    Line::Do(Instr::Lack(0)),
+    Line::Do(Instr::Ret),
+];
+
+pub const REM_UNSIGNED: [Line; 17] = [
+    Line::Do(Instr::Ldpk(FIRST_RAM_PAGE)),
+    Line::Do(Instr::Ssxm),
+    Line::Do(LOAD_RIGHT),
+    Line::Jump(JumpOp::Blz, 1),
+    Line::Do(Instr::Zals(LEFT)),
+    Line::Do(Instr::Rptk(15)),
+    Line::Do(Instr::Subc(RIGHT)),
+    Line::Do(STORE_HIGH_SCRATCH),
+    Line::Do(LOAD_SCRATCH),
+    Line::Do(Instr::Ret),
+    Line::Mark(1),
+    Line::Do(Instr::Zals(LEFT)),
+    Line::Do(Instr::Subs(RIGHT)),
+    Line::Jump(JumpOp::Bgez, 2),
+    Line::Do(LOAD_LEFT),
+    Line::Mark(2),
+    Line::Do(Instr::Ret),
+];
+
+pub const SHR_INT: [Line; 10] = [
+    Line::Do(Instr::Ldpk(FIRST_RAM_PAGE)),
+    Line::Do(Instr::Ssxm),
+    Line::Do(Instr::Lack(15)),
+    Line::Do(SUBTRACT_RIGHT),
+    Line::Do(STORE_SCRATCH),
+    Line::Do(Instr::Lt(SCRATCH)),
+    Line::Do(Instr::Lact(LEFT)),
+    Line::Do(STORE_SHIFTED),
+    Line::Do(LOAD_SCRATCH),
+    Line::Do(Instr::Ret),
+];
+
+pub const SHR_UNSIGNED: [Line; 10] = [
+    Line::Do(Instr::Ldpk(FIRST_RAM_PAGE)),
+    Line::Do(Instr::Rsxm),
+    Line::Do(Instr::Lack(15)),
+    Line::Do(SUBTRACT_RIGHT),
+    Line::Do(STORE_SCRATCH),
+    Line::Do(Instr::Lt(SCRATCH)),
+    Line::Do(Instr::Lact(LEFT)),
+    Line::Do(STORE_SHIFTED),
+    Line::Do(LOAD_SCRATCH),
+    Line::Do(Instr::Ret),
+];

@@ -1,0 +1,7 @@
+use Rattle.std.proofs.Common.{◌≡◌, ◌+◌, drop}
+use Rattle.c25_isa.specs.Pieces.{items_size}
+use Rattle.c25_link.proofs.sizes.items_words.Given as goal
+
+-- with those that are left they are all
+abbrev pub invariant-loop-item : goal.invariant-loop-item
+invariant-loop-item l = l.words + items_size (drop l.item-index l.items) ≡ items_size l.items
