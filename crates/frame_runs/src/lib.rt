@@ -10,11 +10,11 @@ mod known;
 mod lookahead;
 mod operations;
 mod rows;
-//mod run;
+mod run;
 mod site;
 mod step;
 
-//pub use operations::steps_of;
+pub use operations::steps_of;
 //pub use run::append_run;
 pub use site::{ScalarPlace, Site};
 pub use step::{Reach, Step};
