@@ -1,6 +1,7 @@
 -- What is wanted of operations, and of where their operands lie, so that each instruction of a run is one of the machine's (docs/TRANSLATION.md,
 -- "Runs").
 use Rattle.std.specs.Prelude.{⊤, ℕ, ◌≡◌, ◌<◌, true, List, [], ◌∷◌}
+use Rattle.std.specs.List.{AllByRecursion}
 use Rattle.acc_code.specs.declared.operand.AccOperand.{AccOperand}
 use Rattle.acc_code.specs.declared.operand.AccOperand.TheVariants as operand
 use Rattle.acc_code.specs.declared.operation.AccOp.{AccOp}
@@ -10,6 +11,7 @@ use Rattle.frame_runs.specs.declared.site.ScalarPlace.{ScalarPlace}
 use Rattle.frame_runs.specs.declared.step.Reach.{Reach}
 use Rattle.frame_runs.specs.declared.step.Reach.TheVariants as reach
 use Rattle.frame_runs.specs.declared.step.Step.{Step}
+use Rattle.frame_runs.specs.Places.{Places}
 use Rattle.frame_runs.specs.Steps.{Operation}
 
 -- the constants of a row, where it doesn't take all words
@@ -43,6 +45,8 @@ abbrev pub AreRight : List Operation → Type 0
 AreRight [] = ⊤
 AreRight (o ∷ os) = IsRight o × AreRight os
 
-abbrev pub HaveRegisters : List ScalarPlace → Type 0
-HaveRegisters [] = ⊤
-HaveRegisters (p ∷ ps) = (p.register < 8) × HaveRegisters ps
+abbrev pub IsPlace : ScalarPlace → Type 0
+IsPlace p = p.register < 8
+
+pub record IsRightSite (s : Places) : Type 0 where
+  pub registers : AllByRecursion IsPlace s.scalars

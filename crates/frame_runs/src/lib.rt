@@ -15,6 +15,6 @@ mod site;
 mod step;
 
 pub use operations::steps_of;
-//pub use run::append_run;
+pub use run::append_run;
 pub use site::{ScalarPlace, Site};
 pub use step::{Reach, Step};

@@ -1,15 +1,16 @@
 //! The instructions of a run.
 #![tactic(auto, using(crate::proofs::Appending::appended))]
 
-ghost use Rattle.std.specs.Prelude.{◌≡◌, ◌<◌, OnOk};
+ghost use Rattle.std.specs.Prelude.{◌≡◌, ◌<◌, [], IfOk, OnOk, option_to_list};
 ghost use Rattle.c25_isa.specs.Items.{ItemsFit};
 ghost use Rattle.acc_code.specs.AccView.{item_list};
 ghost use Rattle.frame_runs.specs.Appended.{Appends, known_of};
 ghost use Rattle.frame_runs.specs.Moves as moves;
 ghost use Rattle.frame_runs.specs.Places.{places_of};
-ghost use Rattle.frame_runs.specs.Right.{AreSteps, IsStep};
+ghost use Rattle.frame_runs.specs.Right.{AreRight, AreSteps, IsRightSite, IsStep};
 ghost use Rattle.frame_runs.specs.Runs as runs;
-ghost use Rattle.frame_runs.specs.Steps.{behind_run, run_at};
+ghost use Rattle.frame_runs.specs.Steps as steps;
+ghost use Rattle.frame_runs.specs.Steps.{run_at};
 ghost use Rattle.frame_runs.specs.declared.step.Reach.TheVariants as reach;
 
 use crate::append::{push, push_some};
@@ -151,20 +152,44 @@ fn push_steps(code: &mut Vec<PieceItem>, index: u8, steps: &[Step]) -> Result<()
     Ok(())
 }
 
-// AR0 is loaded where some access is left by it.
+// The load of AR0, where some access is left by it.
 #[tactic(auto, using(crate::proofs::Knowing::no_index))]
-fn push_all_steps(code: &mut Vec<PieceItem>, index: u8, list: &[Step]) -> Result<(), NoMemory>
-    requires { AreSteps list.now }
-    ensures { OnOk result (Appends code.old.items code.new.items (runs.all_steps_code index list.now)) }
+fn index_load(index: u8, steps: &[Step]) -> Option<Instr>
+    ensures { option_to_list result ≡ runs.index_code index steps.now }
 {
-    if index > 1 && moves_by_index(index, list) {
-        push(
-            code,
-            Instr::Lark {
-                register: 0,
-                constant: index,
-            },
-        )?;
+    if index > 1 && moves_by_index(index, steps) {
+        Some(Instr::Lark {
+            register: 0,
+            constant: index,
+        })
+    } else {
+        None
     }
-    push_steps(code, index, list)
+}
+
+fn push_all_steps(code: &mut Vec<PieceItem>, index: u8, steps: &[Step]) -> Result<(), NoMemory>
+    requires { AreSteps steps.now }
+    ensures { OnOk result (Appends code.old.items code.new.items (runs.all_steps_code index steps.now)) }
+{
+    push_some(code, index_load(index, steps))?;
+    push_steps(code, index, steps)
+}
+
+/// Appends the instructions of the operations at the front of a list, and gives what stands behind them. It fails only where memory is
+/// wanting.
+pub fn append_run<'a>(
+    alloc: Global,
+    code: &mut Vec<PieceItem>,
+    site: &Site,
+    items: &'a [AccItem],
+) -> Result<&'a [AccItem], NoMemory>
+    requires site { IsRightSite (places_of site.now) }
+    requires run { AreRight (run_at (item_list items.now)) }
+    ensures code { OnOk result (Appends code.old.items code.new.items (runs.run_code (places_of site.now) (run_at (item_list items.now)))) }
+    ensures behind { IfOk result (λ rest. item_list rest.now ≡ steps.behind_run (item_list items.now)) }
+    ensures fits { ItemsFit code.old.items → OnOk result (ItemsFit code.new.items) }
+{
+    let steps = steps_of(alloc, site, items)?;
+    push_all_steps(code, site.step, &steps)?;
+    Ok(behind_run(items))
 }
