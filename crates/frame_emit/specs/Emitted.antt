@@ -2,7 +2,6 @@
 use Rattle.std.specs.Prelude.{ℕ, true, List, [], ◌∷◌, map}
 use Rattle.tree_code.specs.WordTree.{FunctionCode, ProgramCode}
 use Rattle.acc_code.specs.AccTree.{FunctionItems}
-use Rattle.acc_code.specs.declared.operand.HelperName.{HelperName}
 use Rattle.c25_isa.specs.Pieces.{Piece}
 use Rattle.mem_plan.specs.declared.data_plan.DataPlan.{DataPlan}
 use Rattle.mem_plan.specs.declared.data_plan.FramePlan.{FramePlan}
@@ -11,7 +10,7 @@ use Rattle.frame_flow.specs.Cuts.{function_items}
 use Rattle.frame_emit.specs.Frames.{places_in, all_parameters}
 use Rattle.frame_emit.specs.Startup.{startup_piece}
 
-module _ (routine : HelperName → List ℕ) (plan : DataPlan) (step : ℕ) (parameters names : List (List ℕ)) where
+module _ (plan : DataPlan) (step : ℕ) (parameters names : List (List ℕ)) where
   -- what the code of a function is made with
   abbrev pub setting_of : FunctionCode → FramePlan → List (List ℕ) → Setting
   setting_of f frame lists = record {
@@ -22,7 +21,7 @@ module _ (routine : HelperName → List ℕ) (plan : DataPlan) (step : ℕ) (par
   }
 
   abbrev pub function_piece : FunctionCode → FunctionItems → FramePlan → List (List ℕ) → Piece
-  function_piece f g frame lists = record { name = g.name; listed = true; items = function_items routine (setting_of f frame lists) g.body }
+  function_piece f g frame lists = record { name = g.name; listed = true; items = function_items (setting_of f frame lists) g.body }
 
   -- each function with its code, its frame and its lists
   abbrev pub function_pieces : List FunctionCode → List FunctionItems → List FramePlan → List (List (List ℕ)) → List Piece
@@ -32,7 +31,7 @@ module _ (routine : HelperName → List ℕ) (plan : DataPlan) (step : ℕ) (par
   function_pieces (f ∷ fs) (g ∷ gs) (frame ∷ frames) [] = []
   function_pieces (f ∷ fs) (g ∷ gs) (frame ∷ frames) (lists ∷ rest) = function_piece f g frame lists ∷ function_pieces fs gs frames rest
 
-abbrev pub emitted : (HelperName → List ℕ) → ProgramCode → List FunctionItems → DataPlan → List (List (List ℕ)) → ℕ → List Piece
-emitted routine p gs plan arrangements step =
+abbrev pub emitted : ProgramCode → List FunctionItems → DataPlan → List (List (List ℕ)) → ℕ → List Piece
+emitted p gs plan arrangements step =
     startup_piece plan.statics p.statics
-    ∷ function_pieces routine plan step (all_parameters p.functions plan.frames arrangements) (map (λ g. g.name) gs) p.functions gs plan.frames arrangements
+    ∷ function_pieces plan step (all_parameters p.functions plan.frames arrangements) (map (λ g. g.name) gs) p.functions gs plan.frames arrangements

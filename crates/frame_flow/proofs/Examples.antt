@@ -43,11 +43,8 @@ filter = record {
 abbrev setting : Option ℕ → Setting
 setting back = record { places = filter; lengths = 3 ∷ []; back = back; names = codes "f" ∷ [] }
 
-abbrev routine : HelperName → List ℕ
-routine name = codes ".divint"
-
 abbrev made : ItemList → List PieceItem
-made body = function_items routine (setting None) body
+made body = function_items (setting None) body
 
 abbrev through : Change → Operand
 through c = word.Indirect (record { change = c; next = None })
@@ -140,7 +137,7 @@ fir_piece : made fir ≡
 fir_piece = refl
 
 -- for (;;) __out(1, f(__in(0))); return 0; the return address lies at 033ah
-forever : function_items routine (setting (Some 0x33a)) (Loop end (Op (row.In 0) (operand.Param 0 0) ▸ Call 0 ▸ sacl (operand.Scratch 0) ▸ Op (row.Out 1) (operand.Scratch 0) ▸ end) end false ▸ const row.Lack 0 ▸ Return ▸ end) ≡
+forever : function_items (setting (Some 0x33a)) (Loop end (Op (row.In 0) (operand.Param 0 0) ▸ Call 0 ▸ sacl (operand.Scratch 0) ▸ Op (row.Out 1) (operand.Scratch 0) ▸ end) end false ▸ const row.Lack 0 ▸ Return ▸ end) ≡
     Do (instr.Ldpk 6) ∷ Do (instr.Popd (word.Direct 0x3a)) ∷ Mark 2 ∷ Do (instr.Ldpk 6) ∷ Do (instr.In 0 (word.Direct 0x32)) ∷ CallTo (codes "f") no_change
     ∷ Do (instr.Ldpk 6) ∷ Do (instr.Sacl 0 (word.Direct 0)) ∷ Do (instr.Out 1 (word.Direct 0)) ∷ jump_item jump.B 2
     ∷ Do (instr.Lack 0) ∷ Do (instr.Ldpk 6) ∷ Do (instr.Pshd (word.Direct 0x3a)) ∷ Do instr.Ret ∷ []

@@ -22,7 +22,7 @@ use Rattle.acc_code.specs.AccTree.{ItemList}
 use Rattle.frame_runs.specs.Steps.{Operation}
 use Rattle.frame_flow.specs.Entries.{Entry, Run, Head, Place, Close, Branch, Goto, Dispatch, CallTo, CallHelper, Wipe, Ret, Finish}
 use Rattle.frame_flow.specs.Flow.{body_entries}
-use Rattle.frame_flow.specs.Settings.{Setting, Words, cells_of, function_name, code_in}
+use Rattle.frame_flow.specs.Settings.{Setting, Words, cells_of, function_name, code_in, helper_name}
 
 -- what stands before: an access through a list's register behind the last cut, none, or an item that control doesn't pass
 pub data Before : Type 0 where
@@ -149,8 +149,8 @@ behind_close false h l s = by s.before
     by Gone = gone (naming h s)
     by b = gone (naming h (naming l s))
 
--- by the names of routines and the setting of the function
-module _ (routine : HelperName → List ℕ) (m : Setting) where
+-- in the setting of a function
+module _ (m : Setting) where
   -- a Clear of no words is the end of a block
   abbrev pub wiped_items : Words → ℕ → State → List PieceItem
   wiped_items w l s = if w.count == 0 then place_items (s.named l) s.before l else wipe_items w.first w.count l
@@ -172,7 +172,7 @@ module _ (routine : HelperName → List ℕ) (m : Setting) where
   entry_items s (Goto l) = jump_item jump.B l ∷ []
   entry_items s (Dispatch cs l behind) = dispatch_items cs l behind
   entry_items s (CallTo f) = call_item (function_name m f) ∷ []
-  entry_items s (CallHelper name) = call_item (routine name) ∷ []
+  entry_items s (CallHelper name) = call_item (helper_name name) ∷ []
   entry_items s (Wipe v from l) = wiped_items (cells_of m v from) l s
   entry_items s Ret = plain_items (return_code m.back)
   entry_items s (Finish l) = finish_items (s.named l) s.before l

@@ -5,6 +5,10 @@ use Rattle.c_tree.specs.declared.program.VarRef.TheVariants.{Scalar, Local, Stat
 use Rattle.c25_isa.specs.declared.instruction.Instr.{Instr}
 use Rattle.c25_isa.specs.Step.{wrap16}
 use Rattle.acc_code.specs.declared.operand.HelperName.{HelperName}
+use Rattle.acc_code.specs.declared.operand.HelperName.TheVariants as helper
+use Rattle.c25_helper.specs.declared.routine.Routine.{Routine}
+use Rattle.c25_helper.specs.declared.routine.Routine.TheVariants as routine
+use Rattle.c25_helper.specs.Routines.{routine_name}
 use Rattle.frame_runs.specs.Places.{Places, address_in}
 use Rattle.frame_runs.specs.Steps.{Operation}
 use Rattle.frame_runs.specs.Runs.{run_code}
@@ -36,3 +40,15 @@ function_name s f = name_or_none (slice_get s.names f)
 
 abbrev pub code_in : Setting → List Operation → List Instr
 code_in s os = run_code s.places os
+
+-- the routine of a name
+abbrev pub routine_of : HelperName → Routine
+routine_of helper.DivInt = routine.DivInt
+routine_of helper.DivUnsigned = routine.DivUnsigned
+routine_of helper.RemInt = routine.RemInt
+routine_of helper.RemUnsigned = routine.RemUnsigned
+routine_of helper.ShrInt = routine.ShrInt
+routine_of helper.ShrUnsigned = routine.ShrUnsigned
+
+abbrev pub helper_name : HelperName → List ℕ
+helper_name name = routine_name (routine_of name)

@@ -1,1 +1,3 @@
 mod Examples
+pub mod Appending
+pub mod Knowing

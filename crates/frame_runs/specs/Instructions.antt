@@ -31,6 +31,21 @@ word_instr (row.In port) o = instr.In port o
 word_instr (row.Out port) o = instr.Out port o
 word_instr r o = instr.Dint
 
+-- on the accumulator alone
+abbrev pub plain_instr : AccOp → Instr
+plain_instr row.Rovm = instr.Rovm
+plain_instr row.Rsxm = instr.Rsxm
+plain_instr row.Ssxm = instr.Ssxm
+plain_instr row.Spm = instr.Spm
+plain_instr row.Pac = instr.Pac
+plain_instr row.Apac = instr.Apac
+plain_instr row.Spac = instr.Spac
+plain_instr row.Sfl = instr.Sfl
+plain_instr row.Sfr = instr.Sfr
+plain_instr row.Neg = instr.Neg
+plain_instr row.Cmpl = instr.Cmpl
+plain_instr r = instr.Dint
+
 -- on a constant, or on the accumulator alone
 abbrev pub constant_instr : AccOp → ℕ → Instr
 constant_instr row.Point w = instr.Lrlk 1 w
@@ -44,15 +59,4 @@ constant_instr (row.Sblk s) w = instr.Sblk s w
 constant_instr row.Andk w = instr.Andk w
 constant_instr row.Ork w = instr.Ork w
 constant_instr row.Xork w = instr.Xork w
-constant_instr row.Rovm w = instr.Rovm
-constant_instr row.Rsxm w = instr.Rsxm
-constant_instr row.Ssxm w = instr.Ssxm
-constant_instr row.Spm w = instr.Spm
-constant_instr row.Pac w = instr.Pac
-constant_instr row.Apac w = instr.Apac
-constant_instr row.Spac w = instr.Spac
-constant_instr row.Sfl w = instr.Sfl
-constant_instr row.Sfr w = instr.Sfr
-constant_instr row.Neg w = instr.Neg
-constant_instr row.Cmpl w = instr.Cmpl
-constant_instr r w = instr.Dint
+constant_instr r w = plain_instr r

@@ -4,3 +4,5 @@ pub mod Instructions
 pub mod Steps
 pub mod Moves
 pub mod Runs
+pub mod Right
+pub mod Appended

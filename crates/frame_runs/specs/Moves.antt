@@ -1,5 +1,5 @@
 -- How address registers move between accesses (docs/TRANSLATION.md, "Runs").
-use Rattle.std.specs.Prelude.{ℕ, suc, ◌+◌, ◌-◌, nat_lt, ◌==◌, ◌&&◌, Bool, true, false, if◌then◌else◌, List, [], ◌∷◌, Option, Some, None}
+use Rattle.std.specs.Prelude.{ℕ, ◌+◌, ◌-◌, nat_lt, nat_le, ◌==◌, ◌&&◌, Bool, true, false, if◌then◌else◌, List, [], ◌∷◌, Option, Some, None}
 use Rattle.c25_isa.specs.declared.operand.Change.{Change}
 use Rattle.c25_isa.specs.declared.operand.Change.TheVariants.{Stay, Down, Up, DownIndex, UpIndex}
 use Rattle.c25_isa.specs.declared.operand.Operand.{Operand}
@@ -29,15 +29,18 @@ abbrev pub next_register : List Step → Option ℕ
 next_register [] = None
 next_register (x ∷ xs) = register_for x.reach (next_register xs)
 
+-- from one address to another by the step, where that is more than 1
+abbrev pub change_by_index : ℕ → ℕ → ℕ → Change
+change_by_index d a b =
+    if nat_le d 1 then Stay
+    else (if b == a + d then UpIndex
+    else (if a == b + d then DownIndex
+    else Stay))
+
 -- the change by which an access at an address brings its register to the next one, where one does: by 1, or by the step where that is more
 abbrev pub change_to : ℕ → ℕ → Option ℕ → Change
 change_to d a None = Stay
-change_to d a (Some b) =
-    if b == suc a then Up
-    else (if a == suc b then Down
-    else (if nat_lt 1 d && b == a + d then UpIndex
-    else (if nat_lt 1 d && a == b + d then DownIndex
-    else Stay)))
+change_to d a (Some b) = if b == a + 1 then Up else (if a == b + 1 then Down else change_by_index d a b)
 
 abbrev pub is_by_index : Change → Bool
 is_by_index DownIndex = true

@@ -1,5 +1,5 @@
 -- Where operands of accumulator code lie (docs/TRANSLATION.md, "Runs").
-use Rattle.std.specs.Prelude.{ℕ, ◌+◌, List, slice_get, Option, Some, None}
+use Rattle.std.specs.Prelude.{ℕ, ◌+◌, List, map, slice_get, Option, Some, None}
 use Rattle.std.specs.Vec.{vec_items}
 use Rattle.c_tree.specs.declared.program.VarRef.{VarRef}
 use Rattle.c_tree.specs.declared.program.VarRef.TheVariants.{Scalar, Local, Static}
@@ -18,6 +18,16 @@ pub record Places : Type 0 where
   pub locals : List ℕ
   pub parameters : List (List ℕ)
   pub step : ℕ
+
+-- those of a site in memory
+abbrev pub places_of : Site → Places
+places_of s = record {
+  scalars = s.scalars.now;
+  statics = s.statics.now;
+  locals = s.locals.now;
+  parameters = map vec_items s.parameters.now;
+  step = s.step;
+}
 
 -- one that isn't there is 0
 abbrev pub or_zero : Option ℕ → ℕ

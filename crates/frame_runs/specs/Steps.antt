@@ -1,13 +1,16 @@
 -- The steps of a run of operations: an operation is one, but for Point (docs/TRANSLATION.md, "Runs").
-use Rattle.std.specs.Prelude.{ℕ, ◌+◌, ◌==◌, Bool, true, false, if◌then◌else◌, List, [], ◌∷◌, ◌++◌}
+use Rattle.std.specs.Prelude.{◌≡◌, ℕ, ◌+◌, ◌==◌, Bool, true, false, if◌then◌else◌, List, [], ◌∷◌, ◌++◌, Option, Some, None}
 use Rattle.acc_code.specs.declared.operand.AccOperand.{AccOperand}
 use Rattle.acc_code.specs.declared.operand.AccOperand.TheVariants as operand
 use Rattle.acc_code.specs.declared.operation.AccOp.{AccOp}
 use Rattle.acc_code.specs.declared.operation.AccOp.TheVariants as row
 use Rattle.acc_code.specs.AccTree.{Item, Op, ItemList, end, item}
+use Rattle.frame_runs.specs.declared.accumulator.ToAccumulator.{ToAccumulator}
+use Rattle.frame_runs.specs.declared.accumulator.ToAccumulator.TheVariants.{Leaves, Loads, Works}
 use Rattle.frame_runs.specs.declared.step.Reach.{Reach}
 use Rattle.frame_runs.specs.declared.step.Reach.TheVariants as reach
 use Rattle.frame_runs.specs.declared.step.Step.{Step}
+use Rattle.frame_runs.specs.declared.operations.Operation as memory
 use Rattle.frame_runs.specs.Places.{Places, SCRATCH, reach_of}
 
 -- a row with its operand
@@ -27,12 +30,7 @@ abbrev pub behind_run : ItemList → ItemList
 behind_run (item (Op o m) xs) = behind_run xs
 behind_run xs = xs
 
--- what an operation does to the accumulator: it leaves it alone, loads it anew, or works on what it holds
-pub data ToAccumulator : Type 0 where
-  Leaves : ToAccumulator
-  Loads : ToAccumulator
-  Works : ToAccumulator
-
+-- what an operation does to the accumulator
 abbrev pub to_accumulator : AccOp → ToAccumulator
 to_accumulator row.Lt = Leaves
 to_accumulator row.Mpy = Leaves
@@ -107,3 +105,22 @@ steps_from s false (o ∷ os) =
 
 abbrev pub steps_of : Places → List Operation → List Step
 steps_of s os = steps_from s false os
+
+-- the operation that an item is
+abbrev pub operation_of : Item → Option Operation
+operation_of (Op o m) = Some (operation o m)
+operation_of x = None
+
+-- no operation stands at the front of a list
+pub record IsNoRun (xs : ItemList) : Type 0 where
+  pub run : run_at xs ≡ []
+  pub behind : behind_run xs ≡ xs
+
+-- one in memory
+abbrev pub operation_in : memory.Operation → Operation
+operation_in o = operation o.row o.operand
+
+-- a load of AR1 that is an operation and the Point behind it, before the others
+pub record IsJoinedBefore (o : Operation) (behind rest : List Operation) : Type 0 where
+  pub joined : is_load_of_pointer o behind ≡ true
+  pub others : behind_first behind ≡ rest

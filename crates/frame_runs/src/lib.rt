@@ -4,8 +4,17 @@
 //! lies beside it. The folder `specs` says which instructions those of a run are.
 #![tactic(auto)]
 
+mod accumulator;
+mod append;
+mod known;
+mod lookahead;
+mod operations;
+mod rows;
+mod run;
 mod site;
 mod step;
 
+pub use operations::steps_of;
+pub use run::append_run;
 pub use site::{ScalarPlace, Site};
 pub use step::{Reach, Step};
