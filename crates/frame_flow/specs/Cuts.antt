@@ -1,6 +1,6 @@
 -- What entries become, by what stands before them (docs/TRANSLATION.md, "Labels"): each mark is named by a jump of its piece, and each block of
 -- accesses ends at a cut.
-use Rattle.std.specs.Prelude.{ℕ, suc, ◌+◌, ◌-◌, ◌/◌, ◌%◌, nat_lt, nat_le, ◌==◌, ◌||◌, Bool, true, false, if◌then◌else◌, List, [], ◌∷◌, ◌++◌, length, Option, Some, None}
+use Rattle.std.specs.Prelude.{ℕ, suc, ◌+◌, ◌-◌, ◌/◌, ◌%◌, nat_lt, nat_le, ◌==◌, ◌||◌, Bool, true, false, if◌then◌else◌, List, [], ◌∷◌, ◌++◌, length, slice_get, Option, Some, None}
 use Rattle.std.specs.List.{list_any}
 use Rattle.c_tree.specs.declared.program.VarRef.{VarRef}
 use Rattle.c25_isa.specs.declared.instruction.Instr.{Instr}
@@ -20,15 +20,11 @@ use Rattle.acc_code.specs.declared.operation.Test.{Test}
 use Rattle.acc_code.specs.declared.operation.Test.TheVariants.{Gz, Lez, Lz, Gez, Nz, Z}
 use Rattle.acc_code.specs.AccTree.{ItemList}
 use Rattle.frame_runs.specs.Steps.{Operation}
+use Rattle.frame_flow.specs.declared.state.Before.{Before}
+use Rattle.frame_flow.specs.declared.state.Before.TheVariants.{Open, Shut, Gone}
 use Rattle.frame_flow.specs.Entries.{Entry, Run, Head, Place, Close, Branch, Goto, Dispatch, CallTo, CallHelper, Wipe, Ret, Finish}
 use Rattle.frame_flow.specs.Flow.{body_entries}
 use Rattle.frame_flow.specs.Settings.{Setting, Words, cells_of, function_name, code_in, helper_name}
-
--- what stands before: an access through a list's register behind the last cut, none, or an item that control doesn't pass
-pub data Before : Type 0 where
-  Open : Before
-  Shut : Before
-  Gone : Before
 
 -- what stands before, and which labels its jumps name
 pub record State : Type 0 where
@@ -40,6 +36,14 @@ begun = record { before = Shut; named = λ l. false }
 
 abbrev pub naming : ℕ → State → State
 naming l s = record s { named = λ m. m == l || s.named m }
+
+-- labels that a table holds
+abbrev pub or_false : Option Bool → Bool
+or_false None = false
+or_false (Some b) = b
+
+abbrev pub is_marked : List Bool → ℕ → Bool
+is_marked marked l = or_false (slice_get marked l)
 
 -- the labels of cases from one on
 abbrev pub naming_cases : List CaseLabel → ℕ → State → State

@@ -6,15 +6,10 @@ use Rattle.acc_code.specs.declared.operation.Test.{Test}
 use Rattle.acc_code.specs.declared.operation.Test.TheVariants.{Gz, Lez, Lz, Gez, Nz, Z}
 use Rattle.acc_code.specs.AccTree.{Item, Op, If, Loop, Switch, Case, Clear, Call, Helper, Break, Continue, Return, ItemList, end, item}
 use Rattle.frame_runs.specs.Steps.{Operation, operation}
+use Rattle.frame_flow.specs.declared.ways.Ways.{Ways}
 use Rattle.frame_flow.specs.Entries.{Entry, Head, Place, Close, Branch, Goto, Dispatch, CallTo, CallHelper, Wipe, Ret, Finish, flushed}
 
--- where control goes from a list: where it ends, at a Break, at a Continue, and the label of the first case of the switch around it
-pub record Ways : Type 0 where
-  pub onward : ℕ
-  pub broken : ℕ
-  pub continued : ℕ
-  pub cases : ℕ
-
+-- ways of a list that leads onward elsewhere
 abbrev pub to : ℕ → Ways → Ways
 to k w = record w { onward = k }
 

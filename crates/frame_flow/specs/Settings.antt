@@ -1,5 +1,5 @@
 -- What the code of a function is made with: where its words lie, and the names of what it calls (docs/TRANSLATION.md, "Pieces").
-use Rattle.std.specs.Prelude.{ℕ, ◌+◌, ◌-◌, List, [], slice_get, Option, Some, None}
+use Rattle.std.specs.Prelude.{ℕ, ◌+◌, ◌-◌, List, [], map, slice_get, Option, Some, None}
 use Rattle.c_tree.specs.declared.program.VarRef.{VarRef}
 use Rattle.c_tree.specs.declared.program.VarRef.TheVariants.{Scalar, Local, Static}
 use Rattle.c25_isa.specs.declared.instruction.Instr.{Instr}
@@ -9,7 +9,9 @@ use Rattle.acc_code.specs.declared.operand.HelperName.TheVariants as helper
 use Rattle.c25_helper.specs.declared.routine.Routine.{Routine}
 use Rattle.c25_helper.specs.declared.routine.Routine.TheVariants as routine
 use Rattle.c25_helper.specs.Routines.{routine_name}
-use Rattle.frame_runs.specs.Places.{Places, address_in}
+use Rattle.frame_runs.specs.Places.{Places, places_of, address_in}
+use Rattle.frame_flow.specs.declared.setting.Setting as code
+use Rattle.frame_flow.specs.declared.setting.Words.{Words}
 use Rattle.frame_runs.specs.Steps.{Operation}
 use Rattle.frame_runs.specs.Runs.{run_code}
 
@@ -21,10 +23,9 @@ pub record Setting : Type 0 where
   pub back : Option ℕ
   pub names : List (List ℕ)
 
--- words from an address on
-pub record Words : Type 0 where
-  pub first : ℕ
-  pub count : ℕ
+-- that of a setting in memory
+abbrev pub setting_of : code.Setting → Setting
+setting_of s = record { places = places_of s.site; lengths = s.lengths.now; back = s.back; names = map (λ f. f.name) s.functions.now }
 
 -- the words of a local object from a cell on
 abbrev pub cells_of : Setting → VarRef → ℕ → Words
