@@ -5,12 +5,14 @@ use Rattle.acc_code.specs.declared.operand.AccOperand.{AccOperand}
 use Rattle.acc_code.specs.declared.operand.AccOperand.TheVariants as operand
 use Rattle.acc_code.specs.declared.operation.AccOp.{AccOp}
 use Rattle.acc_code.specs.declared.operation.AccOp.TheVariants as row
+use Rattle.acc_code.specs.AccTree.{Item, Op, If, Loop, Switch, Case, Clear, Call, Helper, Break, Continue, Return, ItemList, end, item}
 use Rattle.acc_code.specs.Operands.{taken_by, IsTaken}
+use Rattle.acc_code.specs.Emittable.{Throughout, RefersRight}
 use Rattle.frame_runs.specs.declared.site.ScalarPlace.{ScalarPlace}
 use Rattle.frame_runs.specs.declared.step.Step.{Step}
 use Rattle.frame_runs.specs.Places.{Places, scalar_or_zero, reach_of}
 use Rattle.frame_runs.specs.declared.step.Reach.TheVariants as reach
-use Rattle.frame_runs.specs.Steps.{Operation, step, POINT_WORD, is_point, is_load_of_pointer, steps_of_operation, steps_from, steps_of}
+use Rattle.frame_runs.specs.Steps.{Operation, step, POINT_WORD, is_point, is_load_of_pointer, steps_of_operation, steps_from, steps_of, run_at, behind_run, operation_of, IsNoRun}
 use Rattle.frame_runs.specs.Right.{IsConstantOf, IsReachOf, IsRightStep, AreRightSteps, HaveWords, IsRight, AreRight, HaveRegisters, IsRightRun}
 
 pub words_behind : (xs ys : List Step) → HaveWords xs → HaveWords ys → HaveWords (xs ++ ys)
@@ -189,3 +191,60 @@ steps_right s false (o ∷ os) few right =
 
 pub run_right : (s : Places) (os : List Operation) → IsRightRun s os → AreRightSteps (steps_of s os)
 run_right s os right = steps_right s false os right.registers right.operations
+
+-- what emission wants of code is more than this
+module _ (scalars : ℕ) (cells : VarRef → Option ℕ) (parameters : ℕ → Option ℕ) (helps : Bool) where
+  pub emittable_right : (xs : ItemList) → Throughout (RefersRight scalars cells parameters helps) xs → AreRight (run_at xs)
+  emittable_right end refers = tt
+  emittable_right (item (Op o m) xs) refers = (record { range = refers.0.range; taken = refers.0.taken }, emittable_right xs refers.2)
+  emittable_right (item (If test hit miss) xs) refers = tt
+  emittable_right (item (Loop before body behind last) xs) refers = tt
+  emittable_right (item (Switch labels body) xs) refers = tt
+  emittable_right (item (Case n) xs) refers = tt
+  emittable_right (item (Clear v from) xs) refers = tt
+  emittable_right (item (Call f) xs) refers = tt
+  emittable_right (item (Helper name) xs) refers = tt
+  emittable_right (item Break xs) refers = tt
+  emittable_right (item Continue xs) refers = tt
+  emittable_right (item Return xs) refers = tt
+
+  pub emittable_behind : (xs : ItemList) → Throughout (RefersRight scalars cells parameters helps) xs → Throughout (RefersRight scalars cells parameters helps) (behind_run xs)
+  emittable_behind end refers = tt
+  emittable_behind (item (Op o m) xs) refers = emittable_behind xs refers.2
+  emittable_behind (item (If test hit miss) xs) refers = refers
+  emittable_behind (item (Loop before body behind last) xs) refers = refers
+  emittable_behind (item (Switch labels body) xs) refers = refers
+  emittable_behind (item (Case n) xs) refers = refers
+  emittable_behind (item (Clear v from) xs) refers = refers
+  emittable_behind (item (Call f) xs) refers = refers
+  emittable_behind (item (Helper name) xs) refers = refers
+  emittable_behind (item Break xs) refers = refers
+  emittable_behind (item Continue xs) refers = refers
+  emittable_behind (item Return xs) refers = refers
+
+pub no_run : (x : Item) (xs : ItemList) → operation_of x ≡ None → IsNoRun (item x xs)
+no_run (Op o m) xs e = cc
+no_run (If test hit miss) xs e = record { run = refl; behind = refl }
+no_run (Loop before body behind last) xs e = record { run = refl; behind = refl }
+no_run (Switch labels body) xs e = record { run = refl; behind = refl }
+no_run (Case n) xs e = record { run = refl; behind = refl }
+no_run (Clear v from) xs e = record { run = refl; behind = refl }
+no_run (Call f) xs e = record { run = refl; behind = refl }
+no_run (Helper name) xs e = record { run = refl; behind = refl }
+no_run Break xs e = record { run = refl; behind = refl }
+no_run Continue xs e = record { run = refl; behind = refl }
+no_run Return xs e = record { run = refl; behind = refl }
+
+pub none_behind : (xs : ItemList) → IsNoRun (behind_run xs)
+none_behind end = record { run = refl; behind = refl }
+none_behind (item (Op o m) xs) = none_behind xs
+none_behind (item (If test hit miss) xs) = record { run = refl; behind = refl }
+none_behind (item (Loop before body behind last) xs) = record { run = refl; behind = refl }
+none_behind (item (Switch labels body) xs) = record { run = refl; behind = refl }
+none_behind (item (Case n) xs) = record { run = refl; behind = refl }
+none_behind (item (Clear v from) xs) = record { run = refl; behind = refl }
+none_behind (item (Call f) xs) = record { run = refl; behind = refl }
+none_behind (item (Helper name) xs) = record { run = refl; behind = refl }
+none_behind (item Break xs) = record { run = refl; behind = refl }
+none_behind (item Continue xs) = record { run = refl; behind = refl }
+none_behind (item Return xs) = record { run = refl; behind = refl }

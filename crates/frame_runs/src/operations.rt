@@ -1,5 +1,5 @@
 //! The operations at the front of a list, and their steps.
-ghost use Rattle.std.specs.Prelude.{◌≡◌, ◌<◌, ◌≤◌, ◌++◌, ◌∷◌, length, true, false, option_map, MatchOption, IfSome, IfOk, OnOk};
+ghost use Rattle.std.specs.Prelude.{◌≡◌, ◌≢◌, ◌<◌, ◌≤◌, ◌++◌, ◌∷◌, [], length, true, false, option_map, MatchOption, IfSome, IfOk, OnOk};
 ghost use Rattle.acc_code.specs.AccTree.{Op, item};
 ghost use Rattle.acc_code.specs.AccView.{item_list, item_of};
 ghost use Rattle.frame_runs.specs.Places.{places_of};
@@ -7,14 +7,14 @@ ghost use Rattle.frame_runs.specs.Right.{HaveWords};
 ghost use Rattle.frame_runs.specs.Steps as spec;
 
 use crate::accumulator::{ToAccumulator, is_plain_load, is_point};
-use crate::site::Site;
+use crate::site::{FIRST_SCRATCH, Site};
 use crate::step::{Reach, Step};
 use acc_code::{AccItem, AccOp, AccOperand};
 use std::alloc::Global;
 use word_base::NoMemory;
 
 /// The scratch word that `AccOp::Point` uses.
-const POINT: Reach = Reach::Word(783);
+const POINT: Reach = Reach::Word(FIRST_SCRATCH + 15);
 
 /// A row with its operand.
 #[derive(Clone, Copy)]
@@ -155,7 +155,9 @@ pub fn steps_of(alloc: Global, site: &Site, items: &[AccItem]) -> Result<Vec<Ste
 
 /// What stands behind the operations at the front of a list.
 pub(crate) fn behind_run<'a>(items: &'a [AccItem]) -> &'a [AccItem]
-    ensures { item_list result.now ≡ spec.behind_run (item_list items.now) }
+    ensures items { item_list result.now ≡ spec.behind_run (item_list items.now) }
+    ensures most { length result.now ≤ length items.now }
+    ensures shorter { spec.run_at (item_list items.now) ≢ [] → length result.now < length items.now }
 {
     let mut rest = items;
     while let Some(first) = first_operation(rest) {

@@ -1,7 +1,7 @@
 //! The instructions of a run.
 #![tactic(auto, using(crate::proofs::Appending::appended))]
 
-ghost use Rattle.std.specs.Prelude.{◌≡◌, ◌<◌, [], IfOk, OnOk, option_to_list};
+ghost use Rattle.std.specs.Prelude.{◌≡◌, ◌≢◌, ◌<◌, ◌≤◌, [], length, IfOk, OnOk, option_to_list};
 ghost use Rattle.c25_isa.specs.Items.{ItemsFit};
 ghost use Rattle.acc_code.specs.AccView.{item_list};
 ghost use Rattle.frame_runs.specs.Appended.{Appends, known_of};
@@ -190,6 +190,9 @@ pub fn append_run<'a>(
     requires { IsRightRun (places_of site.now) (run_at (item_list items.now)) }
     ensures code { OnOk result (Appends code.old.items code.new.items (runs.run_code (places_of site.now) (run_at (item_list items.now)))) }
     ensures behind { IfOk result (λ rest. item_list rest.now ≡ steps.behind_run (item_list items.now)) }
+    ensures most { IfOk result (λ rest. length rest.now ≤ length items.now) }
+    ensures shorter { run_at (item_list items.now) ≢ [] → IfOk result (λ rest. length rest.now < length items.now) }
+    // Each is an instruction of the machine.
     ensures instructions { OnOk result (AreInstrs (runs.run_code (places_of site.now) (run_at (item_list items.now)))) }
     ensures fits { ItemsFit code.old.items → OnOk result (ItemsFit code.new.items) }
 {

@@ -8,7 +8,7 @@ use acc_code::AccOperand;
 use c_tree::VarRef;
 
 /// The first of the scratch words.
-const FIRST_SCRATCH: u16 = 768;
+pub(crate) const FIRST_SCRATCH: u16 = 768;
 
 /// Where a scalar of a frame lies.
 #[derive(Clone, Copy, Debug)]
