@@ -1,6 +1,5 @@
 -- Each instruction of right steps is one of the machine's.
-use Rattle.std.proofs.Common.{◌≡◌, ◌⊎◌, inl, inr, ℕ, ◌+◌, ◌-◌, ◌/◌, ◌%◌, ◌<◌, ◌≤◌, ℤ, pos, negsuc, Bool, true, false, nat_lt, ◌==◌, ◌&&◌, ◌||◌, if◌then◌else◌, List, [], ◌∷◌, ◌++◌, Option, Some, None, refl, lit<, rules, arith}
-use Rattle.c25_isa.specs.declared.operand.Change.{Change}
+use Rattle.std.proofs.Common.{◌≡◌, ◌⊎◌, inl, inr, ℕ, ◌-◌, ◌/◌, ◌%◌, ◌<◌, ◌≤◌, pos, negsuc, Bool, true, false, nat_lt, ◌==◌, ◌&&◌, ◌||◌, if◌then◌else◌, List, [], ◌∷◌, ◌++◌, Option, Some, None, refl, lit<, rules, arith}
 use Rattle.c25_isa.specs.declared.operand.Change.TheVariants.{Stay}
 use Rattle.c25_isa.specs.declared.operand.Operand.{Operand}
 use Rattle.c25_isa.specs.declared.operand.Operand.TheVariants.{Direct}
@@ -15,8 +14,8 @@ use Rattle.frame_runs.specs.declared.step.Reach.TheVariants as reach
 use Rattle.frame_runs.specs.declared.step.Step.{Step}
 use Rattle.frame_runs.specs.Instructions.{signed_constant, word_instr, constant_instr}
 use Rattle.frame_runs.specs.Moves.{next_address, register_for, next_register, change_to, moves_by_index, moved, other_than, indirect, made_current}
-use Rattle.frame_runs.specs.Runs.{Known, nothing_known, is_page, page_code, row_code, known_behind, steps_code, index_code, all_steps_code}
-use Rattle.frame_runs.specs.Right.{IsConstantOf, IsReachOf, HasWords, IsRightStep, AreRightSteps, HaveWords, AreInstrs}
+use Rattle.frame_runs.specs.Runs.{Known, nothing_known, is_page, row_code, known_behind, steps_code, index_code, all_steps_code}
+use Rattle.frame_runs.specs.Right.{IsConstantOf, IsReachOf, HasWords, AreRightSteps, HaveWords, AreInstrs}
 
 by_test : (P : Bool → Type 0) (b : Bool) → (b ≡ true → P true) → (b ≡ false → P false) → P b
 by_test P true hit miss = hit refl

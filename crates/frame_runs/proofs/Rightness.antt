@@ -1,5 +1,5 @@
 -- The steps of right operations are right.
-use Rattle.std.proofs.Common.{◌≡◌, ℕ, ◌<◌, Bool, true, false, if◌then◌else◌, List, [], ◌∷◌, ◌++◌, slice_get, Option, Some, None, zero, suc, refl, lit<}
+use Rattle.std.proofs.Common.{◌≡◌, ℕ, ◌<◌, Bool, true, false, if◌then◌else◌, List, [], ◌∷◌, ◌++◌, slice_get, Option, None, zero, suc, refl, lit<}
 use Rattle.c_tree.specs.declared.program.VarRef.{VarRef}
 use Rattle.acc_code.specs.declared.operand.AccOperand.{AccOperand}
 use Rattle.acc_code.specs.declared.operand.AccOperand.TheVariants as operand
@@ -13,7 +13,7 @@ use Rattle.frame_runs.specs.declared.step.Step.{Step}
 use Rattle.frame_runs.specs.Places.{Places, scalar_or_zero, reach_of}
 use Rattle.frame_runs.specs.declared.step.Reach.TheVariants as reach
 use Rattle.frame_runs.specs.Steps.{Operation, step, POINT_WORD, is_point, is_load_of_pointer, steps_of_operation, steps_from, steps_of, run_at, behind_run, operation_of, IsNoRun}
-use Rattle.frame_runs.specs.Right.{IsConstantOf, IsReachOf, IsRightStep, AreRightSteps, HaveWords, IsRight, AreRight, HaveRegisters, IsRightRun}
+use Rattle.frame_runs.specs.Right.{IsConstantOf, IsReachOf, AreRightSteps, HaveWords, IsRight, AreRight, HaveRegisters, IsRightRun}
 
 pub words_behind : (xs ys : List Step) → HaveWords xs → HaveWords ys → HaveWords (xs ++ ys)
 words_behind [] ys words more = more

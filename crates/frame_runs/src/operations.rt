@@ -88,11 +88,7 @@ fn behind_load_of_pointer<'a>(first: &First<'a>) -> Option<&'a [AccItem]>
 
 // The steps of an operation that stands by itself.
 #[tactic(auto, using(crate::proofs::Rightness::words_behind))]
-fn push_operation(
-    steps: &mut Vec<Step>,
-    site: &Site,
-    operation: Operation,
-) -> Result<(), NoMemory>
+fn push_operation(steps: &mut Vec<Step>, site: &Site, operation: Operation) -> Result<(), NoMemory>
     ensures steps { OnOk result (steps.new.items ≡ steps.old.items ++ spec.steps_of_operation (places_of site.now) (spec.operation_in operation)) }
     ensures words { HaveWords steps.old.items → OnOk result (HaveWords steps.new.items) }
 {
