@@ -1,5 +1,5 @@
 -- How accesses leave their registers.
-use Rattle.std.proofs.Common.{◌≡◌, ℕ, ◌+◌, ◌<◌, ◌≤◌, Bool, true, false, nat_le, ◌==◌, List, [], ◌∷◌, Option, Some, None, refl, sym, ap, ◌∙◌, rules, if◌then◌else◌}
+use Rattle.std.proofs.Common.{◌≡◌, ℕ, ◌+◌, ◌≤◌, Bool, true, false, nat_le, ◌==◌, List, [], ◌∷◌, Option, Some, None, refl, ap, rules, if◌then◌else◌}
 use Rattle.c25_isa.specs.declared.operand.Change.{Change}
 use Rattle.c25_isa.specs.declared.operand.Change.TheVariants.{Stay, Down, Up}
 use Rattle.frame_runs.specs.declared.step.Reach.{Reach}

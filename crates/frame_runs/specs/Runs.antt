@@ -12,7 +12,7 @@ use Rattle.frame_runs.specs.declared.step.Step.{Step}
 use Rattle.frame_runs.specs.Places.{Places}
 use Rattle.frame_runs.specs.Instructions.{word_instr, constant_instr}
 use Rattle.frame_runs.specs.Steps.{Operation, steps_of}
-use Rattle.frame_runs.specs.Moves.{next_address, next_register, change_to, change_of_step, moves_by_index, address_behind, moved, indirect, made_current}
+use Rattle.frame_runs.specs.Moves.{next_address, next_register, change_to, moves_by_index, address_behind, moved, indirect, made_current}
 
 -- what is known within a run: the page, where the registers of lists stand, and whether a register is current that the next indirect operand
 -- wants

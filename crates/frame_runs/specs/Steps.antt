@@ -1,10 +1,9 @@
 -- The steps of a run of operations: an operation is one, but for Point (docs/TRANSLATION.md, "Runs").
 use Rattle.std.specs.Prelude.{◌≡◌, ℕ, ◌+◌, ◌==◌, Bool, true, false, if◌then◌else◌, List, [], ◌∷◌, ◌++◌, Option, Some, None}
 use Rattle.acc_code.specs.declared.operand.AccOperand.{AccOperand}
-use Rattle.acc_code.specs.declared.operand.AccOperand.TheVariants as operand
 use Rattle.acc_code.specs.declared.operation.AccOp.{AccOp}
 use Rattle.acc_code.specs.declared.operation.AccOp.TheVariants as row
-use Rattle.acc_code.specs.AccTree.{Item, Op, ItemList, end, item}
+use Rattle.acc_code.specs.AccTree.{Item, Op, ItemList, item}
 use Rattle.frame_runs.specs.declared.accumulator.ToAccumulator.{ToAccumulator}
 use Rattle.frame_runs.specs.declared.accumulator.ToAccumulator.TheVariants.{Leaves, Loads, Works}
 use Rattle.frame_runs.specs.declared.step.Reach.{Reach}

@@ -7,6 +7,7 @@
 mod accumulator;
 mod append;
 mod known;
+mod laws;
 mod lookahead;
 mod operations;
 mod rows;
@@ -14,6 +15,8 @@ mod run;
 mod site;
 mod step;
 
+pub use accumulator::ToAccumulator;
+pub use laws::runs_fit;
 pub use operations::steps_of;
 pub use run::append_run;
 pub use site::{ScalarPlace, Site};

@@ -1,19 +1,20 @@
 //! The operations at the front of a list, and their steps.
-ghost use Rattle.std.specs.Prelude.{◌≡◌, ◌<◌, ◌≤◌, ◌++◌, ◌∷◌, length, true, false, option_map, MatchOption, IfSome, IfOk, OnOk};
+ghost use Rattle.std.specs.Prelude.{◌≡◌, ◌≢◌, ◌<◌, ◌≤◌, ◌++◌, ◌∷◌, [], length, true, false, option_map, MatchOption, IfSome, IfOk, OnOk};
 ghost use Rattle.acc_code.specs.AccTree.{Op, item};
 ghost use Rattle.acc_code.specs.AccView.{item_list, item_of};
 ghost use Rattle.frame_runs.specs.Places.{places_of};
+ghost use Rattle.frame_runs.specs.Right.{HaveWords};
 ghost use Rattle.frame_runs.specs.Steps as spec;
 
 use crate::accumulator::{ToAccumulator, is_plain_load, is_point};
-use crate::site::Site;
+use crate::site::{FIRST_SCRATCH, Site};
 use crate::step::{Reach, Step};
 use acc_code::{AccItem, AccOp, AccOperand};
 use std::alloc::Global;
 use word_base::NoMemory;
 
 /// The scratch word that `AccOp::Point` uses.
-const POINT: Reach = Reach::Word(783);
+const POINT: Reach = Reach::Word(FIRST_SCRATCH + 15);
 
 /// A row with its operand.
 #[derive(Clone, Copy)]
@@ -86,12 +87,10 @@ fn behind_load_of_pointer<'a>(first: &First<'a>) -> Option<&'a [AccItem]>
 }
 
 // The steps of an operation that stands by itself.
-fn push_operation(
-    steps: &mut Vec<Step>,
-    site: &Site,
-    operation: Operation,
-) -> Result<(), NoMemory>
-    ensures { OnOk result (steps.new.items ≡ steps.old.items ++ spec.steps_of_operation (places_of site.now) (spec.operation_in operation)) }
+#[tactic(auto, using(crate::proofs::Rightness::words_behind))]
+fn push_operation(steps: &mut Vec<Step>, site: &Site, operation: Operation) -> Result<(), NoMemory>
+    ensures steps { OnOk result (steps.new.items ≡ steps.old.items ++ spec.steps_of_operation (places_of site.now) (spec.operation_in operation)) }
+    ensures words { HaveWords steps.old.items → OnOk result (HaveWords steps.new.items) }
 {
     if is_point(operation.row) {
         steps.push(Step {
@@ -111,6 +110,7 @@ fn push_operation(
 }
 
 // The steps of an operation, with the Point behind it where both are one. The result is what stands behind these.
+#[tactic(auto, using(crate::proofs::Rightness::words_behind))]
 fn push_first<'a>(
     steps: &mut Vec<Step>,
     site: &Site,
@@ -118,6 +118,7 @@ fn push_first<'a>(
 ) -> Result<&'a [AccItem], NoMemory>
     ensures steps { IfOk result (λ rest. steps.old.items ++ spec.steps_of (places_of site.now) (spec.operation_in first.now.operation ∷ spec.run_at (item_list first.now.behind.now))
         ≡ steps.new.items ++ spec.steps_of (places_of site.now) (spec.run_at (item_list rest.now))) }
+    ensures words { HaveWords steps.old.items → OnOk result (HaveWords steps.new.items) }
     ensures shorter { IfOk result (λ rest. length rest.now ≤ length first.now.behind.now) }
 {
     match behind_load_of_pointer(first) {
@@ -137,7 +138,8 @@ fn push_first<'a>(
 
 /// The steps of the operations at the front of a list. It fails only where memory is wanting.
 pub fn steps_of(alloc: Global, site: &Site, items: &[AccItem]) -> Result<Vec<Step>, NoMemory>
-    ensures { IfOk result (λ steps. steps.items ≡ spec.steps_of (places_of site.now) (spec.run_at (item_list items.now))) }
+    ensures steps { IfOk result (λ steps. steps.items ≡ spec.steps_of (places_of site.now) (spec.run_at (item_list items.now))) }
+    ensures words { IfOk result (λ steps. HaveWords steps.items) }
 {
     let mut steps = Vec::new(alloc);
     let mut rest = items;
@@ -149,7 +151,9 @@ pub fn steps_of(alloc: Global, site: &Site, items: &[AccItem]) -> Result<Vec<Ste
 
 /// What stands behind the operations at the front of a list.
 pub(crate) fn behind_run<'a>(items: &'a [AccItem]) -> &'a [AccItem]
-    ensures { item_list result.now ≡ spec.behind_run (item_list items.now) }
+    ensures items { item_list result.now ≡ spec.behind_run (item_list items.now) }
+    ensures most { length result.now ≤ length items.now }
+    ensures shorter { spec.run_at (item_list items.now) ≢ [] → length result.now < length items.now }
 {
     let mut rest = items;
     while let Some(first) = first_operation(rest) {

@@ -1,13 +1,13 @@
 //! The instructions of a run.
 #![tactic(auto, using(crate::proofs::Appending::appended))]
 
-ghost use Rattle.std.specs.Prelude.{◌≡◌, ◌<◌, [], IfOk, OnOk, option_to_list};
+ghost use Rattle.std.specs.Prelude.{◌≡◌, ◌≢◌, ◌<◌, ◌≤◌, [], length, IfOk, OnOk, option_to_list};
 ghost use Rattle.c25_isa.specs.Items.{ItemsFit};
 ghost use Rattle.acc_code.specs.AccView.{item_list};
 ghost use Rattle.frame_runs.specs.Appended.{Appends, known_of};
 ghost use Rattle.frame_runs.specs.Moves as moves;
 ghost use Rattle.frame_runs.specs.Places.{places_of};
-ghost use Rattle.frame_runs.specs.Right.{AreRight, AreSteps, IsRightSite, IsStep};
+ghost use Rattle.frame_runs.specs.Right.{AreInstrs, AreRightSteps, HaveWords, IsRightRun, IsRightStep};
 ghost use Rattle.frame_runs.specs.Runs as runs;
 ghost use Rattle.frame_runs.specs.Steps as steps;
 ghost use Rattle.frame_runs.specs.Steps.{run_at};
@@ -127,7 +127,7 @@ fn push_step(
     step: Step,
     behind: &[Step],
 ) -> Result<(), NoMemory>
-    requires { IsStep step }
+    requires { IsRightStep step }
     ensures code { OnOk result (Appends code.old.items code.new.items (runs.row_code index (known_of known.old) step.row step.reach behind.now)) }
     ensures known { OnOk result (known_of known.new ≡ runs.known_behind index (known_of known.old) step.reach behind.now) }
 {
@@ -140,7 +140,7 @@ fn push_step(
 }
 
 fn push_steps(code: &mut Vec<PieceItem>, index: u8, steps: &[Step]) -> Result<(), NoMemory>
-    requires { AreSteps steps.now }
+    requires { AreRightSteps steps.now }
     ensures { OnOk result (Appends code.old.items code.new.items (runs.steps_code index runs.nothing_known steps.now)) }
 {
     let mut known = Known::nothing();
@@ -167,9 +167,12 @@ fn index_load(index: u8, steps: &[Step]) -> Option<Instr>
     }
 }
 
+#[tactic(auto, using(crate::proofs::Appending::appended, crate::proofs::Fitting::all_steps_fit))]
 fn push_all_steps(code: &mut Vec<PieceItem>, index: u8, steps: &[Step]) -> Result<(), NoMemory>
-    requires { AreSteps steps.now }
-    ensures { OnOk result (Appends code.old.items code.new.items (runs.all_steps_code index steps.now)) }
+    requires right { AreRightSteps steps.now }
+    requires words { HaveWords steps.now }
+    ensures code { OnOk result (Appends code.old.items code.new.items (runs.all_steps_code index steps.now)) }
+    ensures instructions { AreInstrs (runs.all_steps_code index steps.now) }
 {
     push_some(code, index_load(index, steps))?;
     push_steps(code, index, steps)
@@ -177,16 +180,20 @@ fn push_all_steps(code: &mut Vec<PieceItem>, index: u8, steps: &[Step]) -> Resul
 
 /// Appends the instructions of the operations at the front of a list, and gives what stands behind them. It fails only where memory is
 /// wanting.
+#[tactic(auto, using(crate::proofs::Appending::appended, crate::proofs::Appending::items_fit, crate::proofs::Rightness::run_right))]
 pub fn append_run<'a>(
     alloc: Global,
     code: &mut Vec<PieceItem>,
     site: &Site,
     items: &'a [AccItem],
 ) -> Result<&'a [AccItem], NoMemory>
-    requires site { IsRightSite (places_of site.now) }
-    requires run { AreRight (run_at (item_list items.now)) }
+    requires { IsRightRun (places_of site.now) (run_at (item_list items.now)) }
     ensures code { OnOk result (Appends code.old.items code.new.items (runs.run_code (places_of site.now) (run_at (item_list items.now)))) }
     ensures behind { IfOk result (λ rest. item_list rest.now ≡ steps.behind_run (item_list items.now)) }
+    ensures most { IfOk result (λ rest. length rest.now ≤ length items.now) }
+    ensures shorter { run_at (item_list items.now) ≢ [] → IfOk result (λ rest. length rest.now < length items.now) }
+    // Each is an instruction of the machine.
+    ensures instructions { OnOk result (AreInstrs (runs.run_code (places_of site.now) (run_at (item_list items.now)))) }
     ensures fits { ItemsFit code.old.items → OnOk result (ItemsFit code.new.items) }
 {
     let steps = steps_of(alloc, site, items)?;

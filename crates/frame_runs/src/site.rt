@@ -1,13 +1,14 @@
 //! Where the words are that a function's code names.
 ghost use Rattle.std.specs.Prelude.{◌≡◌, slice_get};
 ghost use Rattle.frame_runs.specs.Places as places;
+ghost use Rattle.frame_runs.specs.Right.{HasWords};
 
 use crate::step::Reach;
 use acc_code::AccOperand;
 use c_tree::VarRef;
 
 /// The first of the scratch words.
-const FIRST_SCRATCH: u16 = 768;
+pub(crate) const FIRST_SCRATCH: u16 = 768;
 
 /// Where a scalar of a frame lies.
 #[derive(Clone, Copy, Debug)]
@@ -35,7 +36,8 @@ pub struct Site<'a> {
 
 impl Site<'_> {
     pub(crate) fn reach(&self, operand: AccOperand) -> Reach
-        ensures { result ≡ places.reach_of (places.places_of self.now) operand }
+        ensures reach { result ≡ places.reach_of (places.places_of self.now) operand }
+        ensures words { HasWords result }
     {
         match operand {
             AccOperand::Nothing => Reach::Constant(0),
