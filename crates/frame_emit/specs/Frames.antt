@@ -4,6 +4,7 @@ use Rattle.c_tree.specs.declared.program.VarRef.{VarRef}
 use Rattle.c_tree.specs.declared.program.VarRef.TheVariants.{Scalar, Local, Static}
 use Rattle.c_tree.specs.TypedTree.{ObjectTree}
 use Rattle.tree_code.specs.WordTree.{FunctionCode}
+use Rattle.c25_isa.specs.Step.{wrap16}
 use Rattle.mem_plan.specs.declared.data_plan.DataPlan.{DataPlan}
 use Rattle.mem_plan.specs.declared.data_plan.FramePlan.{FramePlan}
 use Rattle.frame_runs.specs.declared.site.ScalarPlace.{ScalarPlace}
@@ -28,7 +29,7 @@ position_in (m ∷ ms) n = if m == n then Some 0 else one_further (position_in m
 -- the place of a scalar by its list, the address where that begins, and its register
 abbrev pub place_or : Option ℕ → ℕ → ℕ → ScalarPlace → ScalarPlace
 place_or None base r other = other
-place_or (Some i) base r other = place r (base + i)
+place_or (Some i) base r other = place r (wrap16 (base + i))
 
 -- by the lists from a register on; one that stands in none has address 0
 abbrev pub scalar_place : List (List ℕ) → List ℕ → ℕ → ℕ → ScalarPlace
