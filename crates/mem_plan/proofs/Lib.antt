@@ -1,0 +1,4 @@
+pub mod BodyLemmas
+pub mod PlanLemmas
+pub mod BeginLemmas
+pub mod ApartLemmas
