@@ -18,13 +18,13 @@ abbrev pub place : ℕ → ℕ → ScalarPlace
 place r a = record { register = r; address = a }
 
 -- where a scalar stands in a list
+abbrev pub one_further : Option ℕ → Option ℕ
+one_further None = None
+one_further (Some i) = Some (suc i)
+
 abbrev pub position_in : List ℕ → ℕ → Option ℕ
 position_in [] n = None
 position_in (m ∷ ms) n = if m == n then Some 0 else one_further (position_in ms n)
-  where
-    one_further : Option ℕ → Option ℕ
-    one_further None = None
-    one_further (Some i) = Some (suc i)
 
 -- the place of a scalar by its list, the address where that begins, and its register
 abbrev pub place_or : Option ℕ → ℕ → ℕ → ScalarPlace → ScalarPlace

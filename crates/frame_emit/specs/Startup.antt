@@ -31,9 +31,11 @@ abbrev pub static_words : List ObjectTree → ℕ
 static_words os = sum_by (λ o. o.length + 1) os
 
 -- all of them become 0. Their number may have bit 15 set, so it is loaded without its sign
+abbrev pub clearing_head : ℕ → List PieceItem
+clearing_head count = Do (Mar (record { change = Stay; next = Some 1 })) ∷ Do (Lrlk 1 STATICS_START) ∷ Do Rsxm ∷ Do (Lalk 0 count) ∷ []
+
 abbrev pub clearing_items : ℕ → List PieceItem
-clearing_items count =
-    Do (Mar (record { change = Stay; next = Some 1 })) ∷ Do (Lrlk 1 STATICS_START) ∷ Do Rsxm ∷ Do (Lalk 0 count) ∷ clears_at_one 0
+clearing_items count = clearing_head count ++ clears_at_one 0
 
 -- the word that a cell starts with
 abbrev pub initial_word : List ℕ → Initial → ℕ
@@ -51,12 +53,15 @@ up_to_last [] = []
 up_to_last (w ∷ ws) = before_zeros w (up_to_last ws)
 
 -- a word is loaded, unless it is in the accumulator already
+abbrev pub is_held : Option ℕ → ℕ → Bool
+is_held None w = false
+is_held (Some v) w = v == w
+
+abbrev pub load_of : ℕ → Instr
+load_of w = if nat_lt w 256 then Lack w else Lalk 0 w
+
 abbrev pub word_load : Option ℕ → ℕ → List Instr
-word_load held w = if is_held held w then [] else ((if nat_lt w 256 then Lack w else Lalk 0 w) ∷ [])
-  where
-    is_held : Option ℕ → ℕ → Bool
-    is_held None w = false
-    is_held (Some v) w = v == w
+word_load held w = if is_held held w then [] else load_of w ∷ []
 
 abbrev pub store_up : Instr
 store_up = Sacl 0 (Through (record { change = Up; next = None }))

@@ -3,6 +3,7 @@
 //! `emit` computes the pieces that the folder `specs` gives: the startup, and one for each function.
 #![tactic(auto)]
 
+mod code;
 mod emission;
 mod frames;
 mod initials;
