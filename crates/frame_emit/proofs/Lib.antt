@@ -1,2 +1,4 @@
 mod Examples
 pub mod Appending
+pub mod Positions
+pub mod Trimming

@@ -51,7 +51,7 @@ pub fn emit(
     let mut pieces = Vec::new(alloc);
     let statics = plan.statics.as_slice();
     pieces.push(startup_piece(alloc, statics, tree.statics.as_slice())?)?;
-    push_functions(alloc, &mut pieces, shared, functions, frames, arrangements)?;
+    push_functions(alloc, &mut pieces, &shared, functions, frames, arrangements)?;
     Ok(pieces)
 }
 
@@ -59,38 +59,35 @@ pub fn emit(
 fn push_functions(
     alloc: Global,
     pieces: &mut Vec<Piece>,
-    shared: Shared,
+    shared: &Shared,
     trees: &[TreeFunction],
     frames: &[FramePlan],
     arrangements: &[Arrangement],
 ) -> Result<(), NoMemory>
     requires lists { All (λ lists. length lists ≤ 4) arrangements.now }
-    requires right { All (λ g. Throughout IsRightItem g.body) (map function_items_of shared.functions.now) }
-    ensures { OnOk result (map piece_of pieces.new.items ≡ map piece_of pieces.old.items ++ function_pieces shared.plan.now shared.step (map vec_items shared.parameters.now) (map (λ g. g.name) (map function_items_of shared.functions.now)) (map function_code_of trees.now) (map function_items_of shared.functions.now) frames.now arrangements.now) }
+    requires right { All (λ g. Throughout IsRightItem g.body) (map function_items_of shared.now.functions.now) }
+    ensures { OnOk result (map piece_of pieces.new.items ≡ map piece_of pieces.old.items ++ function_pieces shared.now.plan.now shared.now.step (map vec_items shared.now.parameters.now) (map (λ g. g.name) (map function_items_of shared.now.functions.now)) (map function_code_of trees.now) (map function_items_of shared.now.functions.now) frames.now arrangements.now) }
 {
-    let mut trees = trees;
+    let mut rest = trees;
     let mut functions = shared.functions;
-    let mut frames = frames;
-    let mut arrangements = arrangements;
-    while let Some((tree, other_trees)) = trees.split_first() {
-        let (
-            Some((function, other_functions)),
-            Some((frame, other_frames)),
-            Some((arrangement, other_arrangements)),
-        ) = (
-            functions.split_first(),
-            frames.split_first(),
-            arrangements.split_first(),
-        )
-        else {
-            break;
+    let mut later_frames = frames;
+    let mut later_arrangements = arrangements;
+    while let Some((tree, behind)) = rest.split_first() {
+        let Some((function, functions_behind)) = functions.split_first() else {
+            return Ok(());
+        };
+        let Some((frame, frames_behind)) = later_frames.split_first() else {
+            return Ok(());
+        };
+        let Some((arrangement, arrangements_behind)) = later_arrangements.split_first() else {
+            return Ok(());
         };
         let lists = arrangement.lists();
         pieces.push(function_piece(alloc, shared, tree, function, frame, lists)?)?;
-        trees = other_trees;
-        functions = other_functions;
-        frames = other_frames;
-        arrangements = other_arrangements;
+        rest = behind;
+        functions = functions_behind;
+        later_frames = frames_behind;
+        later_arrangements = arrangements_behind;
     }
     Ok(())
 }

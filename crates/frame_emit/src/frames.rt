@@ -24,6 +24,7 @@ const NOWHERE: ScalarPlace = ScalarPlace {
 };
 
 // Where a scalar stands in a list.
+#[tactic(auto, using(crate::proofs::Positions::positions))]
 fn position_in(list: &[u8], scalar: u8) -> Option<usize>
     ensures position { result ≡ spec.position_in list.now scalar }
     ensures within { IfSome result (λ i. i < length list.now) }
@@ -47,10 +48,10 @@ fn scalar_place(lists: &[ScalarList], bases: &[u16], scalar: u8) -> ScalarPlace
     ensures register { result.register < 8 }
 {
     let mut register = FIRST_REGISTER;
-    let mut lists = lists;
-    let mut bases = bases;
-    while let Some((list, other_lists)) = lists.split_first() {
-        let Some((base, other_bases)) = bases.split_first() else {
+    let mut rest = lists;
+    let mut starts = bases;
+    while let Some((list, behind)) = rest.split_first() {
+        let Some((base, others)) = starts.split_first() else {
             return NOWHERE;
         };
         if let Some(position) = position_in(list.scalars(), scalar) {
@@ -58,13 +59,14 @@ fn scalar_place(lists: &[ScalarList], bases: &[u16], scalar: u8) -> ScalarPlace
             return ScalarPlace { register, address };
         }
         register += 1;
-        lists = other_lists;
-        bases = other_bases;
+        rest = behind;
+        starts = others;
     }
     NOWHERE
 }
 
 /// The places of the scalars of a frame, by their numbers.
+#[tactic(auto, using(crate::proofs::Positions::one_more_place, crate::proofs::Positions::one_more_register))]
 pub(crate) fn scalar_places(
     alloc: Global,
     lists: &[ScalarList],
@@ -131,20 +133,21 @@ pub(crate) fn all_parameters(
     ensures { IfOk result (λ all. map vec_items all.items ≡ spec.all_parameters (map function_code_of functions.now) frames.now arrangements.now) }
 {
     let mut all = Vec::new(alloc);
-    let mut functions = functions;
-    let mut frames = frames;
-    let mut arrangements = arrangements;
-    while let Some((function, other_functions)) = functions.split_first() {
-        let (Some((frame, other_frames)), Some((arrangement, other_arrangements))) =
-            (frames.split_first(), arrangements.split_first())
-        else {
-            break;
+    let mut rest = functions;
+    let mut later_frames = frames;
+    let mut later_arrangements = arrangements;
+    while let Some((function, behind)) = rest.split_first() {
+        let Some((frame, frames_behind)) = later_frames.split_first() else {
+            return Ok(all);
+        };
+        let Some((arrangement, arrangements_behind)) = later_arrangements.split_first() else {
+            return Ok(all);
         };
         let parameters = function.params.as_slice();
         all.push(parameter_addresses(alloc, arrangement.lists(), frame, parameters)?)?;
-        functions = other_functions;
-        frames = other_frames;
-        arrangements = other_arrangements;
+        rest = behind;
+        later_frames = frames_behind;
+        later_arrangements = arrangements_behind;
     }
     Ok(all)
 }

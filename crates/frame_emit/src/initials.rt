@@ -33,13 +33,14 @@ fn initial_word(statics: &[u16], initial: Initial) -> u16
 }
 
 // The cells up to the last one that doesn't start with 0.
+#[tactic(auto, using(crate::proofs::Trimming::last_is_zero, crate::proofs::Trimming::last_is_kept))]
 fn up_to_last<'a>(statics: &[u16], initials: &'a [Initial]) -> &'a [Initial]
     ensures { map (spec.initial_word statics.now) result.now ≡ spec.up_to_last (map (spec.initial_word statics.now) initials.now) }
 {
     let mut rest = initials;
     while let Some((last, before)) = rest.split_last() {
         if initial_word(statics, *last) != 0 {
-            break;
+            return rest;
         }
         rest = before;
     }

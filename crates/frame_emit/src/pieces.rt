@@ -52,7 +52,7 @@ fn listed_piece(
 /// The piece of a function, by its code, its frame and its lists.
 pub(crate) fn function_piece(
     alloc: Global,
-    shared: Shared,
+    shared: &Shared,
     tree: &TreeFunction,
     function: &AccFunction,
     frame: &FramePlan,
@@ -60,7 +60,7 @@ pub(crate) fn function_piece(
 ) -> Result<Piece, NoMemory>
     requires lists { length lists.now ≤ 4 }
     requires right { Throughout IsRightItem (function_items_of function.now).body }
-    ensures { IfOk result (λ piece. piece_of piece ≡ spec.function_piece shared.plan.now shared.step (map vec_items shared.parameters.now) (map (λ g. g.name) (map function_items_of shared.functions.now)) (function_code_of tree.now) (function_items_of function.now) frame.now lists.now) }
+    ensures { IfOk result (λ piece. piece_of piece ≡ spec.function_piece shared.now.plan.now shared.now.step (map vec_items shared.now.parameters.now) (map (λ g. g.name) (map function_items_of shared.now.functions.now)) (function_code_of tree.now) (function_items_of function.now) frame.now lists.now) }
 {
     let scalars = scalar_places(alloc, lists, frame.bases.as_slice(), tree.scalars)?;
     let lengths = lengths_of(alloc, tree.locals.as_slice())?;

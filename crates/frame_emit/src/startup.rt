@@ -29,6 +29,7 @@ const NO_CHANGE: Indirect = Indirect {
 };
 
 // The words of static objects, each with its spare word.
+#[tactic(auto, using(crate::proofs::Positions::more_words))]
 fn words_of(objects: &[Object]) -> u16
     requires { static_words (map object_of objects.now) < 65536 }
     ensures { result ≡ static_words (map object_of objects.now) }
