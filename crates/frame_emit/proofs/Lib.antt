@@ -2,3 +2,4 @@ mod Examples
 pub mod Appending
 pub mod Positions
 pub mod Trimming
+pub mod Joining

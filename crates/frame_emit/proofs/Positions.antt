@@ -20,7 +20,7 @@ further_by_one k (Some i) = ap Some (omega arith)
 
 pub from_start : (o : Option ℕ) → further 0 o ≡ o
 from_start None = refl
-from_start (Some i) = refl
+from_start (Some i) = ap Some (omega arith)
 
 pub ruleset positions = (further_by_one, from_start)
 
