@@ -1,4 +1,5 @@
+mod Examples
 pub mod BodyLemmas
-pub mod PlanLemmas
-pub mod BeginLemmas
+pub mod BoundLemmas
 pub mod ApartLemmas
+pub mod UniqueLemmas

@@ -1,5 +1,5 @@
 -- Ranges of data memory, and those of a plan: each object with its spare word, each scalar, each return word, and the scratch words.
-use Rattle.std.specs.Prelude.{◌≡◌, ◌≤◌, ℕ, ◌+◌, ◌⊎◌, if◌then◌else◌, nat_lt, ⊤, List, ◌∷◌, length, slice_get, Option, Some, None}
+use Rattle.std.specs.Prelude.{◌≡◌, ◌≤◌, ℕ, ◌+◌, ◌⊎◌, if◌then◌else◌, nat_lt, ⊤, List, length, slice_get, Option, Some, None}
 use Rattle.c_tree.specs.Rounds.{CallsAmong, IsWay}
 use Rattle.c_tree.specs.TypedTree.{ObjectTree}
 use Rattle.tree_code.specs.WordTree.{FunctionCode, ProgramCode}

@@ -92,12 +92,7 @@ fn are_reached(found: &Found, needs: &[FunctionNeeds]) -> bool
     true
 }
 
-fn is_reached(
-    number: usize,
-    origin: Option<Call>,
-    begins: &[u64],
-    needs: &[FunctionNeeds],
-) -> bool
+fn is_reached(number: usize, origin: Option<Call>, begins: &[u64], needs: &[FunctionNeeds]) -> bool
     requires { number < length begins.now }
     ensures { result ≡ true → (slice_index begins.now number ≡ 0) ⊎ IsBehind (calls_in needs.now) (owns_in needs.now) (slice_index begins.now) number }
 {
@@ -110,7 +105,13 @@ fn is_reached(
 }
 
 // Whether a frame begins where that of the function of this call ends.
-fn is_behind(number: usize, begin: u64, origin: Option<Call>, begins: &[u64], needs: &[FunctionNeeds]) -> bool
+fn is_behind(
+    number: usize,
+    begin: u64,
+    origin: Option<Call>,
+    begins: &[u64],
+    needs: &[FunctionNeeds],
+) -> bool
     ensures { result ≡ true → slice_index begins.now number ≡ begin → IsBehind (calls_in needs.now) (owns_in needs.now) (slice_index begins.now) number }
 {
     let Some(call) = origin else {

@@ -1,5 +1,4 @@
 //! What the body of a function asks for: the functions that it calls, and whether it uses a routine.
-#![tactic(auto, using(crate::proofs::BodyLemmas::called_append, crate::proofs::BodyLemmas::or_further))]
 ghost use Rattle.std.specs.Prelude.{◌≡◌, ◌++◌, ◌∷◌, [], ◌||◌, ℕ, IfOk};
 ghost use Rattle.c_tree.specs.Uses.{called};
 ghost use Rattle.tree_code.specs.WordHelpers as routines;
@@ -71,10 +70,8 @@ impl Body {
         ensures routine { IfOk result (λ _. self.new.routine ≡ (self.old.routine || routines.some_form needs_routine (word_expr_of e.now))) }
     {
         match &e.form {
-            WordForm::Const(_)
-            | WordForm::Read(_)
-            | WordForm::AddressOf(_)
-            | WordForm::In { .. } => Ok(()),
+            WordForm::Const(_) | WordForm::Read(_) | WordForm::AddressOf(_) | WordForm::In { .. } =>
+                Ok(()),
             WordForm::Load(value)
             | WordForm::Not(value)
             | WordForm::Unary { value, .. }

@@ -15,7 +15,7 @@ mod search;
 pub use data_plan::{
     DATA_START, DataPlan, FramePlan, MOST_DATA_WORDS, MOST_LISTS, PlanFault, SCRATCH_WORDS,
 };
-pub use lay_model::{Arrangement, ScalarList};
 pub use laws::plans_keep_apart;
+pub use lay_model::{Arrangement, ScalarList};
 pub use planning::plan;
 pub use tree_code::{TreeFunction, TreeProgram};

@@ -49,10 +49,7 @@ fn function_needs(alloc: Global, f: &TreeFunction) -> Result<FunctionNeeds, NoMe
 }
 
 /// What each function needs.
-pub(crate) fn needs_of(
-    alloc: Global,
-    list: &[TreeFunction],
-) -> Result<Vec<FunctionNeeds>, NoMemory>
+pub(crate) fn needs_of(alloc: Global, list: &[TreeFunction]) -> Result<Vec<FunctionNeeds>, NoMemory>
     requires { All (λ f. data_needs.objects_words (map object_of f.locals) ≤ most_object_words) list.now }
     ensures { IfOk result (λ all. all.items ≡ map data_needs.needs_of (map function_code_of list.now)) }
 {

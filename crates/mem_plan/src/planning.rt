@@ -26,7 +26,8 @@ const STATICS_START: u32 = DATA_START as u32 + SCRATCH_WORDS as u32;
 ///
 /// # Errors
 ///
-/// `DataFull` exactly where the program needs more than `MOST_DATA_WORDS` words, and `NoMemory` where an allocation fails.
+/// `DataFull` exactly where the program needs more than `MOST_DATA_WORDS` words. `NoMemory` where an allocation fails, and, which no
+/// clause excludes, where the order in which functions are gone through didn't give each frame its begin: it is tested.
 pub fn plan(
     alloc: Global,
     tree: &TreeProgram,
@@ -58,7 +59,8 @@ fn greatest_end(needs: &[FunctionNeeds], begins: &[u64]) -> u64
     requires size { length begins.now ≡ length needs.now }
     requires begins { All (λ begin. begin ≤ MOST_BEGIN) begins.now }
     requires own { All (λ f. f.own ≤ 2 ^ 40) needs.now }
-    ensures { result ≡ end_from (slice_index begins.now) 0 (map (λ f. f.own) needs.now) }
+    ensures is { result ≡ end_from (slice_index begins.now) 0 (map (λ f. f.own) needs.now) }
+    ensures small { result ≤ MOST_BEGIN + 2 ^ 40 }
 {
     let mut greatest = 0;
     for (number, f) in needs.iter().enumerate() {

@@ -80,7 +80,14 @@ impl Search {
         let end = begin.saturating_add(caller.own);
         for (place, called) in caller.calls.as_slice().iter().enumerate() {
             let function = usize::from(*called);
-            self.raise(function, end, Call { caller: number, place });
+            self.raise(
+                function,
+                end,
+                Call {
+                    caller: number,
+                    place,
+                },
+            );
             self.pass(function)?;
         }
         Ok(())

@@ -1,4 +1,4 @@
-use Rattle.std.proofs.Common.{◌<◌, ◌≤◌, ◌+◌, ℕ, slice_index}
+use Rattle.std.proofs.Common.{◌<◌, ◌≤◌, ℕ, slice_index}
 use Rattle.mem_plan.proofs.begins.ends_before.Given as goal
 
 abbrev pub invariant-loop-called : goal.invariant-loop-called

@@ -1,6 +1,6 @@
 use Rattle.std.proofs.Common.{rules, append_assoc}
 use Rattle.std.proofs.lemmas.Result.{IfOk-equal}
-use Rattle.mem_plan.proofs.BodyLemmas.{called_append, argument_calls, argument_routine, call_calls, call_routine}
+use Rattle.mem_plan.proofs.BodyLemmas.{called_append, or_further, argument_calls, argument_routine, call_calls, call_routine}
 use Rattle.mem_plan.proofs.body.Body.+expressions.Goals as goal
 
 pub expressions-loop-e-preserved : goal.expressions-loop-e-preserved
@@ -37,3 +37,18 @@ expression-returns-in_ok-target-in-AssignOp-clause-calls t c = search (rules, ca
 
 pub expression-returns-in_ok-expression-in-And-clause-calls : goal.expression-returns-in_ok-expression-in-And-clause-calls
 expression-returns-in_ok-expression-in-And-clause-calls t c = search (rules, called_append, append_assoc)
+
+pub expression-returns-in_ok-expression-in-Binary-clause-routine : goal.expression-returns-in_ok-expression-in-Binary-clause-routine
+expression-returns-in_ok-expression-in-Binary-clause-routine t c = search (rules, or_further)
+
+pub expression-returns-in_ok-expression-in-Pick-2-clause-routine : goal.expression-returns-in_ok-expression-in-Pick-2-clause-routine
+expression-returns-in_ok-expression-in-Pick-2-clause-routine t c = search (rules, or_further)
+
+pub expression-returns-in_ok-target-in-Assign-clause-routine : goal.expression-returns-in_ok-target-in-Assign-clause-routine
+expression-returns-in_ok-target-in-Assign-clause-routine t c = search (rules, or_further)
+
+pub expression-returns-in_ok-target-in-AssignOp-clause-routine : goal.expression-returns-in_ok-target-in-AssignOp-clause-routine
+expression-returns-in_ok-target-in-AssignOp-clause-routine t c = search (rules, or_further)
+
+pub expression-returns-in_ok-expression-in-And-clause-routine : goal.expression-returns-in_ok-expression-in-And-clause-routine
+expression-returns-in_ok-expression-in-And-clause-routine t c = search (rules, or_further)

@@ -1,6 +1,6 @@
 use Rattle.std.proofs.Common.{rules, append_assoc}
 use Rattle.std.proofs.lemmas.Result.{IfOk-equal}
-use Rattle.mem_plan.proofs.BodyLemmas.{called_append, statement_calls, statement_routine, choice_calls, choice_routine, block_calls, block_routine, switch_calls, switch_routine}
+use Rattle.mem_plan.proofs.BodyLemmas.{called_append, or_further, statement_calls, statement_routine, choice_calls, choice_routine, block_calls, block_routine, switch_calls, switch_routine}
 use Rattle.mem_plan.proofs.body.Body.+statements.Goals as goal
 
 pub statements-loop-s-preserved : goal.statements-loop-s-preserved
@@ -55,3 +55,6 @@ statement-returns-in_ok-statement-in-Do-clause-calls t c = search (rules, called
 
 pub statement-returns-in_ok-optional-in-For-3-clause-calls : goal.statement-returns-in_ok-optional-in-For-3-clause-calls
 statement-returns-in_ok-optional-in-For-3-clause-calls t c = search (rules, called_append, append_assoc)
+
+pub statement-returns-in_ok-optional-in-For-3-clause-routine : goal.statement-returns-in_ok-optional-in-For-3-clause-routine
+statement-returns-in_ok-optional-in-For-3-clause-routine t c = search (rules, or_further)
