@@ -3,3 +3,4 @@ pub mod Appending
 pub mod Positions
 pub mod Trimming
 pub mod Joining
+pub mod Naming

@@ -1,5 +1,5 @@
 -- The pieces of a program (docs/TRANSLATION.md, "Pieces"): the startup, and one for each function, in order.
-use Rattle.std.specs.Prelude.{ℕ, true, List, [], ◌∷◌, map}
+use Rattle.std.specs.Prelude.{ℕ, ◌≡◌, true, List, [], ◌∷◌, length, map}
 use Rattle.tree_code.specs.WordTree.{FunctionCode, ProgramCode}
 use Rattle.acc_code.specs.AccTree.{FunctionItems}
 use Rattle.c25_isa.specs.Pieces.{Piece}
@@ -31,7 +31,16 @@ module _ (plan : DataPlan) (step : ℕ) (parameters names : List (List ℕ)) whe
   function_pieces (f ∷ fs) (g ∷ gs) (frame ∷ frames) [] = []
   function_pieces (f ∷ fs) (g ∷ gs) (frame ∷ frames) (lists ∷ rest) = function_piece f g frame lists ∷ function_pieces fs gs frames rest
 
+-- those of a program
+abbrev pub behind_startup : ProgramCode → List FunctionItems → DataPlan → List (List (List ℕ)) → ℕ → List Piece
+behind_startup p gs plan arrangements step =
+    function_pieces plan step (all_parameters p.functions plan.frames arrangements) (map (λ g. g.name) gs) p.functions gs plan.frames arrangements
+
 abbrev pub emitted : ProgramCode → List FunctionItems → DataPlan → List (List (List ℕ)) → ℕ → List Piece
-emitted p gs plan arrangements step =
-    startup_piece plan.statics p.statics
-    ∷ function_pieces plan step (all_parameters p.functions plan.frames arrangements) (map (λ g. g.name) gs) p.functions gs plan.frames arrangements
+emitted p gs plan arrangements step = startup_piece plan.statics p.statics ∷ behind_startup p gs plan arrangements step
+
+-- one of each is there for each function
+pub record IsCounted (p : ProgramCode) (gs : List FunctionItems) (plan : DataPlan) (arrangements : List (List (List ℕ))) : Type 0 where
+  pub functions : length gs ≡ length p.functions
+  pub frames : length plan.frames ≡ length p.functions
+  pub lists : length arrangements ≡ length p.functions

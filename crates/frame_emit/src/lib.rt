@@ -7,7 +7,9 @@ mod code;
 mod emission;
 mod frames;
 mod initials;
+mod laws;
 mod pieces;
 mod startup;
 
 pub use emission::emit;
+pub use laws::{pieces_are_right, plans_are_enough};

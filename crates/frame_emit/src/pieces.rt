@@ -4,7 +4,7 @@ ghost use Rattle.acc_code.specs.AccView.{function_items_of, item_list};
 ghost use Rattle.acc_code.specs.Emittable.{Throughout};
 ghost use Rattle.c25_isa.specs.Pieces.{piece_of};
 ghost use Rattle.frame_emit.specs.Emitted as spec;
-ghost use Rattle.frame_flow.specs.Right.{IsRightItem};
+ghost use Rattle.frame_flow.specs.Emits.{IsRightItem};
 ghost use Rattle.frame_flow.specs.Cuts.{function_items as items_of_function};
 ghost use Rattle.frame_flow.specs.Settings.{setting_of};
 ghost use Rattle.frame_runs.specs.Places.{places_of};
