@@ -1,16 +1,14 @@
 -- Startups and frames by hand.
-use Rattle.std.proofs.Common.{◌≡◌, ℕ, true, false, [], ◌∷◌, ◌++◌, List, Option, Some, None, refl, codes}
+use Rattle.std.proofs.Common.{◌≡◌, ℕ, [], ◌∷◌, List, Some, None, refl, codes}
 use Rattle.c_tree.specs.declared.program.Base.TheVariants.{Int}
 use Rattle.c_tree.specs.declared.program.Initial.{Initial}
-use Rattle.c_tree.specs.declared.program.Initial.TheVariants.{Word, Address, Null}
+use Rattle.c_tree.specs.declared.program.Initial.TheVariants.{Word, Address}
 use Rattle.c_tree.specs.declared.program.ScalarType.{ScalarType}
 use Rattle.c_tree.specs.TypedTree.{ObjectTree}
 use Rattle.c25_isa.specs.declared.operand.Change.TheVariants.{Stay, Up}
 use Rattle.c25_isa.specs.declared.operand.Operand.TheVariants.{Indirect as Through}
-use Rattle.c25_isa.specs.declared.instruction.Instr.{Instr}
 use Rattle.c25_isa.specs.declared.instruction.Instr.TheVariants.{Rovm, Spm, Mar, Lrlk, Lack, Lalk, Sacl, Sach, Subk, Rsxm, Ssxm, Idle}
 use Rattle.c25_isa.specs.declared.instruction.JumpOp.TheVariants.{Bnz}
-use Rattle.c25_isa.specs.declared.piece.PieceItem.{PieceItem}
 use Rattle.c25_isa.specs.declared.piece.PieceItem.TheVariants.{Do, Mark, Jump, CallTo}
 use Rattle.c25_code.specs.Items.{no_change}
 use Rattle.frame_emit.specs.Frames.{place, scalar_places}

@@ -1,5 +1,5 @@
 -- Functions one behind another, each with its frame and its lists.
-use Rattle.std.proofs.Common.{◌≡◌, ◌∙◌, ℕ, zero, suc, ◌+◌, ◌<◌, List, [], ◌∷◌, ◌++◌, length, map, refl, ap, sym, subst, arith, append_assoc, vec_items, All}
+use Rattle.std.proofs.Common.{◌≡◌, ◌∙◌, ℕ, suc, List, [], ◌∷◌, ◌++◌, map, refl, ap, sym, subst, arith, append_assoc, All}
 use Rattle.acc_code.specs.declared.program.AccFunction.{AccFunction}
 use Rattle.acc_code.specs.AccTree.{FunctionItems}
 use Rattle.acc_code.specs.AccView.{function_items_of}

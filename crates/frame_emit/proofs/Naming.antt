@@ -1,5 +1,5 @@
 -- What is known of the pieces of a program, and what a plan is enough for.
-use Rattle.std.proofs.Common.{◌≡◌, ◌∙◌, ◌≤◌, ◌<◌, ◌+◌, ◌⊎◌, inl, inr, ℕ, zero, suc, Bool, true, List, [], ◌∷◌, length, map, slice_get, slice_index_or, Option, Some, None, refl, ap, sym, arith, lit<, All}
+use Rattle.std.proofs.Common.{◌≡◌, ◌∙◌, ◌≤◌, ◌<◌, ◌+◌, inl, inr, ℕ, zero, suc, Bool, true, List, [], ◌∷◌, length, map, slice_get, slice_index_or, Option, Some, refl, ap, arith, All}
 use Rattle.word_base.specs.Name.{IsName, IsNameStart}
 use Rattle.c_tree.specs.declared.program.VarRef.{VarRef}
 use Rattle.c_tree.specs.TypedTree.{ObjectTree}
@@ -13,7 +13,7 @@ use Rattle.mem_plan.specs.DataNeeds.{objects_words}
 use Rattle.mem_plan.specs.Plan.{AreArranged, IsPlan, frames_from}
 use Rattle.std.proofs.lemmas.List.Sums.{sum_by-cons}
 use Rattle.frame_flow.specs.Emits.{IsRightItem}
-use Rattle.frame_emit.specs.Emitted.{IsCounted, behind_startup, function_piece, function_pieces}
+use Rattle.frame_emit.specs.Emitted.{IsCounted, function_piece, function_pieces}
 use Rattle.frame_emit.specs.Startup.{startup_name, static_words}
 
 module _ (plan : DataPlan) (step : ℕ) (parameters names : List (List ℕ)) where

@@ -1,8 +1,7 @@
 -- Where the words of frames are, by a plan of data memory and the lists of each frame (docs/TRANSLATION.md, "Pieces").
-use Rattle.std.specs.Prelude.{ℕ, zero, suc, ◌+◌, ◌-◌, ◌==◌, if◌then◌else◌, List, [], ◌∷◌, map, slice_get, Option, Some, None}
+use Rattle.std.specs.Prelude.{ℕ, zero, suc, ◌+◌, ◌==◌, if◌then◌else◌, List, [], ◌∷◌, map, Option, Some, None}
 use Rattle.c_tree.specs.declared.program.VarRef.{VarRef}
 use Rattle.c_tree.specs.declared.program.VarRef.TheVariants.{Scalar, Local, Static}
-use Rattle.c_tree.specs.TypedTree.{ObjectTree}
 use Rattle.tree_code.specs.WordTree.{FunctionCode}
 use Rattle.c25_isa.specs.Step.{wrap16}
 use Rattle.mem_plan.specs.declared.data_plan.DataPlan.{DataPlan}

@@ -1,6 +1,6 @@
 -- The startup: it makes the modes those of the compiler, clears the static objects and gives them their first values, calls `main` and ends
 -- (docs/TRANSLATION.md, "Pieces").
-use Rattle.std.specs.Prelude.{ℕ, ◌+◌, nat_lt, ◌==◌, Bool, true, false, if◌then◌else◌, List, [], ◌∷◌, ◌++◌, map, sum_by, codes, Option, Some, None}
+use Rattle.std.specs.Prelude.{ℕ, ◌+◌, nat_lt, ◌==◌, Bool, false, if◌then◌else◌, List, [], ◌∷◌, ◌++◌, map, sum_by, codes, Option, Some, None}
 use Rattle.c_tree.specs.declared.program.Initial.{Initial}
 use Rattle.c_tree.specs.declared.program.Initial.TheVariants.{Word, Address, Null}
 use Rattle.c_tree.specs.SourceRun.{main_name}

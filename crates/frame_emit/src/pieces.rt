@@ -33,11 +33,7 @@ pub(crate) struct Shared<'a> {
 }
 
 // The piece of a function that is made with this.
-fn listed_piece(
-    alloc: Global,
-    setting: &Setting,
-    function: &AccFunction,
-) -> Result<Piece, NoMemory>
+fn listed_piece(alloc: Global, setting: &Setting, function: &AccFunction) -> Result<Piece, NoMemory>
     requires registers { HaveRegisters (places_of setting.now.site).scalars }
     requires right { Throughout IsRightItem (function_items_of function.now).body }
     ensures { IfOk result (λ piece. piece_of piece ≡ record { name = function.now.name; listed = true; items = items_of_function (setting_of setting.now) (function_items_of function.now).body }) }

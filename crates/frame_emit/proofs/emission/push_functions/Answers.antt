@@ -1,4 +1,4 @@
-use Rattle.std.proofs.Common.{◌≡◌, ◌∙◌, ◌≤◌, ◌++◌, length, map, vec_items, ap, refl, sym, subst}
+use Rattle.std.proofs.Common.{◌∙◌, ◌≤◌, ◌++◌, length, map, vec_items, ap, refl, sym, subst}
 use Rattle.acc_code.specs.AccTree.{FunctionItems}
 use Rattle.acc_code.specs.AccView.{function_items_of}
 use Rattle.acc_code.specs.Emittable.{Throughout}
