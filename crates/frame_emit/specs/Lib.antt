@@ -1,0 +1,4 @@
+-- Emission: the pieces of a program of accumulator code, by a plan of data memory and an arrangement of each frame.
+pub mod Frames
+pub mod Startup
+pub mod Emitted

@@ -1,0 +1,5 @@
+-- The structure of code: from items of accumulator code to items of pieces.
+pub mod Entries
+pub mod Flow
+pub mod Settings
+pub mod Cuts
