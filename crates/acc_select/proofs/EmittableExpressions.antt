@@ -1,5 +1,5 @@
 -- Emission takes the code of expressions that are ready for it.
-use Rattle.std.proofs.Common.{◌≡◌, refl, ap, ◌∙◌, subst, ℕ, suc, ◌+◌, max, Bool, true, false, [], ◌<◌, ◌≤◌, arith, Some}
+use Rattle.std.proofs.Common.{◌≡◌, refl, ap, ◌∙◌, sym, subst, ℕ, suc, ◌+◌, max, Bool, true, false, [], ◌<◌, ◌≤◌, arith, Some}
 use Rattle.std.specs.Prelude.{⊤, if◌then◌else◌}
 use Rattle.c_syntax.specs.declared.operator.UnaryOp.TheVariants.{Minus}
 use Rattle.c_tree.specs.declared.program.VarRef.{VarRef}
@@ -12,7 +12,8 @@ use Rattle.tree_code.specs.declared.operator.WordOp.{WordOp}
 use Rattle.acc_code.specs.declared.operand.AccOperand.TheVariants as operand
 use Rattle.acc_operations.specs.Constants.{place_of, shape_of}
 use Rattle.acc_select.specs.Forms.{Part_code}
-use Rattle.acc_select.specs.IsSelected.{by_routine}
+use Rattle.tree_code.specs.WordHelpers.{done_by_routine}
+use Rattle.acc_select.proofs.RoutineLemmas.{by_routine, routines_agree}
 use Rattle.acc_operations.specs.Kinds.{operation_of}
 use Rattle.acc_select.specs.Selected.{code_of, arguments, waiting}
 use Rattle.acc_operations.specs.declared.constant.Shape.{Shape}
@@ -24,7 +25,7 @@ use Rattle.acc_select.proofs.EmittableForms.{RightCode, RightShape, RightLater, 
 module _ (F : Frame) where
   -- a routine may be called where an operation is done by one
   abbrev pub ReadyOperation : WordOp → ExprCode → Type 0
-  ReadyOperation o e = by_routine (operation_of o) (is_constant_word e) ≡ true → F.helps ≡ true
+  ReadyOperation o e = done_by_routine o (is_constant_word e) ≡ true → F.helps ≡ true
 
   -- expressions whose names have their places and whose calls have their functions
   abbrev mutual
@@ -113,7 +114,7 @@ module _ (F : Frame) (b c : Bool) where
   right_shape e ready = tt
 
   may_call : (o : WordOp) (e : ExprCode) → ReadyOperation F o e → MayCall (inside F b c) (operation_of o) (shape_of e)
-  may_call o e ready = λ is. ready (ap (by_routine (operation_of o)) (constant_shape e) ∙ is)
+  may_call o e ready = λ is. ready (sym (routines_agree o (is_constant_word e)) ∙ ap (by_routine (operation_of o)) (constant_shape e) ∙ is)
 
   -- the code of an operand at each depth of temporaries where there is room for its own
   abbrev RightWithin : ℕ → Part_code → Type 0

@@ -27,7 +27,7 @@ use Rattle.acc_operations.specs.declared.high_half.HighHalf.TheVariants.{Any, Si
 use Rattle.acc_operations.specs.declared.operation.Arithmetic.{Arithmetic}
 use Rattle.acc_operations.specs.declared.operation.Operation.{Operation}
 use Rattle.acc_operations.specs.declared.operation.Operation.TheVariants as operation
-use Rattle.acc_select.specs.IsSelected.{by_routine}
+use Rattle.acc_select.proofs.RoutineLemmas.{by_routine}
 use Rattle.c_syntax.specs.declared.operator.UnaryOp.{UnaryOp}
 use Rattle.c_syntax.specs.declared.operator.UnaryOp.TheVariants.{Minus, Plus, Complement}
 use Rattle.acc_select.proofs.EmittableRuns.{Frame, Passes, Has, Steps, both, forgotten, nothing_done, Readable, Writable, anyhow, reading, writing, writing_scratch, counting_on, alone, either, pointed_read, pointed_written}

@@ -12,7 +12,7 @@ use Rattle.acc_code.specs.Emittable.{Stored, nothing_stored}
 use Rattle.acc_operations.specs.Arithmetic.{row_on_place, row_on_constant, high_with_place, high_with_constant, on_bits_of_place, on_bits_of_constant, times_place, times, multiply, product_with_place, helped, helped_behind, with_place, shift_helper, division_helper, remainder_helper, shifted_right, with_constant, of_constant, of_place}
 use Rattle.acc_operations.specs.Comparisons.{exactly_less, exactly_less_number, exactly_less_constant, exact_with, less_unsigned, items_with_place, items_with_constant, items_of_place}
 use Rattle.acc_operations.specs.Constants.{constant_operand, load_constant}
-use Rattle.acc_select.specs.IsSelected.{by_routine}
+use Rattle.acc_select.proofs.RoutineLemmas.{by_routine}
 use Rattle.acc_operations.specs.Sums.{count_of, by_helper}
 use Rattle.acc_operations.specs.Words.{scratch, lac, sacl, bare, high}
 use Rattle.acc_operations.specs.declared.comparison.Order.{Order}

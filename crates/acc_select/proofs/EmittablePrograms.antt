@@ -29,7 +29,8 @@ use Rattle.acc_code.specs.declared.operand.AccOperand.{AccOperand}
 use Rattle.acc_code.specs.declared.operand.AccOperand.TheVariants as operand
 use Rattle.acc_code.specs.declared.operation.AccOp.{AccOp}
 use Rattle.acc_operations.specs.Constants.{place_of, initial_constant}
-use Rattle.acc_select.specs.IsSelected.{uses_helper, object_cells, is_listed, called_parameters, IsEmittableFunction, IsEmittable}
+use Rattle.tree_code.specs.WordHelpers.{uses_helper}
+use Rattle.acc_select.specs.IsSelected.{object_cells, is_listed, called_parameters, IsEmittableFunction, IsEmittable}
 use Rattle.acc_select.specs.Selected.{ends_with_return, closed_main, body_items, is_main, selected_function, selected}
 use Rattle.acc_select.proofs.EmittableForms.{number_step}
 use Rattle.acc_select.proofs.EmittableReady.{KnownCalls, ready_statement}

@@ -17,7 +17,8 @@ use Rattle.tree_code.specs.WellFormedCode.{IsThereForWords, TakesSo, IsSound, Ha
 use Rattle.tree_code.specs.WordUses.{word_uses, word_form_uses, word_target_uses, word_list_uses, optional_word_uses, word_case_count, word_statement_uses, word_statements_uses, word_choices_uses}
 use Rattle.acc_code.specs.declared.operand.AccOperand.TheVariants as operand
 use Rattle.acc_operations.specs.Constants.{place_of}
-use Rattle.acc_select.specs.IsSelected.{some_form, some_form_below, some_target_form, some_argument_form, some_optional_form, some_statement_form, some_list_form, some_choice_form, needs_routine, is_listed}
+use Rattle.tree_code.specs.WordHelpers.{some_form, some_form_below, some_target_form, some_argument_form, some_optional_form, some_statement_form, some_list_form, some_choice_form, needs_routine}
+use Rattle.acc_select.specs.IsSelected.{is_listed}
 use Rattle.acc_select.proofs.EmittableRuns.{Frame, Place}
 use Rattle.acc_select.proofs.EmittableExpressions.{Ready, ReadyForm, ReadyTarget, ReadyList}
 use Rattle.acc_select.proofs.EmittableStatements.{ReadyFill, ReadyOptional, ReadyStatement, ReadyStatements, ReadyChoices}

@@ -9,7 +9,8 @@ use Rattle.tree_code.specs.WellFormedCode.{IsCode}
 use Rattle.acc_code.specs.AccSequence.{IsInFrame, NamesBelow}
 use Rattle.acc_code.specs.AccTree.{Item, Op, FunctionItems}
 use Rattle.acc_code.specs.declared.operand.AccOperand.TheVariants as operand
-use Rattle.acc_select.specs.IsSelected.{uses_helper, object_cells, called_parameters, IsEmittableFunction, IsEmittable}
+use Rattle.tree_code.specs.WordHelpers.{uses_helper}
+use Rattle.acc_select.specs.IsSelected.{object_cells, called_parameters, IsEmittableFunction, IsEmittable}
 use Rattle.acc_select.specs.Selected.{selected}
 use Rattle.acc_select.proofs.EmittableProps.{numbers_set, throughout_prop, body_prop}
 use Rattle.acc_select.proofs.EmittablePrograms.{selected_emittable, selected_in_frame}

@@ -6,7 +6,8 @@ use Rattle.tree_code.specs.WordTree as tree
 use Rattle.tree_code.specs.WordTree.{ExprCode, Node, Named, At, StmtCode, FunctionCode, ProgramCode}
 use Rattle.tree_code.specs.declared.operator.WordOp.{WordOp}
 use Rattle.tree_code.specs.declared.operator.WordOp.TheVariants as word
-use Rattle.acc_select.specs.IsSelected.{uses_helper, object_cells, called_parameters}
+use Rattle.tree_code.specs.WordHelpers.{uses_helper}
+use Rattle.acc_select.specs.IsSelected.{object_cells, called_parameters}
 
 -- x and y are the scalars 0 and 1
 abbrev node : tree.FormCode → ExprCode

@@ -2,6 +2,7 @@ mod Examples
 mod EmittableUses
 mod SelectedExamples
 pub mod SelectionLemmas
+pub mod RoutineLemmas
 pub mod EmittableRuns
 pub mod EmittableWords
 pub mod EmittableOperations

@@ -10,3 +10,4 @@ pub mod Lowered
 pub mod WordLabels
 pub mod WordUses
 pub mod WellFormedCode
+pub mod WordHelpers

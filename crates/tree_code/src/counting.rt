@@ -35,6 +35,16 @@ pub(crate) enum OperandForm {
     Computed,
 }
 
+/// Whether an operand is a constant, a minus on one, or an address.
+pub fn is_constant(e: &WordExpr) -> bool
+    ensures { result ≡ counts.is_constant_word (word_expr_of e.now) }
+{
+    match operand_form(e) {
+        OperandForm::Constant => true,
+        OperandForm::Name | OperandForm::Computed => false,
+    }
+}
+
 fn operand_form(e: &WordExpr) -> OperandForm
     ensures constant { constant_form result ≡ counts.is_constant_word (word_expr_of e.now) }
     ensures simple { simple_form result ≡ counts.is_simple_word (word_expr_of e.now) }

@@ -16,7 +16,7 @@ mod word_statement;
 
 pub use c_syntax::UnaryOp;
 pub use c_tree::{Base, Initial, Object, Program, ScalarType, VarRef};
-pub use counting::temporaries;
+pub use counting::{is_constant, temporaries};
 pub use laws::kept_by_lowering;
 pub use lowering::lower;
 pub use operator::WordOp;

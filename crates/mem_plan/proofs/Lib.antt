@@ -1,0 +1,6 @@
+mod Examples
+pub mod BodyLemmas
+pub mod PlanLemmas
+pub mod BoundLemmas
+pub mod ApartLemmas
+pub mod UniqueLemmas
