@@ -1,2 +1,4 @@
 pub mod Keeping
+pub mod Anywhere
 pub mod Words
+pub mod Labels
