@@ -5,12 +5,20 @@ use Rattle.acc_code.specs.declared.operation.Test.{Test}
 use Rattle.acc_code.specs.AccTree.{Item, Op, If, Loop, Switch, Case, Clear, Call, Helper, Break, Continue, Return, ItemList, end, item}
 use Rattle.frame_runs.specs.Steps.{Operation, operation}
 use Rattle.frame_flow.specs.declared.ways.Ways.{Ways}
-use Rattle.flow_laws.proofs.Keeping.{PartKeeps}
 use Rattle.frame_flow.specs.Entries.{Entry, Run, Head, Place, Close, Branch, Goto, Dispatch, CallTo, CallHelper, Wipe, Ret, Finish, flushed}
 use Rattle.frame_flow.specs.Flow.{Part, labels, item_labels, is_end, opposite, target, goto, if_code, loop_end, loop_code, behind_label, behind_jump, inner, next_behind, turn_end, first_ways, turn_ways, third_ways, switch_ways, emit, body_entries}
 
+-- such an entry comes later
+abbrev pub Later : (Entry → Type 0) → List Entry → Type 0
+Later P [] = ⊥
+Later P (e ∷ es) = P e ⊎ Later P es
+
+-- a part before a list of which something holds
+pub record PartKeeps (Q : List Entry → Type 0) (p : Part) : Type 0 where
+  pub by : (next : ℕ) (rest : List Entry) → Q rest → Q (p next rest)
+
 module _ (Q : List Entry → Type 0) (more : (e : Entry) (es : List Entry) → Q es → Q (e ∷ es)) where
-  flush_keeps : (os : List Operation) (es : List Entry) → Q es → Q (flushed os es)
+  pub flush_keeps : (os : List Operation) (es : List Entry) → Q es → Q (flushed os es)
   flush_keeps [] es h = h
   flush_keeps (o ∷ os) es h = more (Run (o ∷ os)) es h
 
@@ -18,7 +26,7 @@ module _ (Q : List Entry → Type 0) (more : (e : Entry) (es : List Entry) → Q
   goto_keeps true k rest h = h
   goto_keeps false k rest h = more (Goto k) rest h
 
-  if_keeps : (a b : Option ℕ) (t : Test) (hit miss : Part) (l next : ℕ) (rest : List Entry) → PartKeeps Q hit → PartKeeps Q miss → Q rest → Q (if_code t a b hit miss l next rest)
+  pub if_keeps : (a b : Option ℕ) (t : Test) (hit miss : Part) (l next : ℕ) (rest : List Entry) → PartKeeps Q hit → PartKeeps Q miss → Q rest → Q (if_code t a b hit miss l next rest)
   if_keeps (Some a) (Some b) t hit miss l next rest ph pm h = both (a == next)
     where
       both : (e : Bool) → Q (if e then Branch (opposite t) b ∷ rest else Branch t a ∷ goto b next rest)
@@ -28,7 +36,7 @@ module _ (Q : List Entry → Type 0) (more : (e : Entry) (es : List Entry) → Q
   if_keeps None (Some b) t hit miss l next rest ph pm h = more _ _ (ph.by next rest h)
   if_keeps None None t hit miss l next rest ph pm h = more _ _ (ph.by l (Place l ∷ miss next rest) (more _ _ (pm.by next rest h)))
 
-  loop_keeps : (none : Bool) (head start go : ℕ) (first body third : Part) (next : ℕ) (rest : List Entry) → PartKeeps Q first → PartKeeps Q body → PartKeeps Q third → Q rest → Q (loop_code none head start go first body third next rest)
+  pub loop_keeps : (none : Bool) (head start go : ℕ) (first body third : Part) (next : ℕ) (rest : List Entry) → PartKeeps Q first → PartKeeps Q body → PartKeeps Q third → Q rest → Q (loop_code none head start go first body third next rest)
   loop_keeps true head start go first body third next rest pf pb pt h =
       more _ _ (pf.by start _ (more (Place start) _ (pb.by next _ (more (Close head next) _ h))))
   loop_keeps false head start go first body third next rest pf pb pt h =
@@ -67,3 +75,6 @@ module _ (Q : List Entry → Type 0) (more : (e : Entry) (es : List Entry) → Q
   kept_anywhere (item Break xs) os w base = record { by = λ next rest h. flush_keeps os _ (more _ _ (jump_keeps (is_end xs) _ rest ((kept_anywhere xs [] w base).by next rest h) h)) }
   kept_anywhere (item Continue xs) os w base = record { by = λ next rest h. flush_keeps os _ (more _ _ (jump_keeps (is_end xs) _ rest ((kept_anywhere xs [] w base).by next rest h) h)) }
   kept_anywhere (item Return xs) os w base = record { by = λ next rest h. flush_keeps os _ (more _ _ (jump_keeps (is_end xs) _ rest ((kept_anywhere xs [] w base).by next rest h) h)) }
+
+pub later : (P : Entry → Type 0) (xs : ItemList) (os : List Operation) (w : Ways) (base : ℕ) → PartKeeps (Later P) (emit xs os w base)
+later P xs os w base = kept_anywhere (Later P) (λ e es h. inr h) xs os w base

@@ -6,6 +6,7 @@ use Rattle.acc_code.specs.AccTree.{Item, Op, If, Loop, Switch, Case, Clear, Call
 use Rattle.acc_code.specs.Emittable.{Throughout, Within, cases_in, counting, IsPlaced, IsPlacedItem}
 use Rattle.frame_runs.specs.Steps.{Operation, operation}
 use Rattle.frame_flow.specs.declared.ways.Ways.{Ways}
+use Rattle.flow_laws.proofs.Anywhere.{Later, PartKeeps, later}
 use Rattle.frame_flow.specs.Entries.{Entry, Run, Head, Place, Close, Branch, Goto, Dispatch, CallTo, CallHelper, Wipe, Ret, Finish, flushed}
 use Rattle.frame_flow.specs.Flow.{Part, labels, item_labels, is_end, opposite, target, goto, if_code, loop_code, behind_label, behind_jump, inner, first_ways, turn_ways, third_ways, switch_ways, emit}
 
@@ -111,11 +112,6 @@ pub cases_also : (M N : ℕ → Type 0) (c : ℕ) (ns : List ℕ) → ((l : ℕ)
 cases_also M N c [] f h = tt
 cases_also M N c (n ∷ ns) f h = (f (c + n) h.0, cases_also M N c ns f h.1)
 
--- such an entry comes later
-abbrev pub Later : (Entry → Type 0) → List Entry → Type 0
-Later P [] = ⊥
-Later P (e ∷ es) = P e ⊎ Later P es
-
 -- the end of the loop with this head
 abbrev pub Closes : ℕ → Entry → Type 0
 Closes k (Run os) = ⊥
@@ -161,10 +157,6 @@ IsClosed (Wipe v from l) es = Unit {0}
 IsClosed Ret es = Unit {0}
 IsClosed (Finish l) es = Unit {0}
 
--- a part before a list of which something holds
-pub record PartKeeps (Q : List Entry → Type 0) (p : Part) : Type 0 where
-  pub by : (next : ℕ) (rest : List Entry) → Q rest → Q (p next rest)
-
 module _ (M : ℕ → Type 0) (C : Item → Type 0) where
   -- it stays with each entry of items before it
   abbrev pub Stays : (List Entry → Type 0) → Type 0
@@ -205,9 +197,6 @@ module _ (M : ℕ → Type 0) (C : Item → Type 0) where
   jump_keeps Q true code rest c h = h
   jump_keeps Q false code rest c h = c
 
-  pub later_stays : (P : Entry → Type 0) → Stays (Later P)
-  later_stays P e es a c h = inr h
-
   pub kept : (Q : List Entry → Type 0) → Stays Q → (xs : ItemList) → Placed C xs → (os : List Operation) (w : Ways) (base : ℕ) → ((l : ℕ) → base ≤ l → l < base + labels xs → M l) → CasesAre M w.cases (cases_in xs) → PartKeeps Q (emit xs os w base)
   kept Q more end p os w base r c = record { by = λ next rest h. flush_keeps Q more os _ (goto_keeps Q more (w.onward == next) w.onward rest h) }
   kept Q more (item (Op o m) xs) p os w base r c = record { by = λ next rest h. (kept Q more xs p.1 (os ++ operation o m ∷ []) w base (λ l g k. r l g (omega (arith, k))) c).by next rest h }
@@ -227,10 +216,9 @@ module _ (M : ℕ → Type 0) (C : Item → Type 0) where
         let r1 : (l : ℕ) → base + 4 ≤ l → l < base + 4 + labels before → M l = λ l g k. r l (omega (arith, g)) (omega (arith, k)) in
         let r2 : (l : ℕ) → base + 4 + labels before ≤ l → l < base + 4 + labels before + labels body → M l = λ l g k. r l (omega (arith, g)) (omega (arith, k)) in
         let r3 : (l : ℕ) → base + 4 + labels before + labels body ≤ l → l < base + 4 + labels before + labels body + labels third → M l = λ l g k. r l (omega (arith, g)) (omega (arith, k)) in
-        let L = Later (Closes (base + 1)) in
-        let lm = later_stays (Closes (base + 1)) in
+        let closes = Closes (base + 1) in
         flush_keeps Q more os _ (loop_keeps Q more (is_end third) (base + 1) (base + 2) (base + 3) _ _ _ _ _ (r (base + 1) (omega arith) (omega arith)) (r (base + 2) (omega arith) (omega arith)) (r (base + 3) (omega arith) (omega arith))
-        (kept L lm before p.0.1 [] w1 (base + 4) r1 (no_case M w.cases _ p.0.0)) (kept L lm body p.0.3 [] w2 b2 r2 (no_case M w.cases _ p.0.2)) (kept L lm third p.0.5 [] w3 b3 r3 (no_case M w.cases _ p.0.4))
+        (later closes before [] w1 (base + 4)) (later closes body [] w2 b2) (later closes third [] w3 b3)
         (kept Q more before p.0.1 [] w1 (base + 4) r1 (no_case M w.cases _ p.0.0)) (kept Q more body p.0.3 [] w2 b2 r2 (no_case M w.cases _ p.0.2)) (kept Q more third p.0.5 [] w3 b3 r3 (no_case M w.cases _ p.0.4))
         (label_keeps Q more (is_end xs) base _ rest (r base (omega arith) (omega arith)) ((kept Q more xs p.1 [] w (base + item_labels (Loop before body third last)) (λ l g k. r l (omega (arith, g)) (omega (arith, k))) c).by next rest h) h));
   }

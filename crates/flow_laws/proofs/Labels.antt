@@ -8,7 +8,8 @@ use Rattle.frame_runs.specs.Steps.{Operation, operation}
 use Rattle.frame_flow.specs.declared.ways.Ways.{Ways}
 use Rattle.frame_flow.specs.Entries.{Entry, Run, Head, Place, Close, Branch, Goto, Dispatch, CallTo, CallHelper, Wipe, Ret, Finish, flushed}
 use Rattle.frame_flow.specs.Flow.{Part, labels, item_labels, is_end, opposite, target, goto, if_code, loop_code, behind_label, behind_jump, inner, next_behind, first_ways, turn_ways, third_ways, switch_ways, emit}
-use Rattle.flow_laws.proofs.Keeping.{Any, Placed, CasesAre, no_case, counted, cases_also, PartKeeps, Allowed, IsClosed, kept, label_keeps}
+use Rattle.flow_laws.proofs.Anywhere.{PartKeeps}
+use Rattle.flow_laws.proofs.Keeping.{Any, Placed, CasesAre, no_case, counted, cases_also, Allowed, IsClosed, kept, label_keeps}
 
 -- the entry may write a mark with the label
 abbrev pub Places : ℕ → Entry → Type 0

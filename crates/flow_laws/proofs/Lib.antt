@@ -1,4 +1,5 @@
-pub mod Keeping
 pub mod Anywhere
+pub mod Keeping
 pub mod Words
 pub mod Labels
+pub mod Names

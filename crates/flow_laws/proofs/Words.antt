@@ -16,8 +16,7 @@ use Rattle.frame_flow.specs.Entries.{Entry, Run, Head, Place, Close, Branch, Got
 use Rattle.frame_flow.specs.Flow.{body_entries}
 use Rattle.frame_flow.specs.Settings.{Setting, cells_of}
 use Rattle.frame_flow.specs.Cuts.{State, begun, shut, naming, has_access, behind_run, case_items, default_label, dispatch_items, jump_item, wipe_items, place_items, behind_place, close_items, behind_close, wiped_items, behind_wipe, finish_items, entry_items, behind_entry, cut, function_items}
-use Rattle.flow_laws.proofs.Keeping.{Later}
-use Rattle.flow_laws.proofs.Anywhere.{kept_anywhere}
+use Rattle.flow_laws.proofs.Anywhere.{Later, later}
 
 -- control passes
 abbrev pub Passed : Before → Type 0
@@ -120,7 +119,7 @@ cut_word m (e ∷ es) s (inl q) p = front_word (entry_items m s e) _ (last_word 
 cut_word m (e ∷ es) s (inr q) p = ⊎_elim (λ h. front_word (entry_items m s e) _ h) (λ h. back_word (entry_items m s e) _ (cut_word m es (behind_entry m s e) q h)) (entry_word m s e p)
 
 pub body_finishes : (body : ItemList) → Later Finishes (body_entries body)
-body_finishes body = (kept_anywhere (Later Finishes) (λ e es h. inr h) body [] _ 1).by 0 (Finish 0 ∷ []) (inl tt)
+body_finishes body = (later Finishes body [] _ 1).by 0 (Finish 0 ∷ []) (inl tt)
 
 pub piece_has_word : (m : Setting) (body : ItemList) → 1 ≤ items_size (function_items m body)
 piece_has_word m body = back_word (plain_items (entry_code m.back)) _ (cut_word m (body_entries body) begun (body_finishes body) tt)
