@@ -73,7 +73,7 @@ abbrev pub Any : Item → Type 0
 Any x = Unit {0}
 
 mutual
-  any : (xs : ItemList) → Throughout Any xs
+  pub any : (xs : ItemList) → Throughout Any xs
   any end = tt
   any (item x xs) = (tt, any_within x, any xs)
 

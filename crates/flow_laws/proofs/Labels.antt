@@ -59,7 +59,7 @@ avoids k xs p os w base o c = kept (λ l. l ≢ k) Any (Avoids k) (avoids_stays 
     outside (inr a) l g h = omega (arith, a, h)
 
 -- labels of cases below the own ones
-abbrev Between : ℕ → ℕ → ℕ → Type 0
+abbrev pub Between : ℕ → ℕ → ℕ → Type 0
 Between low mid l = (low ≤ l) × (l < mid)
 
 below_avoid : (low mid k c : ℕ) (ns : List ℕ) → mid ≤ k → CasesAre (Between low mid) c ns → CasesAre (λ l. l ≢ k) c ns

@@ -3,3 +3,6 @@ pub mod Keeping
 pub mod Words
 pub mod Labels
 pub mod Names
+pub mod Entries
+pub mod Pieces
+pub mod Standing
