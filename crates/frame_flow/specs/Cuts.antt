@@ -24,7 +24,8 @@ use Rattle.frame_flow.specs.declared.state.Before.{Before}
 use Rattle.frame_flow.specs.declared.state.Before.TheVariants.{Open, Shut, Gone}
 use Rattle.frame_flow.specs.Entries.{Entry, Run, Head, Place, Close, Branch, Goto, Dispatch, CallTo, CallHelper, Wipe, Ret, Finish}
 use Rattle.frame_flow.specs.Flow.{body_entries}
-use Rattle.frame_flow.specs.Settings.{Setting, Words, cells_of, function_name, code_in, helper_name}
+use Rattle.frame_flow.specs.declared.setting.Words.{Words}
+use Rattle.frame_flow.specs.Settings.{Setting, cells_of, function_name, code_in, helper_name}
 
 -- what stands before, and which labels its jumps name
 pub record State : Type 0 where

@@ -10,4 +10,6 @@ mod state;
 mod ways;
 
 pub use frame_runs::{ScalarPlace, Site};
-pub use setting::Setting;
+pub use setting::{Setting, Words};
+pub use state::Before;
+pub use ways::Ways;

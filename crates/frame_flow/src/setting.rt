@@ -23,9 +23,9 @@ pub struct Setting<'a> {
 
 /// Words of data memory, from an address on.
 #[derive(Clone, Copy, Debug)]
-pub(crate) struct Words {
-    pub(crate) first: u16,
-    pub(crate) count: u16,
+pub struct Words {
+    pub first: u16,
+    pub count: u16,
 }
 
 fn number_in(numbers: &[u16], n: u32) -> u16

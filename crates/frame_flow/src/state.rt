@@ -2,7 +2,7 @@
 
 /// What stands directly before.
 #[derive(Clone, Copy, Debug, PartialEq, Eq)]
-pub(crate) enum Before {
+pub enum Before {
     /// An access through a list's register, behind the last cut.
     Open,
     /// No such access.

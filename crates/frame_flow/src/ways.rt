@@ -2,13 +2,13 @@
 
 /// Labels to which control goes.
 #[derive(Clone, Copy, Debug)]
-pub(crate) struct Ways {
+pub struct Ways {
     /// Where the list ends.
-    pub(crate) onward: u32,
+    pub onward: u32,
     /// At a Break.
-    pub(crate) broken: u32,
+    pub broken: u32,
     /// At a Continue.
-    pub(crate) continued: u32,
+    pub continued: u32,
     /// The label of the first case of the switch around it.
-    pub(crate) cases: u32,
+    pub cases: u32,
 }

@@ -1,0 +1,8 @@
+pub mod Anywhere
+pub mod Keeping
+pub mod Words
+pub mod Labels
+pub mod Names
+pub mod Entries
+pub mod Pieces
+pub mod Standing

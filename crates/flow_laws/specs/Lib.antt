@@ -1,0 +1,2 @@
+-- What laws say of the items of a function's piece.
+pub mod Calls
