@@ -11,3 +11,4 @@ mod sizes;
 
 pub use fault::LinkFault;
 pub use linker::{CODE_WORDS, link};
+pub use sizes::counted_words;

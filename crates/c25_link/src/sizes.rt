@@ -1,5 +1,5 @@
 //! How many words code takes, and the addresses that it has so.
-ghost use Rattle.std.specs.Prelude.{◌≡◌, ◌<◌, ◌≤◌, ◌^◌, map};
+ghost use Rattle.std.specs.Prelude.{◌≡◌, ◌+◌, ◌<◌, ◌≤◌, ◌^◌, map, MatchOption};
 ghost use Rattle.c25_isa.specs.Pieces.{piece_of, item_size, items_size};
 ghost use Rattle.c25_isa.specs.Step.{wrap16 as wrapped};
 ghost use Rattle.c25_isa.specs.Table.{length_of, second_word};
@@ -17,6 +17,28 @@ pub fn pieces_words(pieces: &[Piece]) -> u32
         words += items_words(&piece.items);
     }
     words
+}
+
+/// How many words the pieces take together, where that is a number of 32 bits.
+pub fn counted_words(pieces: &[Piece]) -> Option<u32>
+    ensures { MatchOption result (2 ^ 32 ≤ words_together (map piece_of pieces.now)) (λ words. words ≡ words_together (map piece_of pieces.now)) }
+{
+    let mut words: u32 = 0;
+    for piece in pieces {
+        words = with_items(words, &piece.items)?;
+    }
+    Some(words)
+}
+
+// A number of words with those of items.
+fn with_items(before: u32, items: &[PieceItem]) -> Option<u32>
+    ensures { MatchOption result (2 ^ 32 ≤ before + items_size items.now) (λ words. words ≡ before + items_size items.now) }
+{
+    let mut words = before;
+    for item in items {
+        words = words.checked_add(item_words(item))?;
+    }
+    Some(words)
 }
 
 /// How many words items take.
