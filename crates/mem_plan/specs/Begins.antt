@@ -1,4 +1,4 @@
--- Where frames begin, in words behind the static objects (docs/LAYOUT.md): behind the frame of each function that calls this one.
+-- Where frames begin, in words behind the static objects (docs/LAYOUT.md, "Data memory"): behind the frame of each function that calls this one.
 use Rattle.std.specs.Prelude.{◌≡◌, ◌≤◌, ℕ, ◌+◌, ◌⊎◌}
 
 -- a function's frame begins where that of a caller ends

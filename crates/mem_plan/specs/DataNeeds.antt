@@ -1,4 +1,4 @@
--- How many words of data memory objects and functions need (docs/LAYOUT.md).
+-- How many words of data memory objects and functions need (docs/LAYOUT.md, "Data memory").
 use Rattle.std.specs.Prelude.{ℕ, ◌+◌, ◌^◌, Bool, true, false, ◌||◌, if◌then◌else◌, List, [], ◌∷◌, slice_get, Option, Some, None}
 use Rattle.c_tree.specs.TypedTree.{ObjectTree}
 use Rattle.mem_plan.specs.declared.needs.FunctionNeeds.{FunctionNeeds}

@@ -1,4 +1,4 @@
--- Where everything lies in data memory (docs/LAYOUT.md). Scratch words come first, then the static objects, then the frames: a frame has
+-- Where everything lies in data memory (docs/LAYOUT.md, "Data memory"). Scratch words come first, then the static objects, then the frames: a frame has
 -- its lists of scalars, its local objects and its return word. Each object has a spare word behind it.
 use Rattle.std.specs.Prelude.{◌≡◌, ◌≤◌, ◌<◌, ⊤, ℕ, suc, ◌+◌, max, map, List, [], ◌∷◌, length, slice_get, Some, None, if◌then◌else◌}
 use Rattle.c_tree.specs.TypedTree.{ObjectTree}
