@@ -16,11 +16,11 @@ FIRST_REGISTER = 2
 abbrev pub place : ℕ → ℕ → ScalarPlace
 place r a = record { register = r; address = a }
 
--- where a scalar stands in a list
 abbrev pub one_further : Option ℕ → Option ℕ
 one_further None = None
 one_further (Some i) = Some (suc i)
 
+-- where a scalar stands in a list
 abbrev pub position_in : List ℕ → ℕ → Option ℕ
 position_in [] n = None
 position_in (m ∷ ms) n = if m == n then Some 0 else one_further (position_in ms n)

@@ -52,7 +52,7 @@ abbrev pub up_to_last : List ℕ → List ℕ
 up_to_last [] = []
 up_to_last (w ∷ ws) = before_zeros w (up_to_last ws)
 
--- a word is loaded, unless it is in the accumulator already
+-- whether the accumulator holds a word, by the one that is known to be there
 abbrev pub is_held : Option ℕ → ℕ → Bool
 is_held None w = false
 is_held (Some v) w = v == w
@@ -60,6 +60,7 @@ is_held (Some v) w = v == w
 abbrev pub load_of : ℕ → Instr
 load_of w = if nat_lt w 256 then Lack w else Lalk 0 w
 
+-- a word is loaded, unless it is in the accumulator already
 abbrev pub word_load : Option ℕ → ℕ → List Instr
 word_load held w = if is_held held w then [] else load_of w ∷ []
 
