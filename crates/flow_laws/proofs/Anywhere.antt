@@ -1,12 +1,12 @@
 -- What holds of the code behind items, and stays so with any entry before it, holds of the items' code.
-use Rattle.std.proofs.Common.{◌≡◌, ℕ, ◌+◌, ◌<◌, ◌≤◌, Bool, true, false, ◌⊎◌, inl, inr, List, [], ◌∷◌, ◌++◌, length, Option, Some, None, refl, arith}
+use Rattle.std.proofs.Common.{ℕ, ◌+◌, Bool, true, false, ◌⊎◌, inr, List, [], ◌∷◌, ◌++◌, length, Option, Some, None}
 use Rattle.std.specs.Prelude.{◌==◌, if◌then◌else◌}
 use Rattle.acc_code.specs.declared.operation.Test.{Test}
-use Rattle.acc_code.specs.AccTree.{Item, Op, If, Loop, Switch, Case, Clear, Call, Helper, Break, Continue, Return, ItemList, end, item}
+use Rattle.acc_code.specs.AccTree.{Op, If, Loop, Switch, Case, Clear, Call, Helper, Break, Continue, Return, ItemList, end, item}
 use Rattle.frame_runs.specs.Steps.{Operation, operation}
 use Rattle.frame_flow.specs.declared.ways.Ways.{Ways}
-use Rattle.frame_flow.specs.Entries.{Entry, Run, Head, Place, Close, Branch, Goto, Dispatch, CallTo, CallHelper, Wipe, Ret, Finish, flushed}
-use Rattle.frame_flow.specs.Flow.{Part, labels, item_labels, is_end, opposite, target, goto, if_code, loop_end, loop_code, behind_label, behind_jump, inner, next_behind, turn_end, first_ways, turn_ways, third_ways, switch_ways, emit, body_entries}
+use Rattle.frame_flow.specs.Entries.{Entry, Run, Place, Close, Branch, Goto, flushed}
+use Rattle.frame_flow.specs.Flow.{Part, labels, item_labels, is_end, opposite, target, goto, if_code, loop_code, behind_label, behind_jump, inner, first_ways, turn_ways, third_ways, switch_ways, emit}
 
 -- such an entry comes later
 abbrev pub Later : (Entry → Type 0) → List Entry → Type 0

@@ -1,30 +1,23 @@
 -- Marks and jumps of an entry's items, and the labels that are named behind it.
-use Rattle.std.proofs.Common.{◌≡◌, ◌≢◌, ℕ, zero, suc, ◌+◌, ◌-◌, ◌<◌, ◌≤◌, Bool, true, false, ◌⊎◌, inl, inr, List, [], ◌∷◌, ◌++◌, length, Option, Some, None, ⊎_elim, refl, sym, ◌∙◌, ap, subst, arith}
-use Rattle.std.specs.Prelude.{◌==◌, ◌||◌, if◌then◌else◌, All, AllPairs}
+use Rattle.std.proofs.Common.{◌≡◌, ◌≢◌, ℕ, zero, suc, ◌+◌, ◌<◌, ◌≤◌, Bool, true, false, ◌⊎◌, inl, inr, List, [], ◌∷◌, ◌++◌, length, ⊎_elim, refl, sym, ◌∙◌, ap, subst, arith}
+use Rattle.std.specs.Prelude.{◌==◌, ◌||◌, All, AllPairs}
 use Rattle.std.proofs.Math.Nat.{eq-or-lt_of_le}
 use Rattle.std.proofs.lemmas.Bool.Decides.{eqb_tells}
 use Rattle.std.proofs.lemmas.Bool.{eq-eqb}
 use Rattle.c25_isa.specs.declared.instruction.Instr.{Instr}
-use Rattle.c25_isa.specs.declared.instruction.JumpOp.{JumpOp}
 use Rattle.c25_isa.specs.declared.instruction.JumpOp.TheVariants as jump
 use Rattle.c25_isa.specs.declared.piece.PieceItem.{PieceItem}
 use Rattle.c25_isa.specs.declared.piece.PieceItem.TheVariants as piece
-use Rattle.c25_code.specs.Items.{plain_items, entry_code, return_code}
+use Rattle.c25_code.specs.Items.{plain_items}
 use Rattle.c25_code.specs.Links.{IsMarkOf, MarksDiffer}
 use Rattle.acc_code.specs.declared.item.CaseLabel.{CaseLabel}
 use Rattle.acc_code.specs.declared.item.CaseLabel.TheVariants.{Value, Default}
-use Rattle.acc_code.specs.AccTree.{Item, Call, Helper}
-use Rattle.frame_flow.specs.declared.setting.Words.{Words}
 use Rattle.frame_flow.specs.declared.state.Before.{Before}
 use Rattle.frame_flow.specs.declared.state.Before.TheVariants.{Open, Shut, Gone}
-use Rattle.frame_flow.specs.Entries.{Entry, Run, Head, Place, Close, Branch, Goto, Dispatch, CallTo, CallHelper, Wipe, Ret, Finish}
-use Rattle.frame_flow.specs.Settings.{Setting, cells_of, code_in, function_name, helper_name}
-use Rattle.frame_flow.specs.Cuts.{State, shut, naming, naming_cases, less_by, jump_item, case_items, default_label, dispatch_items, wipe_items, place_items, behind_place, close_items, behind_close, wiped_items, behind_wipe, finish_items, entry_items, behind_entry}
-use Rattle.flow_laws.specs.Calls.{IsJumpTo, CallsAre, IsNameOf}
-use Rattle.flow_laws.proofs.Anywhere.{Later}
-use Rattle.flow_laws.proofs.Keeping.{Closes, IsClosed, Allowed}
-use Rattle.flow_laws.proofs.Labels.{Places}
-use Rattle.flow_laws.proofs.Names.{Ends, Names}
+use Rattle.frame_flow.specs.Entries.{Close, Dispatch}
+use Rattle.frame_flow.specs.Cuts.{State, naming, naming_cases, less_by, jump_item, case_items, default_label, dispatch_items, place_items, behind_place, close_items, behind_close}
+use Rattle.flow_laws.specs.Calls.{IsJumpTo}
+use Rattle.flow_laws.proofs.Names.{Names}
 
 -- items one behind another
 pub front_mark : (k : ℕ) (a b : List PieceItem) → IsMarkOf k a → IsMarkOf k (a ++ b)

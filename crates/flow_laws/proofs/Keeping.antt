@@ -1,5 +1,5 @@
 -- What holds of the code behind items, and stays so with each entry of theirs before it, holds of the items' code.
-use Rattle.std.proofs.Common.{◌≡◌, ◌≢◌, ℕ, zero, suc, ◌+◌, ◌<◌, ◌≤◌, Bool, true, false, ◌⊎◌, inl, inr, List, [], ◌∷◌, ◌++◌, length, Option, Some, None, refl, sym, subst, arith}
+use Rattle.std.proofs.Common.{◌≡◌, ◌≢◌, ℕ, zero, suc, ◌+◌, ◌<◌, ◌≤◌, Bool, true, false, inl, inr, List, [], ◌∷◌, ◌++◌, length, Option, Some, None, refl, sym, subst, arith}
 use Rattle.std.specs.Prelude.{◌==◌, if◌then◌else◌, AllPairs}
 use Rattle.acc_code.specs.declared.operation.Test.{Test}
 use Rattle.acc_code.specs.AccTree.{Item, Op, If, Loop, Switch, Case, Clear, Call, Helper, Break, Continue, Return, ItemList, end, item}
@@ -202,9 +202,9 @@ module _ (M : ℕ → Type 0) (C : Item → Type 0) where
   kept Q more (item (Op o m) xs) p os w base r c = record { by = λ next rest h. (kept Q more xs p.1 (os ++ operation o m ∷ []) w base (λ l g k. r l g (omega (arith, k))) c).by next rest h }
   kept Q more (item (If t hit miss) xs) p os w base r c = record {
     by = λ next rest h. flush_keeps Q more os _ (if_keeps Q more (target (inner xs w base) hit) (target (inner xs w base) miss) t _ _ (base + 1) _ _ (r (base + 1) (omega arith) (omega arith))
-      (kept Q more hit p.0.1 [] (inner xs w base) (base + 2) (λ l g k. r l (omega (arith, g)) (omega (arith, k))) (no_case M w.cases _ p.0.0))
-      (kept Q more miss p.0.3 [] (inner xs w base) (base + 2 + labels hit) (λ l g k. r l (omega (arith, g)) (omega (arith, k))) (no_case M w.cases _ p.0.2))
-      (label_keeps Q more (is_end xs) base _ rest (r base (omega arith) (omega arith)) ((kept Q more xs p.1 [] w (base + item_labels (If t hit miss)) (λ l g k. r l (omega (arith, g)) (omega (arith, k))) c).by next rest h) h));
+        (kept Q more hit p.0.1 [] (inner xs w base) (base + 2) (λ l g k. r l (omega (arith, g)) (omega (arith, k))) (no_case M w.cases _ p.0.0))
+        (kept Q more miss p.0.3 [] (inner xs w base) (base + 2 + labels hit) (λ l g k. r l (omega (arith, g)) (omega (arith, k))) (no_case M w.cases _ p.0.2))
+        (label_keeps Q more (is_end xs) base _ rest (r base (omega arith) (omega arith)) ((kept Q more xs p.1 [] w (base + item_labels (If t hit miss)) (λ l g k. r l (omega (arith, g)) (omega (arith, k))) c).by next rest h) h));
   }
   kept Q more (item (Loop before body third last) xs) p os w base r c = record {
     by = λ next rest h.
@@ -224,8 +224,8 @@ module _ (M : ℕ → Type 0) (C : Item → Type 0) where
   }
   kept Q more (item (Switch cases body) xs) p os w base r c = record {
     by = λ next rest h. flush_keeps Q more os _ (more _ _ p.0.0 tt
-      ((kept Q more body p.0.2 [] (switch_ways base (inner xs w base)) (base + 1 + length cases) (λ l g k. r l (omega (arith, g)) (omega (arith, k))) (subst (CasesAre M (base + 1)) (sym p.0.1) (counted M (base + 1) 0 (length cases) (λ l g k. r l (omega (arith, g)) (omega (arith, k)))))).by _ _
-      (label_keeps Q more (is_end xs) base _ rest (r base (omega arith) (omega arith)) ((kept Q more xs p.1 [] w (base + item_labels (Switch cases body)) (λ l g k. r l (omega (arith, g)) (omega (arith, k))) c).by next rest h) h)));
+        ((kept Q more body p.0.2 [] (switch_ways base (inner xs w base)) (base + 1 + length cases) (λ l g k. r l (omega (arith, g)) (omega (arith, k))) (subst (CasesAre M (base + 1)) (sym p.0.1) (counted M (base + 1) 0 (length cases) (λ l g k. r l (omega (arith, g)) (omega (arith, k)))))).by _ _
+        (label_keeps Q more (is_end xs) base _ rest (r base (omega arith) (omega arith)) ((kept Q more xs p.1 [] w (base + item_labels (Switch cases body)) (λ l g k. r l (omega (arith, g)) (omega (arith, k))) c).by next rest h) h)));
   }
   kept Q more (item (Case n) xs) p os w base r c = record { by = λ next rest h. flush_keeps Q more os _ (more _ _ c.0 tt ((kept Q more xs p.1 [] w base (λ l g k. r l g (omega (arith, k))) c.1).by next rest h)) }
   kept Q more (item (Clear v from) xs) p os w base r c = record { by = λ next rest h. flush_keeps Q more os _ (more _ _ (r base (omega arith) (omega arith)) tt ((kept Q more xs p.1 [] w (base + 1) (λ l g k. r l (omega (arith, g)) (omega (arith, k))) c).by next rest h)) }

@@ -6,3 +6,4 @@ pub mod Names
 pub mod Entries
 pub mod Pieces
 pub mod Standing
+mod Examples

@@ -1,11 +1,11 @@
 -- Each label that an entry's jumps name is that of a loop's head before it, or is placed later.
-use Rattle.std.proofs.Common.{◌≡◌, ◌≢◌, ℕ, zero, suc, ◌+◌, ◌<◌, ◌≤◌, Bool, true, false, ◌⊎◌, inl, inr, List, [], ◌∷◌, ◌++◌, length, Option, Some, None, ⊎_elim, refl, sym, ◌∙◌, subst, arith}
+use Rattle.std.proofs.Common.{◌≡◌, ℕ, zero, suc, ◌+◌, ◌<◌, ◌≤◌, Bool, true, false, ◌⊎◌, inl, inr, List, [], ◌∷◌, ◌++◌, length, Option, Some, None, ⊎_elim, refl, sym, ◌∙◌, subst, arith}
 use Rattle.std.specs.Prelude.{◌==◌, if◌then◌else◌}
 use Rattle.std.proofs.Math.Nat.{eq-or-lt_of_le}
 use Rattle.acc_code.specs.declared.item.CaseLabel.{CaseLabel}
 use Rattle.acc_code.specs.declared.item.CaseLabel.TheVariants.{Value, Default}
 use Rattle.acc_code.specs.declared.operation.Test.{Test}
-use Rattle.acc_code.specs.AccTree.{Item, Op, If, Loop, Switch, Case, Clear, Call, Helper, Break, Continue, Return, ItemList, end, item}
+use Rattle.acc_code.specs.AccTree.{Op, If, Loop, Switch, Case, Clear, Call, Helper, Break, Continue, Return, ItemList, end, item}
 use Rattle.acc_code.specs.Emittable.{cases_in, counting}
 use Rattle.frame_runs.specs.Steps.{Operation, operation}
 use Rattle.frame_flow.specs.declared.ways.Ways.{Ways}
@@ -250,14 +250,14 @@ case_placed k xs os w base next rest q = by xs os base q
     by (item (If t hit miss) xs) os base q =
         let v = inner xs w base in
         flush_keeps (Later (Ends k)) on os _ (if_keeps (Later (Ends k)) on (target v hit) (target v miss) t _ _ (base + 1) _ _ (later (Ends k) hit [] v (base + 2)) (later (Ends k) miss [] v (base + 2 + labels hit))
-          (last_label (Later (Ends k)) (is_end xs) base _ rest (has_items k w.cases xs q) (inr (by xs [] (base + item_labels (If t hit miss)) q))))
+        (last_label (Later (Ends k)) (is_end xs) base _ rest (has_items k w.cases xs q) (inr (by xs [] (base + item_labels (If t hit miss)) q))))
     by (item (Loop before body third last) xs) os base q =
         let v = inner xs w base in
         flush_keeps (Later (Ends k)) on os _ (loop_keeps (Later (Ends k)) on (is_end third) (base + 1) (base + 2) (base + 3) _ _ _ _ _ (later (Ends k) before [] (first_ways third base v) (base + 4)) (later (Ends k) body [] (turn_ways third base v) (base + 4 + labels before)) (later (Ends k) third [] (third_ways base v) (base + 4 + labels before + labels body))
-          (last_label (Later (Ends k)) (is_end xs) base _ rest (has_items k w.cases xs q) (inr (by xs [] (base + item_labels (Loop before body third last)) q))))
+        (last_label (Later (Ends k)) (is_end xs) base _ rest (has_items k w.cases xs q) (inr (by xs [] (base + item_labels (Loop before body third last)) q))))
     by (item (Switch cases body) xs) os base q =
         flush_keeps (Later (Ends k)) on os _ (inr ((later (Ends k) body [] (switch_ways base (inner xs w base)) (base + 1 + length cases)).by _ _
-          (last_label (Later (Ends k)) (is_end xs) base _ rest (has_items k w.cases xs q) (inr (by xs [] (base + item_labels (Switch cases body)) q)))))
+        (last_label (Later (Ends k)) (is_end xs) base _ rest (has_items k w.cases xs q) (inr (by xs [] (base + item_labels (Switch cases body)) q)))))
     by (item (Case n) xs) os base (inl e) = flush_keeps (Later (Ends k)) on os _ (inl e)
     by (item (Case n) xs) os base (inr q) = flush_keeps (Later (Ends k)) on os _ (inr (by xs [] base q))
     by (item (Clear v from) xs) os base q = flush_keeps (Later (Ends k)) on os _ (inr (by xs [] (base + 1) q))
@@ -287,9 +287,9 @@ bound H (item (If t hit miss) xs) p os w base = record {
       let kj = own_known H (is_end xs) w.onward base tail rest ho in
       let kn = own_known H (is_end xs) next base tail rest hn in
       flush_bound H os _ (if_bound H (target v hit) (target v miss) t (emit hit [] v (base + 2)) (emit miss [] v b2) v (base + 1) (next_behind xs base next) all
-        (λ k. later (Ends k) hit [] v (base + 2)) (λ k. later (Ends k) miss [] v b2) (bound H hit p.0.1 [] v (base + 2)) (bound H miss p.0.3 [] v b2)
-        (target_known H hit v all kj (on w.broken hb) (on w.continued hc)) (target_known H miss v all kj (on w.broken hb) (on w.continued hc)) kj (on w.broken hb) (on w.continued hc) kn
-        (label_bound H (is_end xs) base tail rest ((bound H xs p.1 [] w b3).by next rest ho hb hc hn h) h));
+      (λ k. later (Ends k) hit [] v (base + 2)) (λ k. later (Ends k) miss [] v b2) (bound H hit p.0.1 [] v (base + 2)) (bound H miss p.0.3 [] v b2)
+      (target_known H hit v all kj (on w.broken hb) (on w.continued hc)) (target_known H miss v all kj (on w.broken hb) (on w.continued hc)) kj (on w.broken hb) (on w.continued hc) kn
+      (label_bound H (is_end xs) base tail rest ((bound H xs p.1 [] w b3).by next rest ho hb hc hn h) h));
 }
 bound H (item (Loop before body third last) xs) p os w base = record {
   by = λ next rest ho hb hc hn h.
@@ -306,9 +306,9 @@ bound H (item (Loop before body third last) xs) p os w base = record {
       let kj = own_known H (is_end xs) w.onward base tail rest ho in
       let kn = own_known H (is_end xs) next base tail rest hn in
       flush_bound H os _ (loop_bound H (is_end third) (base + 1) (base + 2) (base + 3) v.onward w.cases (emit before [] w1 (base + 4)) (emit body [] w2 b2) (emit third [] w3 b3) (next_behind xs base next) all
-        (λ k. later (Ends k) before [] w1 (base + 4)) (λ k. later (Ends k) body [] w2 b2) (λ k. later (Ends k) third [] w3 b3)
-        (bound (Headed H (base + 1)) before p.0.1 [] w1 (base + 4)) (bound (Headed H (base + 1)) body p.0.3 [] w2 b2) (bound (Headed H (base + 1)) third p.0.5 [] w3 b3) kj kn
-        (label_bound H (is_end xs) base tail rest ((bound H xs p.1 [] w b4).by next rest ho hb hc hn h) h));
+      (λ k. later (Ends k) before [] w1 (base + 4)) (λ k. later (Ends k) body [] w2 b2) (λ k. later (Ends k) third [] w3 b3)
+      (bound (Headed H (base + 1)) before p.0.1 [] w1 (base + 4)) (bound (Headed H (base + 1)) body p.0.3 [] w2 b2) (bound (Headed H (base + 1)) third p.0.5 [] w3 b3) kj kn
+      (label_bound H (is_end xs) base tail rest ((bound H xs p.1 [] w b4).by next rest ho hb hc hn h) h));
 }
 bound H (item (Switch cases body) xs) p os w base = record {
   by = λ next rest ho hb hc hn h.
@@ -323,11 +323,11 @@ bound H (item (Switch cases body) xs) p os w base = record {
       let kn = own_known H (is_end xs) next base tail rest hn in
       let code = emit body [] u b2 (next_behind xs base next) all in
       let case : (k : ℕ) → base + 1 ≤ k → k < base + 1 + length cases → Known H k (emit body [] (switch_ways base (inner xs w base)) (base + 1 + length cases) (next_behind xs base next) (behind_label (is_end xs) base (emit xs [] w (base + item_labels (Switch cases body)) next rest) rest)) =
-          λ k g l. inr (case_placed k body [] u b2 (next_behind xs base next) all (subst (InCases k (base + 1)) (sym p.0.1) (counted_in k (base + 1) 0 (length cases) (omega (arith, g)) (omega (arith, l))))) in
+      λ k g l. inr (case_placed k body [] u b2 (next_behind xs base next) all (subst (InCases k (base + 1)) (sym p.0.1) (counted_in k (base + 1) 0 (length cases) (omega (arith, g)) (omega (arith, l))))) in
       let kd = known_part H v.onward (next_behind xs base next) (emit body [] u b2) all (later (Ends v.onward) body [] u b2) kj in
       flush_bound H os _ (led H (Dispatch cases (base + 1) v.onward) code
-        (λ k q. ⊎_elim (λ r. case k r.0 r.1) (λ e. ⊎_elim (λ r. same_known H (default_label cases (base + 1) v.onward) k code (case (default_label cases (base + 1) v.onward) r.0 r.1) e) (λ d. same_known H v.onward k code kd (sym d ∙ e)) (default_in cases (base + 1) v.onward)) q)
-        ((bound H body p.0.2 [] u b2).by (next_behind xs base next) all kj kj (on w.continued hc) kn (label_bound H (is_end xs) base tail rest ((bound H xs p.1 [] w b3).by next rest ho hb hc hn h) h)));
+      (λ k q. ⊎_elim (λ r. case k r.0 r.1) (λ e. ⊎_elim (λ r. same_known H (default_label cases (base + 1) v.onward) k code (case (default_label cases (base + 1) v.onward) r.0 r.1) e) (λ d. same_known H v.onward k code kd (sym d ∙ e)) (default_in cases (base + 1) v.onward)) q)
+      ((bound H body p.0.2 [] u b2).by (next_behind xs base next) all kj kj (on w.continued hc) kn (label_bound H (is_end xs) base tail rest ((bound H xs p.1 [] w b3).by next rest ho hb hc hn h) h)));
 }
 bound H (item (Case n) xs) p os w base = record { by = λ next rest ho hb hc hn h. flush_bound H os _ (silent H (Place (w.cases + n)) _ (λ k q. q) ((bound H xs p.1 [] w base).by next rest ho hb hc hn h)) }
 bound H (item (Clear v from) xs) p os w base = record { by = λ next rest ho hb hc hn h. flush_bound H os _ (silent H (Wipe v from base) _ (λ k q. q) ((bound H xs p.1 [] w (base + 1)).by next rest ho hb hc hn h)) }
@@ -337,13 +337,13 @@ bound H (item Break xs) p os w base = record {
   by = λ next rest ho hb hc hn h.
       let code = emit xs [] w base next rest in
       flush_bound H os _ (jumping H (Goto w.broken) _ w.broken (λ k q. q) (jump_known H (is_end xs) w.broken code rest (known_part H w.broken next (emit xs [] w base) rest (later (Ends w.broken) xs [] w base) hb) hb)
-        (jump_bound H (is_end xs) code rest ((bound H xs p.1 [] w base).by next rest ho hb hc hn h) h));
+      (jump_bound H (is_end xs) code rest ((bound H xs p.1 [] w base).by next rest ho hb hc hn h) h));
 }
 bound H (item Continue xs) p os w base = record {
   by = λ next rest ho hb hc hn h.
       let code = emit xs [] w base next rest in
       flush_bound H os _ (jumping H (Goto w.continued) _ w.continued (λ k q. q) (jump_known H (is_end xs) w.continued code rest (known_part H w.continued next (emit xs [] w base) rest (later (Ends w.continued) xs [] w base) hc) hc)
-        (jump_bound H (is_end xs) code rest ((bound H xs p.1 [] w base).by next rest ho hb hc hn h) h));
+      (jump_bound H (is_end xs) code rest ((bound H xs p.1 [] w base).by next rest ho hb hc hn h) h));
 }
 bound H (item Return xs) p os w base = record {
   by = λ next rest ho hb hc hn h. flush_bound H os _ (silent H Ret _ (λ k q. q) (jump_bound H (is_end xs) (emit xs [] w base next rest) rest ((bound H xs p.1 [] w base).by next rest ho hb hc hn h) h));

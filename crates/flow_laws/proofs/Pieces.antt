@@ -1,6 +1,6 @@
 -- The marks, jumps and calls of the items that entries become.
-use Rattle.std.proofs.Common.{◌≡◌, ◌≢◌, ℕ, zero, suc, ◌+◌, ◌<◌, ◌≤◌, Bool, true, false, ◌⊎◌, inl, inr, List, [], ◌∷◌, ◌++◌, length, Option, Some, None, ⊎_elim, refl, sym, ◌∙◌, ap, subst, arith}
-use Rattle.std.specs.Prelude.{◌==◌, ◌||◌, if◌then◌else◌, AllPairs}
+use Rattle.std.proofs.Common.{◌≡◌, ◌≢◌, ℕ, suc, ◌≤◌, Bool, true, false, ◌⊎◌, inl, inr, List, [], ◌∷◌, ◌++◌, ⊎_elim, refl, sym, ◌∙◌, ap, subst, arith}
+use Rattle.std.specs.Prelude.{◌==◌, if◌then◌else◌, AllPairs}
 use Rattle.c25_isa.specs.declared.instruction.Instr.{Instr}
 use Rattle.c25_isa.specs.declared.piece.PieceItem.{PieceItem}
 use Rattle.c25_isa.specs.declared.piece.PieceItem.TheVariants as piece
@@ -19,14 +19,14 @@ use Rattle.frame_flow.specs.declared.state.Before.{Before}
 use Rattle.frame_flow.specs.declared.state.Before.TheVariants.{Open, Shut, Gone}
 use Rattle.frame_flow.specs.Entries.{Entry, Run, Head, Place, Close, Branch, Goto, Dispatch, CallTo, CallHelper, Wipe, Ret, Finish}
 use Rattle.frame_flow.specs.Flow.{body_entries}
-use Rattle.frame_flow.specs.Settings.{Setting, cells_of, code_in, function_name, helper_name}
-use Rattle.frame_flow.specs.Cuts.{State, begun, shut, gone, naming, less_by, case_items, default_label, dispatch_items, wipe_items, place_items, behind_place, close_items, wiped_items, behind_wipe, finish_items, entry_items, behind_entry, cut, function_items}
+use Rattle.frame_flow.specs.Settings.{Setting, cells_of, code_in}
+use Rattle.frame_flow.specs.Cuts.{State, begun, shut, naming, less_by, case_items, default_label, dispatch_items, wipe_items, place_items, behind_place, close_items, wiped_items, behind_wipe, finish_items, entry_items, behind_entry, cut, function_items}
 use Rattle.flow_laws.specs.Calls.{IsJumpTo, CallsAre, IsNameOf}
 use Rattle.flow_laws.proofs.Anywhere.{Later, kept_anywhere}
-use Rattle.flow_laws.proofs.Keeping.{Any, Placed, Closes, IsClosed, Allowed, placed, placed_any, any, no_cases_directly, no_case, kept}
-use Rattle.flow_laws.proofs.Words.{Passed, Finishes, cut_word, body_finishes, piece_has_word}
-use Rattle.flow_laws.proofs.Labels.{Places, Avoids, Good, Apart, Between, good}
-use Rattle.flow_laws.proofs.Names.{Ends, Names, Known, IsHead, Bound, bound}
+use Rattle.flow_laws.proofs.Keeping.{Any, Closes, IsClosed, Allowed, placed, placed_any, any, no_cases_directly, no_case, kept}
+use Rattle.flow_laws.proofs.Words.{Passed, Finishes, cut_word}
+use Rattle.flow_laws.proofs.Labels.{Places, Avoids, PlacesOnce, Apart, Between, labels_once}
+use Rattle.flow_laws.proofs.Names.{Ends, Names, IsHead, Bound, bound}
 use Rattle.flow_laws.proofs.Entries.{front_mark, back_mark, split_mark, front_jump, back_jump, split_jump, plain_mark, plain_jump, no_marks, name_here, name_more, name_cases, place_mark, place_jump, place_once, place_named, place_behind, place_keeps, place_marked, close_mark, close_jump, close_behind, close_keeps, close_closes, dispatch_mark, cases_keep, dispatch_jump, dispatch_behind}
 
 -- what is known of an entry of items, apart from its labels
@@ -298,7 +298,7 @@ module _ (m : Setting) where
   unmarked [] s k a h = h
   unmarked (e ∷ es) s k a h = ⊎_elim (λ p. a.0 (entry_places e s k p)) (λ q. unmarked es (behind_entry m s e) k a.1 q) (split_mark k (entry_items m s e) _ h)
 
-  once : (es : List Entry) (s : State) → Good es → MarksDiffer (cut m s es)
+  once : (es : List Entry) (s : State) → PlacesOnce es → MarksDiffer (cut m s es)
   once [] s g = tt
   once (e ∷ es) s g =
       differ-append (entry_items m s e) _ (entry_once e s) (once es (behind_entry m s e) g.1)
@@ -478,7 +478,7 @@ module _ (m : Setting) where
   pub piece_once : (body : ItemList) → IsPlaced false false false body → MarksDiffer (function_items m body)
   piece_once body p =
       let none = no_cases_directly body p in
-      let g : Good (body_entries body) = (good body (placed_any body p) [] _ 1 1 1 (omega arith) (omega arith) (no_case (Between 1 1) 0 _ none) (subst (Apart 0) (sym none) tt)).by 0 (Finish 0 ∷ []) (λ k q. tt, tt) (λ l h g. (omega (arith, h), tt)) in
+      let g : PlacesOnce (body_entries body) = (labels_once body (placed_any body p) [] _ 1 1 1 (omega arith) (omega arith) (no_case (Between 1 1) 0 _ none) (subst (Apart 0) (sym none) tt)).by 0 (Finish 0 ∷ []) (λ k q. tt, tt) (λ l h g. (omega (arith, h), tt)) in
       differ-append (plain_items (entry_code m.back)) _ (plain_once (entry_code m.back)) (once (body_entries body) begun g) (λ k q r. plain_mark k (entry_code m.back) q)
 
   pub piece_marked : (body : ItemList) (k : ℕ) → IsPlaced false false false body → IsJumpTo k (function_items m body) → IsMarkOf k (function_items m body)

@@ -1,5 +1,5 @@
 -- Items stand in the list whose items they are.
-use Rattle.std.proofs.Common.{◌⊎◌, inl, inr, refl}
+use Rattle.std.proofs.Common.{inl, inr, refl}
 use Rattle.acc_code.specs.AccTree.{Item, Op, If, Loop, Switch, Case, Clear, Call, Helper, Break, Continue, Return, ItemList, end, item}
 use Rattle.acc_code.specs.Emittable.{Throughout, Within}
 use Rattle.flow_laws.specs.Calls.{StandsIn, StandsWithin}

@@ -1,13 +1,12 @@
 -- A function's piece has a word: behind what control passes, the end of a body writes the return.
-use Rattle.std.proofs.Common.{◌≡◌, ℕ, ◌+◌, ◌<◌, ◌≤◌, Bool, true, false, ◌⊎◌, inl, inr, List, [], ◌∷◌, ◌++◌, length, Option, Some, None, ⊎_elim, refl, subst, arith}
+use Rattle.std.proofs.Common.{◌≡◌, ℕ, ◌≤◌, Bool, true, false, ◌⊎◌, inl, inr, List, [], ◌∷◌, ◌++◌, ⊎_elim, refl, subst, arith}
 use Rattle.std.specs.Prelude.{◌==◌, if◌then◌else◌}
 use Rattle.c25_isa.specs.declared.instruction.JumpOp.TheVariants as jump
 use Rattle.c25_isa.specs.declared.piece.PieceItem.{PieceItem}
 use Rattle.c25_isa.specs.Pieces.{items_size}
-use Rattle.c25_code.specs.Items.{plain_items, entry_code, return_code}
+use Rattle.c25_code.specs.Items.{plain_items, entry_code}
 use Rattle.c25_code.proofs.Items.{items_size-append}
 use Rattle.c25_code.proofs.Returns.{return_size}
-use Rattle.acc_code.specs.declared.item.CaseLabel.{CaseLabel}
 use Rattle.acc_code.specs.AccTree.{ItemList}
 use Rattle.frame_flow.specs.declared.setting.Words.{Words}
 use Rattle.frame_flow.specs.declared.state.Before.{Before}
@@ -15,7 +14,7 @@ use Rattle.frame_flow.specs.declared.state.Before.TheVariants.{Open, Shut, Gone}
 use Rattle.frame_flow.specs.Entries.{Entry, Run, Head, Place, Close, Branch, Goto, Dispatch, CallTo, CallHelper, Wipe, Ret, Finish}
 use Rattle.frame_flow.specs.Flow.{body_entries}
 use Rattle.frame_flow.specs.Settings.{Setting, cells_of}
-use Rattle.frame_flow.specs.Cuts.{State, begun, shut, naming, has_access, behind_run, case_items, default_label, dispatch_items, jump_item, wipe_items, place_items, behind_place, close_items, behind_close, wiped_items, behind_wipe, finish_items, entry_items, behind_entry, cut, function_items}
+use Rattle.frame_flow.specs.Cuts.{State, begun, shut, naming, has_access, behind_run, case_items, default_label, jump_item, wipe_items, place_items, behind_place, close_items, behind_close, wiped_items, behind_wipe, finish_items, entry_items, behind_entry, cut, function_items}
 use Rattle.flow_laws.proofs.Anywhere.{Later, later}
 
 -- control passes
