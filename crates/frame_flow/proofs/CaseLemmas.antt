@@ -3,15 +3,16 @@ use Rattle.std.proofs.Common.{◌≡◌, ◌∙◌, ℕ, suc, ◌+◌, refl, ap,
 use Rattle.acc_code.specs.declared.item.CaseLabel.{CaseLabel}
 use Rattle.acc_code.specs.declared.item.CaseLabel.TheVariants.{Value, Default}
 use Rattle.c25_isa.specs.declared.instruction.JumpOp.TheVariants as jump
+use Rattle.c25_code.specs.Items.{plain_items}
 use Rattle.frame_flow.specs.declared.code.Code.{Code}
 use Rattle.frame_flow.specs.declared.state.Before.TheVariants.{Gone}
 use Rattle.frame_flow.specs.Entries.{Entry, Goto, Dispatch}
-use Rattle.frame_flow.specs.Cuts.{case_items, naming_cases, naming, default_label, jump_item}
+use Rattle.frame_flow.specs.Cuts.{less_by, case_items, naming_cases, naming, default_label, jump_item}
 use Rattle.frame_flow.specs.Emits.{Puts, Adds, CasesGoOn, state_of, case_code, taken_behind}
 use Rattle.frame_flow.specs.Settings.{Setting}
 
 one_case : (c : CaseLabel) (cs : List CaseLabel) (l n : ℕ) → case_items (c ∷ cs) l n ≡ case_code c l n ++ case_items cs (suc l) (taken_behind c n)
-one_case (Value v) cs l n = sym (append_assoc _ _ _)
+one_case (Value v) cs l n = sym (append_assoc (plain_items (less_by n v)) (jump_item jump.Bz l ∷ []) (case_items cs (suc l) v))
 one_case Default cs l n = refl
 
 pub cases_further : (old between new : Code) (cs : List CaseLabel) (l n : ℕ) (c : CaseLabel) (ds : List CaseLabel) (k p own taken : ℕ)

@@ -6,12 +6,14 @@ use Rattle.acc_code.specs.declared.operation.Test.{Test}
 use Rattle.c_tree.specs.declared.program.VarRef.{VarRef}
 use Rattle.frame_runs.specs.Steps.{Operation}
 use Rattle.frame_flow.specs.declared.code.Code.{Code}
+use Rattle.frame_flow.specs.declared.ending.Ending.{Ending}
+use Rattle.frame_flow.specs.declared.ending.Ending.TheVariants.{Label}
 use Rattle.frame_flow.specs.Entries.{Entry, Run, Place, Branch, Goto, Wipe, flushed}
 use Rattle.frame_flow.specs.Flow.{goto, opposite}
 use Rattle.frame_flow.specs.Marked.{names_of}
 use Rattle.frame_flow.specs.Settings.{Setting, code_in, cells_of}
-use Rattle.frame_flow.specs.Cuts.{State, entry_items, behind_entry, cut, behind_run, has_access, shut, naming, wipe_items}
-use Rattle.frame_flow.specs.Emits.{Puts, Adds, Emits, state_of, before_entries, behind_operations, jumps}
+use Rattle.frame_flow.specs.Cuts.{State, entry_items, behind_entry, cut, behind_run, has_access, shut, naming, place_items, behind_place, wipe_items}
+use Rattle.frame_flow.specs.Emits.{Puts, Adds, Emits, state_of, before_entries, behind_operations, jumps, placed}
 
 module _ (m : Setting) where
   -- nothing changes
@@ -70,4 +72,23 @@ both_jumps m old between new t a b next other adds goes_on = record {
   items = λ rest. ap (λ c. before_entries m old (if c then Branch (opposite t) b ∷ rest else Branch t a ∷ goto b next rest)) other
       ∙ (both m old between new (λ rest. Branch t a ∷ rest) (goto b next) (one m old between (Branch t a) adds) goes_on).items rest;
   fits = λ fit. goes_on.fits (adds.puts.fits fit);
+}
+
+pub places : (m : Setting) (old new : Code) (e : Ending) (last : Bool) (l : ℕ) → e ≡ Label → last ≡ false → Adds m old (Place l) new → Emits m old (placed e last l) new
+places m old new e last l is more adds =
+    subst (λ q. Emits m old (placed q last l) new) (sym is) (subst (λ q. Emits m old (placed Label q l) new) (sym more) (one m old new (Place l) adds))
+
+no_words : (n : ℕ) → n ≡ 0 → (n == 0) ≡ true
+no_words n none = rw none refl
+
+-- to clear no words is the end of a block
+pub wipes_none : (m : Setting) (old new : Code) (v : VarRef) (from l : ℕ) → (cells_of m v from).count ≡ 0 → Adds m old (Place l) new → Adds m old (Wipe v from l) new
+wipes_none m old new v from l none adds = record {
+  puts = record {
+    items = adds.puts.items
+        ∙ ap (λ b. old.items.items ++ (if b then place_items ((state_of old).named l) old.before l else wipe_items (cells_of m v from).first (cells_of m v from).count l)) (sym (no_words (cells_of m v from).count none));
+    fits = adds.puts.fits;
+  };
+  state = adds.state
+      ∙ ap (λ b. if b then behind_place ((state_of old).named l) l (state_of old) else shut (naming l (state_of old))) (sym (no_words (cells_of m v from).count none));
 }

@@ -4,3 +4,7 @@ pub mod Accessing
 pub mod Naming
 pub mod Emitting
 pub mod CaseLemmas
+pub mod Ends
+pub mod Forms
+pub mod Listing
+pub mod Structures

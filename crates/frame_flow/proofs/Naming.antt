@@ -1,7 +1,7 @@
 -- Labels in a table.
 use Rattle.std.proofs.Common.{◌≡◌, ◌≢◌, ◌∙◌, ℕ, zero, suc, ◌<◌, ◌==◌, ◌||◌, Bool, true, false, List, [], ◌∷◌, ◌++◌, length, get_or, set, Option, Some, None, refl, sym, ap, eqb-true, get_or-set_same, get_or-set_other}
 use mathlib.Core.Path.{fun_ext}
-use Rattle.std.specs.Prelude.{unwrap_or}
+use Rattle.std.specs.Prelude.{slice_get, unwrap_or}
 use Rattle.std.proofs.lemmas.Bool.{eqb-false}
 use Rattle.std.proofs.lemmas.Option.{unwrap_or-slice_get}
 use Rattle.frame_flow.specs.Marked.{or_false, is_marked}
@@ -21,7 +21,7 @@ or_else None = refl
 or_else (Some b) = refl
 
 read : (xs : List Bool) (l : ℕ) → is_marked xs l ≡ get_or xs l false
-read xs l = or_else _ ∙ unwrap_or-slice_get xs l false
+read xs l = or_else (slice_get xs l) ∙ unwrap_or-slice_get xs l false
 
 chosen : (b x z : Bool) → (b ≡ true → z ≡ true) → (b ≡ false → z ≡ x) → z ≡ (b || x)
 chosen true x z h k = h refl

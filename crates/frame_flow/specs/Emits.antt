@@ -126,6 +126,12 @@ HasNoParts (Loop before body third last) = ⊥
 HasNoParts (Switch cases body) = ⊥
 HasNoParts x = ⊤
 
+-- the label to which a list leads at once that begins with an item
+abbrev pub item_target : Ways → Item → Option ℕ
+item_target w Break = Some w.broken
+item_target w Continue = Some w.continued
+item_target w x = None
+
 -- where the body of a function stands
 abbrev pub body_spot : Spot
 body_spot = record { ways = record { onward = 0; broken = 0; continued = 0; cases = 0 }; base = 1; next = 0 }

@@ -18,7 +18,7 @@ use crate::counting::{behind_cases, behind_labels};
 use crate::ending::Ending;
 use crate::setting::Setting;
 use crate::tests::opposite;
-use crate::ways::{Spot, label};
+use crate::ways::{Spot, is_end, label};
 use acc_code::{AccItem, CaseLabel, Test};
 use std::alloc::Global;
 use word_base::NoMemory;
@@ -40,7 +40,7 @@ pub(crate) fn list(
     let mut base = spot.base;
     let mut rest = code.run(alloc, setting, items)?;
     while let Some((first, behind)) = rest.split_first() {
-        let last = behind.is_empty();
+        let last = is_end(behind);
         let next = item(alloc, setting, code, first, spot.of_item(last, base))?;
         let ending = Ending::of(first);
         code.place_behind(ending, last, base)?;
@@ -223,7 +223,7 @@ fn loop_end(
     ensures behind { IfOk result (λ l. l ≡ base + flow.labels (item_list third.now)) }
 {
     let head = label(spot.base, 1)?;
-    if third.is_empty() {
+    if is_end(third) {
         code.close(head, spot.next)?;
         return Ok(base);
     }

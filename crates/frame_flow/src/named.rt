@@ -29,7 +29,6 @@ impl Named {
         }
     }
 
-    #[tactic(auto, using(crate::proofs::Naming::more_marked, crate::proofs::Naming::now_marked))]
     pub(crate) fn add(&mut self, label: u32) -> Result<(), NoMemory>
         ensures { OnOk result (names_of self.new ≡ λ l. l == label || names_of self.old l) }
     {

@@ -1,6 +1,6 @@
 //! Where control goes from a list of items.
 ghost use Rattle.std.specs.Prelude.{◌≡◌, ◌+◌, if◌then◌else◌, IfOk};
-ghost use Rattle.acc_code.specs.AccView.{item_list};
+ghost use Rattle.acc_code.specs.AccView.{item_list, item_of};
 ghost use Rattle.frame_flow.specs.Emits as emits;
 ghost use Rattle.frame_flow.specs.Flow as flow;
 
@@ -22,16 +22,32 @@ pub(crate) struct Ways {
 
 impl Ways {
     /// The label to which a list leads at once, where it does.
+    #[tactic(auto, using(crate::proofs::Ends::target_by))]
     pub(crate) fn target(self, items: &[AccItem]) -> Option<u32>
         ensures { result ≡ flow.target self (item_list items.now) }
     {
-        match items.first() {
+        match items.split_first() {
+            Some((first, _)) => self.target_of(first),
             None => Some(self.onward),
-            Some(AccItem::Break) => Some(self.broken),
-            Some(AccItem::Continue) => Some(self.continued),
-            Some(_) => None,
         }
     }
+
+    fn target_of(self, item: &AccItem) -> Option<u32>
+        ensures { result ≡ emits.item_target self (item_of item.now) }
+    {
+        match item {
+            AccItem::Break => Some(self.broken),
+            AccItem::Continue => Some(self.continued),
+            _ => None,
+        }
+    }
+}
+
+// Whether a list is empty.
+pub(crate) fn is_end(items: &[AccItem]) -> bool
+    ensures { result ≡ flow.is_end (item_list items.now) }
+{
+    items.split_first().is_none()
 }
 
 /// Where items stand.
@@ -103,7 +119,7 @@ impl Spot {
     fn turn_end(self, third: &[AccItem]) -> Result<u32, NoMemory>
         ensures { IfOk result (λ l. l ≡ flow.turn_end (item_list third.now) self.base) }
     {
-        if third.is_empty() {
+        if is_end(third) {
             label(self.base, 1)
         } else {
             label(self.base, 3)
@@ -121,7 +137,7 @@ impl Spot {
             continued: turn_end,
             cases: self.ways.cases,
         };
-        let next = if third.is_empty() {
+        let next = if is_end(third) {
             self.next
         } else {
             turn_end
