@@ -1,11 +1,10 @@
 -- The items that code in memory stands for.
-use Rattle.std.proofs.Common.{◌≡◌, ◌∙◌, ℕ, ◌+◌, refl, ap, sym, subst, List, [], ◌∷◌, ◌++◌, take, get_or, ◌<◌, length, rules, arith}
-use Rattle.std.proofs.lemmas.List.{take_more}
+use Rattle.std.proofs.Common.{◌≡◌, ◌∙◌, ℕ, ◌+◌, ◌*◌, ◌<◌, refl, ap, sym, subst, List, rules, arith}
 use Rattle.acc_code.specs.AccTree.{Item, If, Loop, Switch, ItemList, item, end}
 use Rattle.acc_code.specs.AccView.{item_of, items_of, item_list}
 use Rattle.acc_code.specs.declared.item.AccItem as coded
 use Rattle.acc_code.specs.declared.item.AccItem.{AccItem, Row_of-AccItem, end_of-AccItem, more_of-AccItem, items-the_row-AccItem}
-use Rattle.frame_flow.specs.Flow.{labels, item_labels}
+use Rattle.frame_flow.proofs.Listing.{size, item_size}
 
 rows : (m : _) (k : Row_of-AccItem m) → items_of k ≡ item_list (items-the_row-AccItem m k)
 rows m end_of-AccItem = refl
@@ -39,39 +38,13 @@ pub switch_items : (one : AccItem) (cases body : _) (labels_of : List _) (first 
 switch_items one cases body labels_of first is of_labels of_first =
     ap item_of is ∙ switch_of_lists cases body ∙ sym (ap (λ l. Switch l (item_list first)) of_labels ∙ ap (λ l. Switch cases.items (item_list l)) of_first)
 
-labels_more : (xs : List AccItem) (x : AccItem) → labels (item_list (xs ++ x ∷ [])) ≡ labels (item_list xs) + item_labels (item_of x)
-labels_more [] x = omega arith
-labels_more (y ∷ ys) x = let e : labels (item_list (ys ++ x ∷ [])) ≡ labels (item_list ys) + item_labels (item_of x) = labels_more ys x in omega (arith, e)
+-- the parts of an item are smaller than it
+pub if_falls : (x : Item) (test : _) (hit miss : ItemList) (t : ℕ) → 4 * item_size x + 2 ≡ t → x ≡ If test hit miss → 4 * (1 + size hit + size miss) + 3 < t
+if_falls x test hit miss t at is = let e : item_size x ≡ 2 + size hit + size miss = ap item_size is in omega (arith, at, e)
 
-sum_more : (next base before own all after : ℕ) → next ≡ base + before → after ≡ next + own → all ≡ before + own → after ≡ base + all
-sum_more next base before own all after is more sum = omega (arith, is, more, sum)
+pub loop_falls : (x : Item) (before body third : ItemList) (last : _) (t : ℕ) → 4 * item_size x + 2 ≡ t → x ≡ Loop before body third last
+    → 4 * (1 + size before + size body + size third) + 3 < t
+loop_falls x before body third last t at is = let e : item_size x ≡ 2 + size before + size body + size third = ap item_size is in omega (arith, at, e)
 
--- a turn of the loop over items
-pub labels_further : (list : List AccItem) (i : ℕ) (one : AccItem) (base next after : ℕ) → one ≡ get_or list i one → i < length list → next ≡ base + labels (item_list (take i list))
-    → after ≡ next + item_labels (item_of one) → after ≡ base + labels (item_list (take (i + 1) list))
-labels_further list i one base next after is within before more =
-    sum_more next base (labels (item_list (take i list))) (item_labels (item_of one)) (labels (item_list (take (i + 1) list))) after before more
-    (ap (λ l. labels (item_list l)) (take_more list i one within ∙ ap (λ y. take i list ++ y ∷ []) (sym is)) ∙ labels_more (take i list) one)
-
-sum_two : (base k n l a b : ℕ) → k ≡ base + 2 → n ≡ k + a → l ≡ n + b → l ≡ base + (2 + a + b)
-sum_two base k n l a b is1 is2 is3 = omega (arith, is1, is2, is3)
-
-sum_three : (base k n p l a b c : ℕ) → k ≡ base + 4 → n ≡ k + a → p ≡ n + b → l ≡ p + c → l ≡ base + (4 + a + b + c)
-sum_three base k n p l a b c is1 is2 is3 is4 = omega (arith, is1, is2, is3, is4)
-
-sum_body : (base k n l a b : ℕ) → k ≡ base + a → n ≡ k + 1 → l ≡ n + b → l ≡ base + (1 + a + b)
-sum_body base k n l a b is1 is2 is3 = omega (arith, is1, is2, is3)
-
--- the labels of an If, a Loop and a Switch
-pub two_counted : (one : AccItem) (test : _) (hit miss : ItemList) (base k n l : ℕ) → item_of one ≡ If test hit miss → k ≡ base + 2 → n ≡ k + labels hit → l ≡ n + labels miss
-    → l ≡ base + item_labels (item_of one)
-two_counted one test hit miss base k n l is is1 is2 is3 = sum_two base k n l (labels hit) (labels miss) is1 is2 is3 ∙ ap (λ x. base + item_labels x) (sym is)
-
-pub three_counted : (one : AccItem) (last : _) (before body third : ItemList) (base k n p l : ℕ) → item_of one ≡ Loop before body third last
-    → k ≡ base + 4 → n ≡ k + labels before → p ≡ n + labels body → l ≡ p + labels third → l ≡ base + item_labels (item_of one)
-three_counted one last before body third base k n p l is is1 is2 is3 is4 =
-    sum_three base k n p l (labels before) (labels body) (labels third) is1 is2 is3 is4 ∙ ap (λ x. base + item_labels x) (sym is)
-
-pub body_counted : (one : AccItem) (cases : List _) (body : ItemList) (base k n l : ℕ) → item_of one ≡ Switch cases body → k ≡ base + length cases → n ≡ k + 1 → l ≡ n + labels body
-    → l ≡ base + item_labels (item_of one)
-body_counted one cases body base k n l is is1 is2 is3 = sum_body base k n l (length cases) (labels body) is1 is2 is3 ∙ ap (λ x. base + item_labels x) (sym is)
+pub switch_falls : (x : Item) (cases : _) (body : ItemList) (t : ℕ) → 4 * item_size x + 2 ≡ t → x ≡ Switch cases body → 4 * (1 + size body) + 3 < t
+switch_falls x cases body t at is = let e : item_size x ≡ 2 + size body = ap item_size is in omega (arith, at, e)

@@ -13,6 +13,7 @@ use Rattle.frame_flow.specs.declared.ways.Ways.{Ways}
 use Rattle.frame_flow.specs.Entries.{Entry, Place, Goto, flushed}
 use Rattle.frame_flow.specs.Flow.{emit, goto, labels, item_labels, is_end, to, behind_label, behind_jump}
 use Rattle.frame_flow.specs.Settings.{Setting}
+use Rattle.frame_flow.proofs.Emitting.{both}
 use Rattle.frame_flow.specs.Emits.{IsRightItem, Emits, before_entries, item_code, if_part, loop_part, switch_part, item_spot, placed, ending, ends_with}
 
 -- how many items there are, where one with parts counts twice
@@ -271,3 +272,18 @@ sum_ended base none all sum zero = omega (arith, sum, zero)
 
 pub ended_labels : (m : Setting) (begin old : Code) (items rest : ItemList) (s : Spot) (base : ℕ) → SoFar m begin items s old base rest → rest ≡ end → base ≡ s.base + labels items
 ended_labels m begin old items rest s base before is = sum_ended base (labels rest) (s.base + labels items) before.labels (ap labels is)
+
+pub passes : (m : Setting) (old between new : Code) (x : Item) (xs : ItemList) (s part : Spot) (base next : ℕ) (last : Bool) (e : Ending) → last ≡ is_end xs → part ≡ item_spot last base s
+    → e ≡ ending x → Emits m old (item_code x part.ways part.base part.next) between → next ≡ part.base + item_labels x → Emits m between (placed e last base) new
+    → Passes m old x xs s base new next
+passes m old between new x xs s part base next last e last_is part_is e_is emits behind places =
+    let is : part ≡ item_spot (is_end xs) base s = part_is ∙ ap (λ b. item_spot b base s) last_is in
+    record {
+      emits = both m old between new (own_code x xs s.ways base s.next) (placed (ending x) (is_end xs) base)
+          (subst (λ q. Emits m old (item_code x q.ways q.base q.next) between) is emits)
+          (subst (λ q. Emits m between (placed q (is_end xs) base) new) e_is (subst (λ b. Emits m between (placed e b base) new) last_is places));
+      labels = behind ∙ ap (λ q. q.base + item_labels x) is;
+    }
+
+pub ends_as : (x : Item) (xs : ItemList) (last : Bool) (e : Ending) (b : Bool) → last ≡ is_end xs → e ≡ ending x → ends_with e last ≡ b → ends_with (ending x) (is_end xs) ≡ b
+ends_as x xs last e b last_is e_is ends = ap (λ q. ends_with (ending x) q) (sym last_is) ∙ ap (λ q. ends_with q last) (sym e_is) ∙ ends

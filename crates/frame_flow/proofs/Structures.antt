@@ -1,5 +1,6 @@
 -- The parts of items, one behind another.
-use Rattle.std.proofs.Common.{◌≡◌, ◌∙◌, ℕ, ◌+◌, Bool, true, false, if◌then◌else◌, List, [], ◌∷◌, length, Option, Some, None, refl, ap, sym, subst, Result, Ok, Err, OnOk}
+use Rattle.std.proofs.Common.{◌≡◌, ◌∙◌, ℕ, ◌+◌, Bool, true, false, if◌then◌else◌, List, [], ◌∷◌, length, Option, Some, None, refl, ap, sym, subst, Result, Ok, Err, OnOk, arith}
+use Rattle.c25_isa.specs.declared.piece.PieceItem.{PieceItem}
 use Rattle.acc_code.specs.declared.item.CaseLabel.{CaseLabel}
 use Rattle.acc_code.specs.declared.operation.Test.{Test}
 use Rattle.acc_code.specs.AccTree.{Item, ItemList}
@@ -31,12 +32,13 @@ module _ (m : Setting) where
       → Emits m old (jumps t a b next) new → Emits m old (if_part t hit miss w base next) new
   two_targets old new t a b hit miss w base next is1 is2 emits = as_targets old new t (Some a) (Some b) hit miss w base next is1 is2 emits
 
-  pub second_runs : (old between new : Code) (t : Test) (a : ℕ) (hit miss : ItemList) (w : Ways) (base next first from : ℕ) → target w hit ≡ Some a → target w miss ≡ None
-      → first ≡ base + 2 → from ≡ first + labels hit → Adds m old (Branch t a) between → Emits m between (emit miss [] w from next) new → Emits m old (if_part t hit miss w base next) new
-  second_runs old between new t a hit miss w base next first from is1 is2 at from_at adds emits =
+  pub second_runs : (old between new : Code) (t : Test) (a : ℕ) (hit miss : ItemList) (w : Ways) (base next first : ℕ) → target w hit ≡ Some a → target w miss ≡ None → labels hit ≡ 0
+      → first ≡ base + 2 → Adds m old (Branch t a) between → Emits m between (emit miss [] w first next) new → Emits m old (if_part t hit miss w base next) new
+  second_runs old between new t a hit miss w base next first is1 is2 few at adds emits =
+      let none : first ≡ base + 2 + labels hit = omega (arith, few, at) in
       as_targets old new t (Some a) None hit miss w base next is1 is2
       (both m old between new (λ rest. Branch t a ∷ rest) (emit miss [] w (base + 2 + labels hit) next) (one m old between (Branch t a) adds)
-      (subst (λ n. Emits m between (emit miss [] w n next) new) (from_at ∙ ap (λ n. n + labels hit) at) emits))
+      (subst (λ n. Emits m between (emit miss [] w n next) new) none emits))
 
   pub first_runs : (old between new : Code) (t u : Test) (b : ℕ) (hit miss : ItemList) (w : Ways) (base next first : ℕ) → target w hit ≡ None → target w miss ≡ Some b
       → u ≡ opposite t → first ≡ base + 2 → Adds m old (Branch u b) between → Emits m between (emit hit [] w first next) new → Emits m old (if_part t hit miss w base next) new
@@ -47,7 +49,7 @@ module _ (m : Setting) where
       (subst (λ n. Emits m between (emit hit [] w n next) new) at emits))
 
   -- two parts, by the test, the label of the second one, and the labels that both own
-  abbrev in_order : Code → ItemList → ItemList → Ways → ℕ → Test → ℕ → ℕ → ℕ → List Entry → List _
+  abbrev in_order : Code → ItemList → ItemList → Ways → ℕ → Test → ℕ → ℕ → ℕ → List Entry → List PieceItem
   in_order old hit miss w next u other first from rest =
       before_entries m old (Branch u other ∷ emit hit [] w first other (Place other ∷ emit miss [] w from next rest))
 
@@ -68,7 +70,7 @@ module _ (m : Setting) where
   }
 
   -- a loop, by its head, the places of its first two parts, and the first label of its third part
-  abbrev round : Code → ItemList → ItemList → ItemList → Spot → ℕ → Spot → Spot → ℕ → List Entry → List _
+  abbrev round : Code → ItemList → ItemList → ItemList → Spot → ℕ → Spot → Spot → ℕ → List Entry → List PieceItem
   round old before body third s head first turn from rest =
       before_entries m old (Head head ∷ emit before [] first.ways first.base first.next (Place first.next ∷ emit body [] turn.ways turn.base turn.next (end_part third from s rest)))
 
@@ -94,7 +96,7 @@ module _ (m : Setting) where
         fits = λ fit. ends.fits (turns.fits (places.puts.fits (begins.fits (heads.puts.fits fit))));
       }
 
-  abbrev loop_end_by : Code → Bool → ℕ → ℕ → ItemList → Spot → ℕ → List Entry → List _
+  abbrev loop_end_by : Code → Bool → ℕ → ℕ → ItemList → Spot → ℕ → List Entry → List PieceItem
   loop_end_by old none head go third s next rest = before_entries m old (loop_end none head go (emit third [] s.ways s.base) next rest)
 
   pub ends_without : (old new : Code) (third : ItemList) (base head : ℕ) (s : Spot) → is_end third ≡ true → head ≡ s.base + 1 → Adds m old (Close head s.next) new

@@ -14,11 +14,10 @@ ghost use Rattle.frame_runs.specs.Right.{HaveRegisters};
 
 use crate::cases::dispatch;
 use crate::code::Code;
-use crate::counting::{behind_cases, behind_labels};
 use crate::ending::Ending;
 use crate::setting::Setting;
 use crate::tests::opposite;
-use crate::ways::{Spot, is_end, label};
+use crate::ways::{Spot, behind_cases, is_end, label};
 use acc_code::{AccItem, CaseLabel, Test};
 use std::alloc::Global;
 use word_base::NoMemory;
@@ -132,19 +131,17 @@ fn if_item(
         Some(one) => match spot.ways.target(no) {
             Some(other) => {
                 code.choose(test, one, other, spot.next)?;
-                behind_labels(no, behind_labels(yes, first)?)
+                Ok(first)
             }
             None => {
                 code.branch(test, one)?;
-                let base = behind_labels(yes, first)?;
-                list(alloc, setting, code, no, Spot { base, ..spot })
+                list(alloc, setting, code, no, Spot { base: first, ..spot })
             }
         },
         None => match spot.ways.target(no) {
             Some(other) => {
                 code.branch(opposite(test), other)?;
-                let base = list(alloc, setting, code, yes, Spot { base: first, ..spot })?;
-                behind_labels(no, base)
+                list(alloc, setting, code, yes, Spot { base: first, ..spot })
             }
             None => both_parts(alloc, setting, code, test, yes, no, spot),
         },

@@ -6,7 +6,6 @@
 
 mod cases;
 mod code;
-mod counting;
 mod ending;
 mod flow;
 mod function;

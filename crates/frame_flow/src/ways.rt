@@ -1,10 +1,10 @@
 //! Where control goes from a list of items.
-ghost use Rattle.std.specs.Prelude.{◌≡◌, ◌+◌, if◌then◌else◌, IfOk};
+ghost use Rattle.std.specs.Prelude.{◌≡◌, ◌+◌, length, IfOk, IfSome};
 ghost use Rattle.acc_code.specs.AccView.{item_list, item_of};
 ghost use Rattle.frame_flow.specs.Emits as emits;
 ghost use Rattle.frame_flow.specs.Flow as flow;
 
-use acc_code::AccItem;
+use acc_code::{AccItem, CaseLabel};
 use word_base::NoMemory;
 
 /// Labels to which control goes.
@@ -21,19 +21,25 @@ pub(crate) struct Ways {
 }
 
 impl Ways {
-    /// The label to which a list leads at once, where it does.
-    #[tactic(auto, using(crate::proofs::Ends::target_by))]
+    /// The label to which a list leads at once, where it does. Such a list has no labels.
+    #[tactic(auto, using(crate::proofs::Ends::target_by, crate::proofs::Ends::end_labels, crate::proofs::Ends::first_labels))]
     pub(crate) fn target(self, items: &[AccItem]) -> Option<u32>
-        ensures { result ≡ flow.target self (item_list items.now) }
+        ensures target { result ≡ flow.target self (item_list items.now) }
+        ensures labels { IfSome result (λ l. flow.labels (item_list items.now) ≡ 0) }
     {
-        match items.split_first() {
-            Some((first, _)) => self.target_of(first),
-            None => Some(self.onward),
+        let Some((only, behind)) = items.split_first() else {
+            return Some(self.onward);
+        };
+        if is_end(behind) {
+            self.target_of(only)
+        } else {
+            None
         }
     }
 
     fn target_of(self, item: &AccItem) -> Option<u32>
-        ensures { result ≡ emits.item_target self (item_of item.now) }
+        ensures target { result ≡ emits.item_target self (item_of item.now) }
+        ensures labels { IfSome result (λ l. flow.item_labels (item_of item.now) ≡ 0) }
     {
         match item {
             AccItem::Break => Some(self.broken),
@@ -183,4 +189,12 @@ pub(crate) fn label(base: u32, count: u32) -> Result<u32, NoMemory>
     ensures { IfOk result (λ l. l ≡ base + count) }
 {
     base.checked_add(count).ok_or(NoMemory)
+}
+
+/// The label behind those of cases, from a label on.
+pub(crate) fn behind_cases(base: u32, cases: &[CaseLabel]) -> Result<u32, NoMemory>
+    ensures { IfOk result (λ l. l ≡ base + length cases.now) }
+{
+    let count = u32::try_from(cases.len()).map_err(|_| NoMemory)?;
+    label(base, count)
 }
