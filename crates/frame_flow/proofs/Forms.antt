@@ -1,5 +1,5 @@
 -- The items that code in memory stands for.
-use Rattle.std.proofs.Common.{◌≡◌, ◌∙◌, ℕ, ◌+◌, ◌*◌, ◌<◌, refl, ap, sym, subst, List, rules, arith}
+use Rattle.std.proofs.Common.{◌≡◌, ◌∙◌, ℕ, ◌+◌, ◌*◌, ◌<◌, refl, ap, sym, subst, List, [], ◌∷◌, length, rules, arith}
 use Rattle.acc_code.specs.AccTree.{Item, If, Loop, Switch, ItemList, item, end}
 use Rattle.acc_code.specs.AccView.{item_of, items_of, item_list}
 use Rattle.acc_code.specs.declared.item.AccItem as coded
@@ -48,3 +48,7 @@ loop_falls x before body third last t at is = let e : item_size x ≡ 2 + size b
 
 pub switch_falls : (x : Item) (cases : _) (body : ItemList) (t : ℕ) → 4 * item_size x + 2 ≡ t → x ≡ Switch cases body → 4 * (1 + size body) + 3 < t
 switch_falls x cases body t at is = let e : item_size x ≡ 2 + size body = ap item_size is in omega (arith, at, e)
+
+pub nothing_left : (xs : List AccItem) → length xs ≡ 0 → item_list xs ≡ end
+nothing_left [] none = refl
+nothing_left (x ∷ xs) none = absurd (let e : 0 < length (x ∷ xs) = omega arith in omega (arith, none, e))

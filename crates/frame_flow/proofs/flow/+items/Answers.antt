@@ -1,4 +1,4 @@
-use Rattle.std.proofs.Common.{◌≡◌, ◌+◌, ◌∙◌, ap, sym, subst, true, false, OnOk, IfOk, Some, None, ◌∷◌, [], rules}
+use Rattle.std.proofs.Common.{◌≡◌, ◌+◌, ◌∙◌, ap, sym, subst, true, false, OnOk, IfOk, Some, None, ◌∷◌, length, rules}
 use Rattle.std.proofs.lemmas.Result.{on_ok_weaker}
 use Rattle.acc_code.specs.AccView.{item_list, item_of}
 use Rattle.acc_code.specs.AccTree.{If, Loop, Switch}
@@ -6,9 +6,9 @@ use Rattle.acc_code.specs.Emittable.{Throughout, Within}
 use Rattle.frame_flow.specs.Emits.{Emits, IsRightItem, item_code, ends_with}
 use Rattle.frame_flow.specs.Flow.{emit, labels, item_labels, target, is_end}
 use Rattle.frame_flow.specs.Settings.{setting_of}
-use Rattle.frame_flow.proofs.Forms.{if_items, loop_items, switch_items, if_falls, loop_falls, switch_falls}
+use Rattle.frame_flow.proofs.Forms.{if_items, loop_items, switch_items, if_falls, loop_falls, switch_falls, nothing_left}
 use Rattle.frame_flow.proofs.Listing.{SoFar, run_is_right, begins, further, leaves, leaves_labels, ended, passes, ends_as}
-use Rattle.frame_flow.proofs.Structures.{both_run, loop_runs, ends_without, ends_with_third, switch_runs}
+use Rattle.frame_flow.proofs.Structures.{two_targets, second_runs, first_runs, both_run, loop_runs, ends_without, ends_with_third, switch_runs}
 use Rattle.frame_flow.proofs.flow.+items.Goals as goal
 
 pub both_parts-returns-clause-emits : goal.both_parts-returns-clause-emits
@@ -25,9 +25,7 @@ item-if_item-requires t c =
     let is : item_of c.args.x.now ≡ If c.in-If.test (item_list c.deref.result.now) (item_list c.deref-in-If.result.now) = (if_items c.args.x.now c.in-If.test c.in-If.yes c.in-If.no c.deref.result.now c.deref-in-If.result.now c.in-If.is c.deref.ensures.value c.deref-in-If.ensures.value) in
     let right : Within IsRightItem (If c.in-If.test (item_list c.deref.result.now) (item_list c.deref-in-If.result.now)) = subst (Within IsRightItem) is c.requires.right in (
       if_falls (item_of c.args.x.now) c.in-If.test (item_list c.deref.result.now) (item_list c.deref-in-If.result.now) t c.decreases is,
-      right.0,
-      right.1,
-      c.requires.registers,
+      (right.0, (right.1, c.requires.registers)),
     )
 
 pub item-loop_item-requires : goal.item-loop_item-requires
@@ -35,10 +33,7 @@ item-loop_item-requires t c =
     let is : item_of c.args.x.now ≡ Loop (item_list c.deref-in-Loop.result.now) (item_list c.deref-in-Loop-2.result.now) (item_list c.deref-in-Loop-3.result.now) c.in-Loop.test_last = (loop_items c.args.x.now c.in-Loop.before c.in-Loop.body c.in-Loop.after c.in-Loop.test_last c.deref-in-Loop.result.now c.deref-in-Loop-2.result.now c.deref-in-Loop-3.result.now c.in-Loop.is c.deref-in-Loop.ensures.value c.deref-in-Loop-2.ensures.value c.deref-in-Loop-3.ensures.value) in
     let right : Within IsRightItem (Loop (item_list c.deref-in-Loop.result.now) (item_list c.deref-in-Loop-2.result.now) (item_list c.deref-in-Loop-3.result.now) c.in-Loop.test_last) = subst (Within IsRightItem) is c.requires.right in (
       loop_falls (item_of c.args.x.now) (item_list c.deref-in-Loop.result.now) (item_list c.deref-in-Loop-2.result.now) (item_list c.deref-in-Loop-3.result.now) c.in-Loop.test_last t c.decreases is,
-      right.0,
-      right.1,
-      right.2,
-      c.requires.registers,
+      (right.0, (right.1, (right.2, c.requires.registers))),
     )
 
 pub item-switch_item-requires : goal.item-switch_item-requires
@@ -46,8 +41,7 @@ item-switch_item-requires t c =
     let is : item_of c.args.x.now ≡ Switch c.deref-in-Switch.result.now (item_list c.deref-in-Switch-2.result.now) = (switch_items c.args.x.now c.in-Switch.cases c.in-Switch.body c.deref-in-Switch.result.now c.deref-in-Switch-2.result.now c.in-Switch.is c.deref-in-Switch.ensures.value c.deref-in-Switch-2.ensures.value) in
     let right : Within IsRightItem (Switch c.deref-in-Switch.result.now (item_list c.deref-in-Switch-2.result.now)) = subst (Within IsRightItem) is c.requires.right in (
       switch_falls (item_of c.args.x.now) c.deref-in-Switch.result.now (item_list c.deref-in-Switch-2.result.now) t c.decreases is,
-      right,
-      c.requires.registers,
+      (right, c.requires.registers),
     )
 
 pub item-returns-in-If-clause-emits : goal.item-returns-in-If-clause-emits
@@ -121,8 +115,8 @@ list-loop-first-preserved t c =
 
 pub list-returns-clause-emits : goal.list-returns-clause-emits
 list-returns-clause-emits t c =
-    let none : c.loop-first.rest.now ≡ [] = search rules in
-    ended (setting_of c.args.setting.now) c.args.code.now c.loop-first.code c.goto_unless_next.new.self (item_list c.args.items.now) (item_list c.loop-first.rest.now) c.args.spot c.loop-first.base c.loop-first.invariant (ap item_list none)
+    let none : length c.loop-first.rest.now ≡ 0 = search rules in
+    ended (setting_of c.args.setting.now) c.args.code.now c.loop-first.code c.goto_unless_next.new.self (item_list c.args.items.now) (item_list c.loop-first.rest.now) c.args.spot c.loop-first.base c.loop-first.invariant (nothing_left c.loop-first.rest.now none)
     (c.in_ok-goto_unless_next.ensures (setting_of c.args.setting.now))
 
 pub loop_end-returns-then-is_end-clause-emits : goal.loop_end-returns-then-is_end-clause-emits
@@ -150,3 +144,22 @@ switch_item-returns-clause-emits t c =
     (switch_runs (setting_of c.args.setting.now) c.args.code.now c.dispatch.new.code c.list.new.code c.args.cases.now (item_list c.args.body.now) c.in_ok-first.first c.in_ok-base.base c.args.spot c.in_ok-switch_part.field-0
     c.in_ok-first.ensures c.in_ok-base.ensures c.in_ok-switch_part.ensures (c.in_ok-dispatch.ensures (setting_of c.args.setting.now)))
     c.list.ensures.emits
+
+pub if_item-returns-in_ok-choose-in-Some-target-clause-emits : goal.if_item-returns-in_ok-choose-in-Some-target-clause-emits
+if_item-returns-in_ok-choose-in-Some-target-clause-emits t c =
+    two_targets (setting_of c.args.setting.now) c.args.code.now c.choose.new.self c.args.test c.in-Some.one c.in-Some-target.other (item_list c.args.yes.now) (item_list c.args.no.now) c.args.spot.ways c.args.spot.base c.args.spot.next
+    (sym c.in-Some.ensures.target) (sym c.in-Some-target.ensures.target) (c.in_ok-choose-in-Some-target.ensures (setting_of c.args.setting.now))
+
+pub if_item-returns-in_ok-branch-in-None-target-clause-emits : goal.if_item-returns-in_ok-branch-in-None-target-clause-emits
+if_item-returns-in_ok-branch-in-None-target-clause-emits t c =
+    on_ok_weaker c.list.result
+    (second_runs (setting_of c.args.setting.now) c.args.code.now c.branch-code.new.self c.list.new.code c.args.test c.in-Some.one (item_list c.args.yes.now) (item_list c.args.no.now) c.args.spot.ways c.args.spot.base c.args.spot.next c.in_ok-first.first
+    (sym c.in-Some.ensures.target) (sym c.in-None-target.ensures.target) c.in-Some.ensures.labels c.in_ok-first.ensures (c.in_ok-branch-in-None-target.ensures (setting_of c.args.setting.now)))
+    c.list.ensures.emits
+
+pub if_item-returns-in_ok-branch-in-Some-target-2-clause-emits : goal.if_item-returns-in_ok-branch-in-Some-target-2-clause-emits
+if_item-returns-in_ok-branch-in-Some-target-2-clause-emits t c =
+    on_ok_weaker c.list-in-Some-target-2.result
+    (first_runs (setting_of c.args.setting.now) c.args.code.now c.branch-code-in-Some-target-2.new.self c.list-in-Some-target-2.new.code c.args.test c.opposite.result c.in-Some-target-2.other (item_list c.args.yes.now) (item_list c.args.no.now) c.args.spot.ways c.args.spot.base c.args.spot.next c.in_ok-first.first
+    (sym c.in-None.ensures.target) (sym c.in-Some-target-2.ensures.target) c.opposite.ensures c.in_ok-first.ensures (c.in_ok-branch-in-Some-target-2.ensures (setting_of c.args.setting.now)))
+    c.list-in-Some-target-2.ensures.emits
