@@ -38,14 +38,6 @@ begun = record { before = Shut; named = λ l. false }
 abbrev pub naming : ℕ → State → State
 naming l s = record s { named = λ m. m == l || s.named m }
 
--- labels that a table holds
-abbrev pub or_false : Option Bool → Bool
-or_false None = false
-or_false (Some b) = b
-
-abbrev pub is_marked : List Bool → ℕ → Bool
-is_marked marked l = or_false (slice_get marked l)
-
 -- the labels of cases from one on
 abbrev pub naming_cases : List CaseLabel → ℕ → State → State
 naming_cases [] l s = s
@@ -82,6 +74,9 @@ jump_on Z = jump.Bz
 
 abbrev pub jump_item : JumpOp → ℕ → PieceItem
 jump_item op l = piece.Jump op l no_change
+
+abbrev pub mark_item : ℕ → PieceItem
+mark_item l = piece.Mark l
 
 abbrev pub call_item : List ℕ → PieceItem
 call_item name = piece.CallTo name no_change

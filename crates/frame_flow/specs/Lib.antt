@@ -3,3 +3,5 @@ pub mod Entries
 pub mod Flow
 pub mod Settings
 pub mod Cuts
+pub mod Marked
+pub mod Emits

@@ -4,12 +4,20 @@
 //! stands before them.
 #![tactic(auto)]
 
+mod cases;
+mod code;
+mod ending;
+mod flow;
+mod function;
+mod items;
 mod named;
 mod setting;
 mod state;
+mod tests;
 mod ways;
 
 pub use frame_runs::{ScalarPlace, Site};
+pub use function::function_items;
 pub use setting::{Setting, Words};
 pub use state::Before;
 pub use ways::Ways;
