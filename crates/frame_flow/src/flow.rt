@@ -75,9 +75,7 @@ fn item(
             after,
             ..
         } => loop_item(alloc, setting, code, before, body, after, spot),
-        AccItem::Switch { cases, body } => {
-            switch_item(alloc, setting, code, cases, body, spot)
-        }
+        AccItem::Switch { cases, body } => { switch_item(alloc, setting, code, cases, body, spot) }
         _ => plain_item(alloc, setting, code, x, spot),
     }
 }
@@ -135,13 +133,31 @@ fn if_item(
             }
             None => {
                 code.branch(test, one)?;
-                list(alloc, setting, code, no, Spot { base: first, ..spot })
+                list(
+                    alloc,
+                    setting,
+                    code,
+                    no,
+                    Spot {
+                        base: first,
+                        ..spot
+                    },
+                )
             }
         },
         None => match spot.ways.target(no) {
             Some(other) => {
                 code.branch(opposite(test), other)?;
-                list(alloc, setting, code, yes, Spot { base: first, ..spot })
+                list(
+                    alloc,
+                    setting,
+                    code,
+                    yes,
+                    Spot {
+                        base: first,
+                        ..spot
+                    },
+                )
             }
             None => both_parts(alloc, setting, code, test, yes, no, spot),
         },

@@ -40,11 +40,7 @@ pub(crate) fn push_mark(items: &mut Vec<PieceItem>, label: u32) -> Result<(), No
     push(items, PieceItem::Mark(label))
 }
 
-pub(crate) fn push_jump(
-    items: &mut Vec<PieceItem>,
-    op: JumpOp,
-    label: u32,
-) -> Result<(), NoMemory>
+pub(crate) fn push_jump(items: &mut Vec<PieceItem>, op: JumpOp, label: u32) -> Result<(), NoMemory>
     ensures { OnOk result (Puts items.old.items (cuts.jump_item op label ∷ []) items.new.items) }
 {
     push(
@@ -75,10 +71,7 @@ pub(crate) fn push_call(
 }
 
 /// A function takes its return address into its word, where it has one.
-pub(crate) fn push_entry(
-    items: &mut Vec<PieceItem>,
-    back: Option<u16>,
-) -> Result<(), NoMemory>
+pub(crate) fn push_entry(items: &mut Vec<PieceItem>, back: Option<u16>) -> Result<(), NoMemory>
     ensures { OnOk result (Puts items.old.items (plain_items (code.entry_code back)) items.new.items) }
 {
     let Some(word) = back else {
@@ -88,10 +81,7 @@ pub(crate) fn push_entry(
     push_instr(items, Instr::Popd(Operand::Direct((word % 128) as u8)))
 }
 
-pub(crate) fn push_return(
-    items: &mut Vec<PieceItem>,
-    back: Option<u16>,
-) -> Result<(), NoMemory>
+pub(crate) fn push_return(items: &mut Vec<PieceItem>, back: Option<u16>) -> Result<(), NoMemory>
     ensures { OnOk result (Puts items.old.items (plain_items (code.return_code back)) items.new.items) }
 {
     match back {

@@ -5,8 +5,8 @@ ghost use Rattle.frame_flow.specs.Settings.{setting_of};
 ghost use Rattle.frame_runs.specs.Places.{address_in};
 
 use acc_code::{AccFunction, HelperName};
-use c25_helper::Routine;
 use c_tree::VarRef;
+use c25_helper::Routine;
 use frame_runs::Site;
 
 /// Where the words of a function lie, and the functions that it may call.

@@ -143,11 +143,7 @@ impl Spot {
             continued: turn_end,
             cases: self.ways.cases,
         };
-        let next = if is_end(third) {
-            self.next
-        } else {
-            turn_end
-        };
+        let next = if is_end(third) { self.next } else { turn_end };
         Ok(Spot { ways, base, next })
     }
 
