@@ -3,7 +3,6 @@ ghost use Rattle.std.specs.Prelude.{◌≡◌, IfOk, option_map};
 ghost use Rattle.cc_words.specs.Asked.{asked, texts_of, told};
 
 use crate::build::{self, Build};
-use crate::exec::{self, Exec};
 use crate::means::{self, Means};
 use crate::run::{self, Run};
 use std::alloc::Global;
@@ -15,7 +14,6 @@ pub enum Request<'a> {
     Build(Build<'a>),
     Run(Run<'a>),
     Means(Means<'a>),
-    Exec(Exec<'a>),
 }
 
 /// What the words behind the program's name ask for, or `None` where they are refused. The first
@@ -30,7 +28,6 @@ pub fn requested<'a>(alloc: Global, words: &'a [String]) -> Result<Option<Reques
         "build" => build::request(alloc, words),
         "run" => run::request(alloc, words),
         "means" => means::request(alloc, words),
-        "exec" => exec::request(alloc, words),
         _ => Ok(None),
     }
 }
