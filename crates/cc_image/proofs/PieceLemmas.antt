@@ -1,0 +1,73 @@
+-- The pieces of a program, with the routines that they call, are those that linking wants.
+use Rattle.std.proofs.Common.{◌≡◌, ◌<◌, ℕ, suc, Bool, true, false, List, [], ◌∷◌, map, refl, sym, subst, arith, All}
+use Rattle.std.proofs.lemmas.List.{get_or-map, length-map}
+use Rattle.std.proofs.lemmas.List.Elements.{All-append, All-cons, All-nil, All-filter, All-map}
+use Rattle.word_base.specs.Name.{IsName}
+use Rattle.tree_code.specs.WordTree.{FunctionCode, ProgramCode}
+use Rattle.tree_code.specs.WellFormedCode.{IsCode}
+use Rattle.acc_code.specs.AccTree.{FunctionItems}
+use Rattle.acc_select.specs.Selected.{selected, selected_function}
+use Rattle.mem_plan.specs.declared.data_plan.DataPlan.{DataPlan}
+use Rattle.mem_plan.specs.declared.data_plan.FramePlan.{FramePlan}
+use Rattle.c25_isa.specs.declared.piece.Piece as code
+use Rattle.c25_isa.specs.Pieces.{Piece, piece_of}
+use Rattle.std.specs.Prelude.{slice_index_or}
+use Rattle.c25_helper.specs.Calls.{pieces_call}
+use Rattle.c25_helper.specs.Routines.{all_routines, helper_pieces, routine_piece}
+use Rattle.c25_link.specs.Linking.{IsLinkable}
+use Rattle.flow_laws.proofs.Words.{piece_has_word}
+use Rattle.frame_emit.specs.Frames.{all_parameters}
+use Rattle.frame_emit.specs.Startup.{startup_piece}
+use Rattle.frame_emit.specs.Emitted.{function_piece, function_pieces, setting_of}
+use Rattle.std.proofs.Math.Logic.{∥∥₁_map}
+use Rattle.cc_image.proofs.NameLemmas.{known_either, names_either}
+use Rattle.cc_image.specs.Images.{own_pieces, all_pieces, rising_arrangements}
+
+first_of : {A : Type 0} (P : A → Type 0) (x : A) (xs : List A) → All P (x ∷ xs) → P x
+first_of P x xs all = all 0 x (omega arith)
+
+others_of : {A : Type 0} (P : A → Type 0) (x : A) (xs : List A) → All P (x ∷ xs) → All P xs
+others_of P x xs all = λ k d within. all (suc k) d (omega (arith, within))
+
+-- one that isn't listed
+unlisted : (p : Piece) → p.listed ≡ false → IsLinkable p
+unlisted p none = record { name = λ listed. absurd (apart p.listed none listed); words = λ listed. absurd (apart p.listed none listed) }
+  where
+    apart : (b : Bool) → b ≡ false → b ≡ true → ⊥
+    apart true e f = cc
+    apart false e f = cc
+
+module _ (plan : DataPlan) (step : ℕ) (parameters names : List (List ℕ)) where
+  functions_linkable : (fs : List FunctionCode) (frames : List FramePlan) (arrangements : List (List (List ℕ))) → All IsName (map (λ (f : FunctionCode). f.name) fs)
+      → All IsLinkable (function_pieces plan step parameters names fs (map selected_function fs) frames arrangements)
+  functions_linkable [] frames arrangements are = All-nil IsLinkable
+  functions_linkable (f ∷ fs) [] arrangements are = All-nil IsLinkable
+  functions_linkable (f ∷ fs) (frame ∷ frames) [] are = All-nil IsLinkable
+  functions_linkable (f ∷ fs) (frame ∷ frames) (lists ∷ rest) are =
+      All-cons IsLinkable (function_piece plan step parameters names f (selected_function f) frame lists) _
+      (record {
+        name = λ listed. first_of IsName f.name (map (λ (g : FunctionCode). g.name) fs) are;
+        words = λ listed. piece_has_word (setting_of plan step parameters names f frame lists) (selected_function f).body;
+      })
+      (functions_linkable fs frames rest (others_of IsName f.name (map (λ (g : FunctionCode). g.name) fs) are))
+
+helpers_unlisted : All IsLinkable helper_pieces
+helpers_unlisted = All-map IsLinkable routine_piece all_routines (λ k d within. unlisted (routine_piece (slice_index_or all_routines k d)) refl)
+
+known_names : (p : ProgramCode) → ∥ IsCode p ∥₁ → All IsName (map (λ (f : FunctionCode). f.name) p.functions)
+known_names p known = known_either (names_either (map (λ (f : FunctionCode). f.name) p.functions)) (∥∥₁_map known (λ (is : IsCode p). is.names))
+
+pub pieces_linkable : (p : ProgramCode) (plan : DataPlan) → ∥ IsCode p ∥₁ → All IsLinkable (all_pieces p plan)
+pieces_linkable p plan known =
+    All-append IsLinkable (own_pieces p plan) _
+    (All-cons IsLinkable (startup_piece plan.statics p.statics) _ (unlisted (startup_piece plan.statics p.statics) refl)
+    (functions_linkable plan 1 (all_parameters p.functions plan.frames (rising_arrangements p)) (map (λ (g : FunctionItems). g.name) (selected p)) p.functions plan.frames (rising_arrangements p) (known_names p known)))
+    (All-filter (λ (x : Piece). pieces_call x.name (own_pieces p plan)) IsLinkable helper_pieces helpers_unlisted)
+
+-- pieces in memory
+linkable_in : (ps : List code.Piece) → All IsLinkable (map piece_of ps) → All (λ q. IsLinkable (piece_of q)) ps
+linkable_in ps h = λ k d within. subst IsLinkable (get_or-map piece_of ps k d (piece_of d) within) (h k (piece_of d) (subst (λ n. k < n) (sym (length-map ps piece_of)) within))
+
+pub known_linkable : (p : ProgramCode) (plan : DataPlan) (ps list : List code.Piece) → ∥ IsCode p ∥₁ → map piece_of ps ≡ all_pieces p plan → list ≡ ps → All (λ q. IsLinkable (piece_of q)) list
+known_linkable p plan ps list known are same =
+    subst (All (λ (q : code.Piece). IsLinkable (piece_of q))) (sym same) (linkable_in ps (subst (All IsLinkable) (sym are) (pieces_linkable p plan known)))

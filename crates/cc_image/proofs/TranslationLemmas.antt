@@ -1,0 +1,51 @@
+-- What emission wants of the code of a program, and what the faults of phases say of the program.
+use Rattle.std.proofs.Common.{◌≡◌, ◌<◌, ℕ, zero, suc, List, [], ◌∷◌, length, refl, subst, arith}
+use Rattle.std.specs.Prelude.{All, slice_get, slice_index_or, Some}
+use Rattle.c_tree.specs.TypedTree.{ProgramTree}
+use Rattle.tree_code.specs.WordTree.{ProgramCode}
+use Rattle.tree_code.specs.Lowered.{lowered_program}
+use Rattle.acc_code.specs.AccTree.{FunctionItems}
+use Rattle.acc_code.specs.Emittable.{Throughout}
+use Rattle.acc_select.specs.IsSelected.{IsEmittable, object_cells, called_parameters}
+use Rattle.tree_code.specs.WordHelpers.{uses_helper}
+use Rattle.mem_plan.specs.declared.data_plan.DataPlan.{DataPlan}
+use Rattle.mem_plan.specs.declared.data_plan.PlanFault.TheVariants as plan_faults
+use Rattle.c25_isa.specs.Pieces.{Piece}
+use Rattle.c25_link.specs.declared.fault.LinkFault.TheVariants as link_faults
+use Rattle.frame_flow.specs.Emits.{IsRightItem}
+use Rattle.frame_emit.proofs.Naming.{all_right}
+use Rattle.cc_image.specs.declared.fault.TranslationFault.{TranslationFault}
+use Rattle.cc_image.specs.declared.fault.TranslationFault.TheVariants.{Plan, Link, NoMemory}
+use Rattle.cc_image.specs.Faults.{Says, SaysOfTree, SaysOfPieces}
+use Rattle.cc_image.specs.Images.{IsPlanOf, all_pieces}
+
+element_at : {A : Type 0} (xs : List A) (k : ℕ) (d : A) → k < length xs → slice_get xs k ≡ Some (slice_index_or xs k d)
+element_at [] k d within = absurd (omega (arith, within))
+element_at (x ∷ xs) zero d within = refl
+element_at (x ∷ xs) (suc k) d within = element_at xs k d (omega (arith, within))
+
+some_at : {A : Type 0} (xs : List A) (k : ℕ) → k < length xs → (x : A) × (slice_get xs k ≡ Some x)
+some_at [] k within = absurd (omega (arith, within))
+some_at (x ∷ xs) zero within = (x, refl)
+some_at (x ∷ xs) (suc k) within = some_at xs k (omega (arith, within))
+
+pub emittable_right : (p : ProgramCode) (gs : List FunctionItems) → IsEmittable p gs → All (λ g. Throughout IsRightItem g.body) gs
+emittable_right p gs is = λ k d within.
+    let f = some_at p.functions k (omega (arith, within, is.count)) in
+    let g = slice_index_or gs k d in
+    let each = is.each k f.0 g f.1 (element_at gs k d within) in
+    all_right g.scalars (object_cells p f.0) (called_parameters p f.0) (uses_helper f.0.body) g.body each.body.refers
+
+pub tree_says : (t : ProgramTree) (p : ProgramCode) (why : TranslationFault) → p ≡ lowered_program t → SaysOfTree p why → Says t why
+tree_says t p (Plan (plan_faults.DataFull words)) same h = subst (λ q. SaysOfTree q (Plan (plan_faults.DataFull words))) same h
+tree_says t p (Plan plan_faults.NoMemory) same h = h
+tree_says t p (Link why) same h = absurd h
+tree_says t p NoMemory same h = tt
+
+pub pieces_say : (t : ProgramTree) (plan : DataPlan) (pieces : List Piece) (why : TranslationFault) → IsPlanOf t plan → pieces ≡ all_pieces (lowered_program t) plan → SaysOfPieces pieces why → Says t why
+pieces_say t plan pieces (Plan why) is same h = absurd h
+pieces_say t plan pieces (Link (link_faults.CodeFull words)) is same h =
+    let here = subst (λ ps. SaysOfPieces ps (Link (link_faults.CodeFull words))) same h in
+    record { plan = plan; planned = is; is = here.0; over = here.1 }
+pieces_say t plan pieces (Link link_faults.NoMemory) is same h = h
+pieces_say t plan pieces NoMemory is same h = tt
