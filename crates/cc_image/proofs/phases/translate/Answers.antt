@@ -22,7 +22,7 @@ passed_on t (Ok a) why is says = absurd is
 passed_on t (Err e) why is says = subst (Says t) (sym is) says
 
 has_image : {E : Type 0} (t : ProgramTree) (plan : DataPlan) (pieces : List Piece) (r : Result Contents E) → IsPlanOf t plan → pieces ≡ all_pieces (lowered_program t) plan
-  → IfOk r (λ image. image ≡ linked_image pieces) → IfOk r (λ _. pieces_words pieces ≤ 65536) → IfOk r (HasImage t)
+    → IfOk r (λ image. image ≡ linked_image pieces) → IfOk r (λ _. pieces_words pieces ≤ 65536) → IfOk r (HasImage t)
 has_image t plan pieces (Ok image) planned same is fits = record {
   plan = plan;
   planned = planned;
@@ -51,6 +51,6 @@ pub returns-clause-refused : goal.returns-clause-refused
 returns-clause-refused c =
     IfErr-weaker c.linked.result (SaysOfPieces (map piece_of c.deref.result.now)) (Says (program_of c.args.program.now))
     (λ why. pieces_say (program_of c.args.program.now) c.in_ok-planned.planned.plan (map piece_of c.deref.result.now) why
-      (subst (λ p. IsPlan p (rising_arrangements p) c.in_ok-planned.planned.plan) c.in_ok-chosen.ensures.tree c.in_ok-planned.ensures.plan)
-      (ap (map piece_of) c.deref.ensures.value ∙ c.in_ok-pieces.ensures ∙ ap (λ p. all_pieces p c.in_ok-planned.planned.plan) c.in_ok-chosen.ensures.tree))
+    (subst (λ p. IsPlan p (rising_arrangements p) c.in_ok-planned.planned.plan) c.in_ok-chosen.ensures.tree c.in_ok-planned.ensures.plan)
+    (ap (map piece_of) c.deref.ensures.value ∙ c.in_ok-pieces.ensures ∙ ap (λ p. all_pieces p c.in_ok-planned.planned.plan) c.in_ok-chosen.ensures.tree))
     c.linked.ensures.refused
