@@ -1,5 +1,5 @@
 #!/usr/bin/env bash
-# The built program on real files: its examples, its statuses and lines, and how fast it starts.
+# The built program on real files: its examples, its statuses and lines, what it compiles, and how fast it starts.
 # Expected values stand in examples/, here and in the other files of tests/; they come from docs/.
 set -u
 top=$(cd "$(dirname "${BASH_SOURCE[0]}")/.." && pwd)
@@ -63,8 +63,9 @@ printf 'int main(void){__out(1,5); return 7;}' > a.c
 wants 0 '' build a.c a.img
 cmp -s a.img "$top/examples/first.img" || fail 'the image of a source without a line feed'
 printf 'int main(void){return 7;}' > b.c
-wants 1 'source refused: not yet' build b.c b.img
-[ -e b.img ] && fail 'a refused source left an image'
+{ image ce02 ce08 ce07 fe80 0006 ce1f ca07 ce26; printf 'func main 0006 0007\nend\n'; } > wanted.img
+wants 0 '' build b.c made.img
+cmp -s made.img wanted.img || fail 'the image of a source without an output'
 wants 2 'words refused'
 wants 2 'words refused' build a.c
 wants 2 'words refused' bild a.c a.img
@@ -72,11 +73,12 @@ wants 2 'words refused' build a.c a.img -r 5
 wants 2 'words refused' build a.c "$(printf '\377')"
 wants 3 'read fault: absent.c' build absent.c a.img
 wants 3 'read fault: .' build . a.img
-wants 1 'source refused: not yet' build b.c a.img
-cmp -s a.img "$top/examples/first.img" || fail 'a refused build changed its image'
 wants 4 '' build a.c no_folder/a.img
 printf 'int main(void){return 12ab;}' > bad.c
 wants 1 'source refused: bad constant at byte 22' build bad.c b.img
+[ -e b.img ] && fail 'a refused source left an image'
+wants 1 'source refused: bad constant at byte 22' build bad.c a.img
+cmp -s a.img "$top/examples/first.img" || fail 'a refused build changed its image'
 
 # The sources of builds.txt. Each stands beside a file that is kept; one that is refused leaves no image.
 mkdir builds
@@ -90,7 +92,12 @@ while IFS= read -r row; do
     cp a.c source
     rm -f a.img
     if [[ $answer == words\ * ]]; then
-        { image ${answer#words }; printf 'func main 0000 0007\nend\n'; } > wanted.img
+        ranges=
+        [[ $answer == *' func '* ]] && ranges=${answer#* func }
+        set -- ${answer%% func *}
+        shift
+        [ -n "$ranges" ] || ranges=$(printf 'main 0006 %04x' $(($# - 1)))
+        { image "$@"; printf 'func %s %s %s\n' $ranges; echo end; } > wanted.img
         wants 0 '' build a.c a.img
         cmp -s a.img wanted.img || fail "another image: $row"
     else
@@ -100,7 +107,7 @@ while IFS= read -r row; do
     { cmp -s a.c source && [ "$(cat kept)" = kept ]; } || fail "another file was changed: $row"
 done < <(rows builds.txt)
 cd ..
-[ "$builds" -ge 56 ] || fail "builds.txt has $builds sources"
+[ "$builds" -ge 64 ] || fail "builds.txt has $builds sources"
 
 # Sources as high as they may be, one higher, and parentheses, which have no limit of their own.
 nested() {
@@ -113,19 +120,19 @@ nested() {
     }' > nested.c
 }
 nested 195 '1-(' ')'
-wants 1 'source refused: not yet' build nested.c b.img
+wants 0 '' build nested.c made.img
 nested 196 '1-(' ')'
 wants 1 'source refused: syntax at byte 608' build nested.c b.img
 nested 195 '1?(' '):1'
-wants 1 'source refused: not yet' build nested.c b.img
+wants 0 '' build nested.c made.img
 nested 195 'f(' ')'
 wants 1 'source refused: undeclared at byte 410' build nested.c b.img
 nested 195 '((int)' ')'
-wants 1 'source refused: not yet' build nested.c b.img
+wants 0 '' build nested.c made.img
 nested 99000 '(' ')'
-wants 1 'source refused: not yet' build nested.c b.img
+wants 0 '' build nested.c made.img
 awk 'BEGIN { printf "int main(void){"; for (i = 0; i < 197; i++) printf "{"; for (i = 0; i < 198; i++) printf "}" }' > nested.c
-wants 1 'source refused: not yet' build nested.c b.img
+wants 0 '' build nested.c made.img
 
 # The sources of types.txt, each with its fault. A source lies in N.c, and in N.wants is its line, or nothing where it has no fault.
 program=$top/crates/c25cc/out/c25cc
@@ -152,14 +159,13 @@ sources=$(LC_ALL=C awk '
 [ "$sources" -ge 465 ] || fail "types.txt has $sources sources"
 # answers_types LINE SOURCE: builds a source without a fault, where LINE is empty, or one with this line.
 answers_types() {
-    local line=$1 got status
-    got=$("$program" build "$2" made.img)
-    status=$?
-    case $line:$status:$got in
-        ":0:" | ":1:source refused: not yet") ;;
-        ":"*) fail "$2 gave: $status $got" ;;
-        *) [ "$status $got" = "1 $line" ] || fail "$2 gave '$status $got', and wanted '$line': $(head -c 200 "$2")" ;;
-    esac
+    local line=$1 got wanted
+    rm -f made.img
+    got=$("$program" build "$2" made.img; echo "status $?")
+    wanted="${line:+$line
+}status $((${#line} > 0))"
+    [ "$got" = "$wanted" ] || fail "$2 gave '$got', and wanted '$line': $(head -c 200 "$2")"
+    [ "${#line}" -gt 0 ] && [ -e made.img ] && fail "an image of a refused source: $(head -c 200 "$2")"
 }
 for source in $(seq 1 "$sources"); do
     read -r line < "sources/$source.wants"
@@ -184,16 +190,21 @@ for limit in 'functions 256 functions' 'parameters 31 parameters' 'scalars 64 sc
 done
 
 # Large sources: names in one scope, and functions that call one another in a chain or in a circle.
-quickly() {
-    local started took
+# within MS WORD..: what the words do takes less than so many milliseconds.
+within() {
+    local most=$1 started took
+    shift
     started=$(date +%s%N)
-    answers_types "$1" "$2"
+    "$@"
     took=$((($(date +%s%N) - started) / 1000000))
-    [ "$took" -lt 1000 ] || fail "$2 took $took ms"
+    [ "$took" -lt "$most" ] || fail "$(printf %.200s "$*") took $took ms"
 }
+quickly() { within 1000 answers_types "$@"; }
 echo "int main(void){int $(repeated 99990 ',' 'n%d');return 0;}" > names.c
 quickly 'source refused: limit scalars 99990' names.c
 echo "int $(repeated 99990 ',' 'n%d');int main(void){return n99990;}" > statics.c
+quickly 'source refused: data full 199996' statics.c
+echo "int $(repeated 32376 ',' 'n%d');int main(void){return n32376;}" > statics.c
 quickly '' statics.c
 echo "int f0(void){return 0;}$(awk 'BEGIN { for (i = 1; i < 255; i++) printf "int f%d(void){return f%d();}", i, i - 1 }')int main(void){return f254();}" > chain.c
 quickly '' chain.c
@@ -324,10 +335,12 @@ asks() {
             wants 6 "running after ${request[3]} steps" "$@"
             rm -f -- "./${request[1]}" "./${request[2]}"
             ;;
-        means)
+        means | exec)
             echo 'int main(void){for(;;); return 0;}' > "./${request[1]}"
             cp ../no.file "./${request[2]}"
-            wants 6 "running after ${request[3]} turns" "$@"
+            counted=turns
+            [ "${request[0]}" = means ] || counted=steps
+            wants 6 "running after ${request[3]} $counted" "$@"
             rm -f -- "./${request[1]}" "./${request[2]}"
             ;;
         *) fail "another request: ${request[*]}" ;;
@@ -348,7 +361,7 @@ while IFS= read -r row; do
     fi
 done < <(rows words.txt)
 cd ..
-[ "$lists" -ge 100 ] || fail "words.txt has $lists lists"
+[ "$lists" -ge 131 ] || fail "words.txt has $lists lists"
 wants 2 'words refused' ''
 
 # Files as long as they may be, and one byte longer.
@@ -358,14 +371,19 @@ echo >> long.img
 wants 9 'file refused: long.img too long' run long.img none
 head -c 16777216 /dev/zero | tr '\0' '\n' > long.ports
 wants 0 "$seven" run seven.img long.ports
-wants 0 '1 0005
-returned 0007' means "$top/examples/first.c" long.ports
+# both STATUS LINE WORD..: what the source is said to mean, and what its program puts.
+both() {
+    wants "$1" "$2" means "${@:3}"
+    wants "$1" "$2" exec "${@:3}"
+}
+both 0 '1 0005
+returned 0007' "$top/examples/first.c" long.ports
 echo >> long.ports
 wants 9 'file refused: long.ports too long' run seven.img long.ports
-wants 9 'file refused: long.ports too long' means "$top/examples/first.c" long.ports
-wants 9 'file refused: long.c too long' means long.c none
+both 9 'file refused: long.ports too long' "$top/examples/first.c" long.ports
+both 9 'file refused: long.c too long' long.c none
 
-# Programs by the language alone.
+# What sources mean by the language alone, and what their programs do.
 
 # The sources of means.txt: N.c with its input in N.ports, its turns in N.turns, and the lines in N.wants.
 mkdir means
@@ -406,17 +424,52 @@ sources=$(LC_ALL=C awk '
     }
     END { print count + 0 }' "$top/tests/means.txt")
 [ "$sources" -ge 499 ] || fail "means.txt has $sources sources"
+# as_meant SOURCE PORTS LINES: the source is refused as it is said to be, or its program does what it is said to mean. Where that is
+# undefined, or goes on, the outputs that it is said to put come first.
+as_meant() {
+    local lines last outputs got status
+    lines=$(< "$3")
+    last=${lines##*$'\n'}
+    case $last in
+        'source refused: '*) answers_types "$last" "$1"; return ;;
+        'returned '* | 'input '*) got=$("$program" exec "$1" "$2") ;;
+        *) got=$("$program" exec "$1" "$2" --steps 20000) ;;
+    esac
+    status=$?
+    outputs=${lines%"$last"}
+    case $last:$status:$got in
+        'returned '*:0:"$lines" | 'input '*:0:"$lines") ;;
+        'undefined '*:[067]:"$outputs"?* | 'running '*:[067]:"$outputs"?*) ;;
+        *) fail "exec $1 gave: $status $(tail -n 3 <<< "$got" | head -c 300), and it means: $(tail -n 3 <<< "$lines" | head -c 300)" ;;
+    esac
+}
 for source in $(seq 1 "$sources"); do
-    set -- means "means/$source.c" "means/$source.ports"
-    if read -r turns < "means/$source.turns"; then
-        set -- "$@" --turns "$turns"
+    set -- "means/$source.c" "means/$source.ports"
+    turns=()
+    if read -r count < "means/$source.turns"; then
+        turns=(--turns "$count")
     fi
-    puts "means/$source.wants" "$@"
+    puts "means/$source.wants" means "$@" "${turns[@]}"
+    as_meant "$@" "means/$source.wants"
+    # With more turns a run may end that goes on with these. A turn of a loop that ends takes two steps or more.
+    if [[ $(tail -n 1 "means/$source.wants") == 'running '* ]]; then
+        "$program" means "$@" --turns 1000 > more
+        if [ $? -ne 6 ]; then
+            as_meant "$@" more
+        else
+            "$program" exec "$@" --steps 2000 > more
+            [ $? -eq 6 ] || fail "exec $* gave: $(tail -n 1 more)"
+        fi
+    fi
 done
 
 # The examples with an input, each with all the lines that it puts.
 for ports in "$top"/examples/*.in; do
-    puts "${ports%.in}.out" means "${ports%.in}.c" "$ports"
+    example=${ports%.in}
+    puts "$example.out" means "$example.c" "$ports"
+    wants 0 '' build "$example.c" made.img
+    puts "$example.out" run made.img "$ports"
+    puts "$example.out" exec "$example.c" "$ports"
 done
 
 printf 'int main(void){for(;;); return 0;}' > loop.c
@@ -444,41 +497,82 @@ wants 1 'source refused: syntax at byte 0' means none none
 wants 1 'source refused: limit scalars 99990' means names.c none
 [ -w /dev/full ] && { "$top/c25cc" means "$top/examples/first.c" none > /dev/full; [ $? -eq 4 ] || fail 'an answer to a full output'; }
 
+# The statuses of exec, and the order of its refusals.
+wants 6 'running after 3 steps' exec loop.c none --steps=+03
+wants 6 'running after 1000000 steps' exec loop.c none
+wants 0 '1 0005
+returned 0007' exec "$top/examples/first.c" none --steps 11
+wants 6 '1 0005
+running after 10 steps' exec "$top/examples/first.c" none --steps 10
+echo 'int main(void){__out(2, __in(3)); return __in(3);}' > echo.c
+printf '0 0009\n3 1234\n' > echo.ports
+both 0 '2 1234
+input 3 ended' echo.c echo.ports
+wants 2 'words refused' exec
+wants 2 'words refused' exec loop.c
+wants 2 'words refused' exec loop.c none --steps 0
+wants 2 'words refused' exec loop.c none --steps 100000001
+wants 2 'words refused' exec loop.c none --turns 5
+wants 2 'words refused' exec absent.c absent --steps 0
+wants 3 'read fault: absent.c' exec absent.c absent
+wants 3 'read fault: absent' exec bad.c absent
+wants 9 'file refused: bad.ports bad line 2' exec bad.c bad.ports
+wants 9 'file refused: long.c too long' exec long.c absent
+wants 1 'source refused: bad constant at byte 22' exec bad.c none
+wants 1 'source refused: syntax at byte 0' exec none none
+wants 1 'source refused: limit scalars 99990' exec names.c none
+[ -w /dev/full ] && { "$top/c25cc" exec "$top/examples/first.c" none > /dev/full; [ $? -eq 4 ] || fail 'an answer to a full output'; }
+
+# A read at address 0 is undefined, and there is no RAM: the run of the source and that of its image come to the same trap.
+echo 'int main(void){int *p; p = 0; __out(4, 4); return *p;}' > trap.c
+got=$("$program" exec trap.c none)
+[ $? -eq 7 ] || fail "a trap of exec gave: $got"
+wants 0 '' build trap.c trap.img
+wants 7 "$got" run trap.img none
+case $got in
+    '4 0004
+trap no-ram at '????) ;;
+    *) fail "a trap of exec gave: $got" ;;
+esac
+
 # As deep as sources may be: nested expressions, blocks and parentheses, and 256 functions that call one another.
 nested 195 '1-(' ')'
-wants 0 'returned 0000' means nested.c none
+both 0 'returned 0000' nested.c none
 nested 194 '1-(' ')'
-wants 0 'returned 0001' means nested.c none
+both 0 'returned 0001' nested.c none
 nested 194 '1?(' '):1/0'
-wants 0 'returned 0001' means nested.c none
+both 0 'returned 0001' nested.c none
 nested 99000 '(' ')'
-wants 0 'returned 0001' means nested.c none
+both 0 'returned 0001' nested.c none
 awk 'BEGIN { printf "int main(void){"; for (i = 0; i < 196; i++) printf "{"; printf ";"; for (i = 0; i < 197; i++) printf "}" }' > nested.c
-wants 0 'returned 0000' means nested.c none
+both 0 'returned 0000' nested.c none
 chained() { echo "int f0(int x){$1}$(awk 'BEGIN { for (i = 1; i < 255; i++) printf "int f%d(int x){return f%d(x + 1) + 1;}", i, i - 1 }')int main(void){return f254(0);}" > chain.c; }
 chained '__out(0, x); return x;'
-wants 0 '0 00fe
-returned 01fc' means chain.c none
+both 0 '0 00fe
+returned 01fc' chain.c none
 chained 'return 1 / (x - 254);'
 wants 10 'undefined divide by zero at byte 21' means chain.c none
 chained '__out(0, x);'
 wants 10 "0 00fe
 undefined no value at byte $(grep -ob 'f0(x + 1)' chain.c | cut -d : -f 1)" means chain.c none
 
-# 255 calls at once, each within an expression or statements 190 high.
-high() { echo "int f0(int x){return x;}$(awk -v front="$1" -v back="$2" 'BEGIN {
-    for (i = 1; i < 255; i++) {
+# high FRONT BACK COUNT: so many functions, all called at once, each within an expression or statements 190 high.
+high() { echo "int f0(int x){return x;}$(awk -v front="$1" -v back="$2" -v count="$3" 'BEGIN {
+    for (i = 1; i < count; i++) {
         printf "int f%d(int x){", i
         for (k = 0; k < 190; k++) printf "%s", front
         printf "return "
         for (k = 0; k < 190; k++) printf "%s", back
         printf "f%d(x);}", i - 1
     }
-}')int main(void){return f254(7);}" > high.c; }
-high '' '- '
+}')int main(void){return f$(($3 - 1))(7);}" > high.c; }
+high '' '- ' 255
+both 0 'returned 0007' high.c none
+high 'if (1) ' '' 255
 wants 0 'returned 0007' means high.c none
-high 'if (1) ' ''
-wants 0 'returned 0007' means high.c none
+# three words for each test, so that not all of these have room
+high 'if (1) ' '' 100
+wants 0 'returned 0007' exec high.c none
 
 # Long runs, with the time that they take.
 # timed WHAT LINES WORD..: what a command does as in puts takes less than a minute.
@@ -509,8 +603,143 @@ awk 'BEGIN {
     print "input 0 ended"
 }' > words.wants
 timed 'a filter over 10000 words' words.wants means "$top/examples/fir.c" words --turns 10001
+timed "the filter's program over 10000 words" words.wants exec "$top/examples/fir.c" words --steps 100000000
 sed -i '$ c running after 10000 turns' words.wants
 puts words.wants means "$top/examples/fir.c" words
+
+# Programs whose answers are by hand or by arithmetic here.
+
+# Quotients, remainders and shifts of both kinds.
+awk -f "$top/tests/edges.awk" > edges.c
+puts edges.wants exec edges.c edges.ports
+puts edges.wants means edges.c edges.ports
+
+# Calls nested more deeply than the hardware stack is high, and not.
+called() { echo "int f$1(void){return 0;}$(awk -v n="$1" 'BEGIN { for (i = n - 1; i > 0; i--) printf "int f%d(void){return f%d() + 1;}", i, i + 1 }')int main(void){return f1();}" > called.c; }
+for row in '200 00c7' '8 0007' '7 0006' '1 0000'; do
+    called "${row% *}"
+    wants 0 '' build called.c made.img
+    wants 0 "returned ${row#* }" run made.img none
+    both 0 "returned ${row#* }" called.c none
+done
+
+# Data memory: all of it, and one word more; and words that are shared by functions that are never active together.
+filled() { echo "int a[32767]; int b[$1]; int main(void){return 0;}" > filled.c; }
+shared() { echo "int s[$1]; int f(void){int a[32767]; return 0;} int g(void){int b[32767]; return 0;} int main(void){return f()+g();}" > shared.c; }
+for fill in 'filled 31983' 'shared 31981'; do
+    read -r make most <<< "$fill"
+    $make "$most"
+    answers_types '' "$make.c"
+    both 0 'returned 0000' "$make.c" none
+    $make $((most + 1))
+    answers_types 'source refused: data full 64769' "$make.c"
+    wants 1 'source refused: data full 64769' exec "$make.c" none
+    wants 0 'returned 0000' means "$make.c" none
+done
+sed -i 's/^int s[^;]*; //' shared.c
+answers_types '' shared.c
+both 0 'returned 0000' shared.c none
+
+# Values are kept in frame words: without the stores to them a program puts something else.
+# without_stores NAME: an image whose SACL, SACH and IN through an address register, in the range of this function, are MAR.
+without_stores() {
+    awk -v name="$1" '
+    function number(digits,  i, n) {
+        for (i = 1; i <= 4; i++) n = 16 * n + index("0123456789abcdef", substr(digits, i, 1)) - 1
+        return n
+    }
+    NR <= 2 { print; next }
+    /^func/ && $2 == name { first = number($3); last = number($4) }
+    /^func|^end/ { rest = rest $0 "\n"; next }
+    { for (i = 1; i <= NF; i++) word[count++] = $i }
+    END {
+        for (i = first; i <= last; i++) {
+            # these have a second word, which is no instruction
+            if (word[i] ~ /^[df]/) i++
+            else if (word[i] ~ /^[68].[89a-f]/) word[i] = "55" substr(word[i], 3)
+        }
+        for (i = 0; i < count; i++) printf "%s%s", word[i], (i % 8 == 7 || i == count - 1 ? "\n" : " ")
+        printf "%s", rest
+    }'
+}
+echo 'int main(void){int a; int b; a = __in(0); b = a + 1; __out(1, a + b); return b;}' > kept.c
+echo '0 0004' > kept.ports
+both 0 '1 0009
+returned 0005' kept.c kept.ports
+wants 0 '' build kept.c kept.img
+without_stores main < kept.img > changed.img
+wants 0 '1 0009
+returned 0005' run kept.img kept.ports
+wants 0 '1 0000
+returned 0000' run changed.img kept.ports
+
+cat > filter.c <<'SOURCE'
+int h[16] = {1,2,3,4,5,6,7,8,8,7,6,5,4,3,2,1};
+int x[16];
+int fir(int s) {
+    int acc; int i; int *p;
+    for (i = 15; i > 0; i--) x[i] = x[i - 1];
+    x[0] = s; acc = 0; p = h;
+    for (i = 0; i < 16; i++) acc += x[i] * *p++;
+    return acc >> 2;
+}
+int main(void) { for (;;) __out(1, fir(__in(0))); return 0; }
+SOURCE
+printf '0 0008\n0 fffc\n0 0000\n' > filter.ports
+printf '1 0002\n1 0003\n1 0004\ninput 0 ended\n' > filter.wants
+wants 0 '' build filter.c filter.img
+puts filter.wants run filter.img filter.ports
+puts filter.wants exec filter.c filter.ports
+puts filter.wants means filter.c filter.ports
+length=$(sed -n 's/^words //p' filter.img)
+[ "$length" -le 180 ] || fail "the filter has $length words"
+without_stores fir < filter.img > changed.img
+"$program" run changed.img filter.ports > got
+cmp -s got filter.wants && fail 'the filter does without its stores'
+
+# Many functions, many tokens and much code, each within a time.
+for count in 3 200; do
+    bash "$top/tests/many_functions.sh" "$count" > many.c
+    bash "$top/tests/many_functions.sh" "$count" lines > many.wants
+    within 200 answers_types '' many.c
+    puts many.wants exec many.c none
+    puts many.wants means many.c none
+    tail -n 2 many.wants >> many.ends
+done
+[ "$(tr '\n' ' ' < many.ends)" = '1 0069 returned 0069 1 0011 returned 0011 ' ] || fail 'the ends of many functions'
+# statements COUNT TEXT: a source with so many statements of this text.
+statements() { awk -v n="$1" -v text="$2" 'BEGIN { printf "int main(void){int x; x = 1; "; for (i = 0; i < n; i++) printf "%s", text; print "return x;}" }' > statements.c; }
+statements 199980 ';'
+within 2000 answers_types '' statements.c
+wants 0 'returned 0001' exec statements.c none
+statements 16000 'x=x+x+1;'
+within 2000 answers_types '' statements.c
+wants 0 'returned ffff' exec statements.c none
+# code_full: the source is refused for its code.
+code_full() {
+    local got status
+    rm -f made.img
+    got=$("$program" "$@")
+    status=$?
+    [[ $got =~ ^'source refused: code full '([0-9]+)$ ]] && [ "$status" -eq 1 ] && [ "${BASH_REMATCH[1]}" -gt 65536 ] && [ ! -e made.img ] ||
+        fail "for code that is full: $status $got"
+}
+statements 99900 'x;'
+within 2000 code_full build statements.c made.img
+statements 28500 '__out(0,300);'
+within 2000 code_full build statements.c made.img
+within 2000 code_full exec statements.c none
+# All of program memory, and one word more: 6 words of the startup, LDPK in the first output, 4 words for each output of 300, 3 for
+# the last one, and 2 for the return.
+outputs() { awk -v n="$1" -v last="$2" 'BEGIN { printf "int main(void){"; for (i = 0; i < n; i++) printf "__out(0,300);"; print "__out(0," last "); return 0;}" }' > outputs.c; }
+outputs 16381 5
+{ yes '0 012c' | head -n 16381; echo '0 0005'; echo 'returned 0000'; } > outputs.wants
+puts outputs.wants exec outputs.c none
+outputs 16381 300
+answers_types 'source refused: code full 65537' outputs.c
+# data memory comes before code
+sed -i '1s/^/int a[32767]; int b[31984]; /' statements.c
+answers_types 'source refused: data full 64770' statements.c
 
 # Damaged images, images of any words and any bytes end with a status that a run has, whatever the input.
 answers() {

@@ -1,6 +1,6 @@
 -- The told files come to one thing or are refused for one, for each command.
 use Rattle.std.proofs.Common.{◌≡◌, ◌≢◌, ◌∙◌, ℕ, List, Option, refl, sym, ap, subst, IsTrue}
-use Rattle.cc_words.specs.Asked.{Asked, ToBuild, ToRun, ToEvaluate}
+use Rattle.cc_words.specs.Asked.{Asked, ToBuild, ToRun, ToEvaluate, ToExecute}
 use Rattle.word_base.specs.Ports.{Outputs, input_of}
 use Rattle.c_tree.specs.SourceRun.{source_run}
 use Rattle.c25_isa.specs.Image.{Contents}
@@ -16,7 +16,9 @@ use Rattle.c25_image.specs.PortText.{PortText, PortSays}
 use Rattle.c25_image.proofs.ImageEnds.{text_injective}
 use Rattle.c25_image.proofs.ImageExact.{says_no_text}
 use Rattle.c25_image.proofs.PortLines.{bad_no_text, one_port_text}
-use Rattle.cc_fault.specs.SourceFaults.{IsAccepted}
+use Rattle.cc_image.specs.Images.{HasImage}
+use Rattle.cc_image.proofs.OneImage.{one as one_image}
+use Rattle.cc_fault.specs.SourceFaults.{HasProgram, IsAccepted}
 use Rattle.cc_fault.proofs.OneFault.{accepted_no_fault, program_no_fault, same_program}
 use Rattle.cc_compile.specs.Compiles.{IsBuilt}
 use Rattle.cc_text.specs.Answers.{Answered}
@@ -26,8 +28,10 @@ use Rattle.cc_text.specs.MeansText.{means_answer}
 use Rattle.cc_driver.specs.World.{Shelves}
 use Rattle.cc_driver.specs.Fetches.{AreFetched}
 use Rattle.cc_driver.specs.Build.{BuildsTo, IsRefusedFor}
-use Rattle.cc_driver.specs.Run.{RunsTo, RunRefused, BadImage, BadPorts, ArePortsRefused}
+use Rattle.cc_driver.specs.Run.{ImageRuns, RunsTo, RunRefused, BadImage, BadPorts, ArePortsRefused}
 use Rattle.cc_driver.specs.Means.{MeansTo, MeansRefused, PortsFirst, SourceThen}
+use Rattle.cc_driver.specs.Exec.{ExecutesTo, ExecuteRefused}
+use Rattle.cc_driver.specs.Exec as exec
 use Rattle.cc_driver.specs.Commands.{files_of, Comes, Rejects}
 use Rattle.cc_driver.specs.Puts.{IsStatus}
 use Rattle.cc_driver.proofs.StatusLemmas.{quiet_is, of_stop, of_outcome}
@@ -39,11 +43,13 @@ pub comes_told : (what : Asked) (shelf : Shelves) (answer : Answered) (stored : 
 comes_told (ToBuild source image) shelf answer stored c = ((c.bytes, c.fetched), tt {0})
 comes_told (ToRun image ports steps) shelf answer stored c = ((c.0.bytes, c.0.fetched), ((c.0.more, c.0.also), tt {0}))
 comes_told (ToEvaluate source ports turns) shelf answer stored c = ((c.0.bytes, c.0.fetched), ((c.0.more, c.0.also), tt {0}))
+comes_told (ToExecute source ports steps) shelf answer stored c = ((c.0.bytes, c.0.fetched), ((c.0.more, c.0.also), tt {0}))
 
 pub refuses_told : (what : Asked) (shelf : Shelves) (why : Why) → Rejects what shelf why → AreFetched shelf (files_of what)
 refuses_told (ToBuild source image) shelf why r = ((r.bytes, r.fetched), tt {0})
 refuses_told (ToRun image ports steps) shelf why r = ((r.bytes, r.fetched), ((r.more, r.also), tt {0}))
 refuses_told (ToEvaluate source ports turns) shelf why r = ((r.bytes, r.fetched), ((r.more, r.also), tt {0}))
+refuses_told (ToExecute source ports steps) shelf why r = ((r.bytes, r.fetched), ((r.more, r.also), tt {0}))
 
 -- ---- ports
 
@@ -57,7 +63,7 @@ ports_refused name bytes why lines r text = not_ports bytes r.fault lines r.some
 -- ---- build
 
 accepted : (bytes : List ℕ) (image : Contents) → IsBuilt bytes image → IsAccepted bytes
-accepted bytes image b = let c = b.compiles in (c.tokens, c.source, c.lexes, c.is_source, (c.program, c.typed, c.thin))
+accepted bytes image b = (b.tokens, b.source, b.lexes, b.is_source, (b.program, b.typed, (image, b.has)))
 
 build_one : (bytes : List ℕ) (a b : Answered) (s t : Option (List ℕ)) → BuildsTo bytes a s → BuildsTo bytes b t → a ≡ b
 build_one bytes a b s t c d = c.quiet_is ∙ sym d.quiet_is
@@ -82,14 +88,18 @@ reached_one outs others stop.Running (stop.Ended y) e = cc
 reached_one outs others stop.Running (stop.Trap kind at) e = cc
 reached_one outs others stop.Running stop.Running e = (cc, refl)
 
+-- one run is answered alike
+image_run_one : (words others : List ℕ) (lines more : List (ℕ × ℕ)) (steps : ℕ) (a b : Answered) → words ≡ others → lines ≡ more → ImageRuns words lines steps a → ImageRuns others more steps b → a ≡ b
+image_run_one words others lines more steps a b same_words same_lines r s =
+    let runs = ap (λ w. machine_run (zero_start w) (of_sixteen (input_of lines)) steps) same_words
+    ∙ ap (λ l. machine_run (zero_start others) (of_sixteen (input_of l)) steps) same_lines in
+    let same = reached_one r.outs s.outs r.stands s.stands (sym r.runs ∙ runs ∙ s.runs) in
+    r.is ∙ ap (λ o. run_answer steps o r.stands) same.0 ∙ ap (λ t. run_answer steps s.outs t) same.1 ∙ sym s.is
+
 run_one : (i p : List ℕ) (steps : ℕ) (a b : Answered) → RunsTo i p steps a → RunsTo i p steps b → a ≡ b
 run_one i p steps a b r s =
     let contents = text_injective r.contents s.contents r.image.whole s.image.whole (sym r.image.text ∙ s.image.text) in
-    let lines = one_port_text p r.lines s.lines r.ports s.ports in
-    let runs = ap (λ c. machine_run (zero_start c.words) (of_sixteen (input_of r.lines)) steps) contents
-    ∙ ap (λ l. machine_run (zero_start s.contents.words) (of_sixteen (input_of l)) steps) lines in
-    let same = reached_one r.outs s.outs r.stands s.stands (sym r.runs ∙ runs ∙ s.runs) in
-    r.is ∙ ap (λ o. run_answer steps o r.stands) same.0 ∙ ap (λ t. run_answer steps s.outs t) same.1 ∙ sym s.is
+    image_run_one _ _ _ _ steps a b (ap (λ (c : Contents). c.words) contents) (one_port_text p r.lines s.lines r.ports s.ports) r.runs s.runs
 
 run_not : (image ports i p : List ℕ) (steps : ℕ) (a : Answered) (why : Why) → RunsTo i p steps a → RunRefused image ports i p why → ⊥
 run_not image ports i p steps a why r (BadImage fault some says is) = says_no_text i fault some says r.contents r.image.whole r.image.text
@@ -121,6 +131,32 @@ means_refused_one ports s p v w (SourceThen lines text fault none is) (PortsFirs
 means_refused_one ports s p v w (SourceThen lines text fault none is) (SourceThen more also other neither are) =
     ap refusal_status is ∙ sym (ap refusal_status are)
 
+-- ---- exec
+
+typed_of : (bytes : List ℕ) (image : Contents) (b : IsBuilt bytes image) → HasProgram bytes b.program
+typed_of bytes image b = (b.tokens, b.source, b.lexes, b.is_source, b.typed)
+
+one_built : (bytes : List ℕ) (a b : Contents) → IsBuilt bytes a → IsBuilt bytes b → a ≡ b
+one_built bytes a b h k =
+    let program = same_program bytes h.program k.program (typed_of bytes a h) (typed_of bytes b k) in
+    one_image k.program a b (subst (λ p. HasImage p a) program h.has) k.has
+
+exec_one : (s p : List ℕ) (steps : ℕ) (a b : Answered) → ExecutesTo s p steps a → ExecutesTo s p steps b → a ≡ b
+exec_one s p steps a b r q =
+    let contents = one_built s r.image q.image r.built q.built in
+    image_run_one _ _ _ _ steps a b (ap (λ (c : Contents). c.words) contents) (one_port_text p r.lines q.lines r.ports q.ports) r.runs q.runs
+
+exec_not : (ports s p : List ℕ) (steps : ℕ) (a : Answered) (why : Why) → ExecutesTo s p steps a → ExecuteRefused ports s p why → ⊥
+exec_not ports s p steps a why r (exec.PortsFirst bad) = ports_refused ports p why r.lines bad r.ports
+exec_not ports s p steps a why r (exec.SourceThen lines text fault has is) = accepted_no_fault s fault (accepted s r.image r.built) has
+
+exec_refused_one : (ports s p : List ℕ) (v w : Why) → ExecuteRefused ports s p v → ExecuteRefused ports s p w → refusal_status v ≡ refusal_status w
+exec_refused_one ports s p v w (exec.PortsFirst bad) (exec.PortsFirst worse) = ap refusal_status bad.is ∙ sym (ap refusal_status worse.is)
+exec_refused_one ports s p v w (exec.PortsFirst bad) (exec.SourceThen lines text fault has is) = absurd (ports_refused ports p v lines bad text)
+exec_refused_one ports s p v w (exec.SourceThen lines text fault has is) (exec.PortsFirst bad) = absurd (ports_refused ports p w lines bad text)
+exec_refused_one ports s p v w (exec.SourceThen lines text fault has is) (exec.SourceThen more also other too are) =
+    ap refusal_status is ∙ sym (ap refusal_status are)
+
 -- ---- all commands
 
 pub comes_one : (what : Asked) (shelf : Shelves) (tells : IsTrue shelf.tells) (a b : Answered) (s t : Option (List ℕ)) → Comes what shelf a s → Comes what shelf b t → a ≡ b
@@ -133,6 +169,9 @@ comes_one (ToRun image ports steps) shelf tells a b s t c d =
 comes_one (ToEvaluate source ports turns) shelf tells a b s t c d =
     let h = two_files shelf tells _ _ _ _ c.0 d.0 in
     means_one h.0 h.1.0 turns a b h.1.1 h.1.2
+comes_one (ToExecute source ports steps) shelf tells a b s t c d =
+    let h = two_files shelf tells _ _ _ _ c.0 d.0 in
+    exec_one h.0 h.1.0 steps a b h.1.1 h.1.2
 
 pub comes_not : (what : Asked) (shelf : Shelves) (tells : IsTrue shelf.tells) (a : Answered) (s : Option (List ℕ)) (why : Why) → Comes what shelf a s → Rejects what shelf why → ⊥
 comes_not (ToBuild source image) shelf tells a s why c r =
@@ -144,6 +183,9 @@ comes_not (ToRun image ports steps) shelf tells a s why c r =
 comes_not (ToEvaluate source ports turns) shelf tells a s why c r =
     let h = two_files shelf tells _ _ _ _ c.0 r in
     means_not ports h.0 h.1.0 turns a why h.1.1 h.1.2
+comes_not (ToExecute source ports steps) shelf tells a s why c r =
+    let h = two_files shelf tells _ _ _ _ c.0 r in
+    exec_not ports h.0 h.1.0 steps a why h.1.1 h.1.2
 
 pub refuses_one : (what : Asked) (shelf : Shelves) (tells : IsTrue shelf.tells) (v w : Why) → Rejects what shelf v → Rejects what shelf w → refusal_status v ≡ refusal_status w
 refuses_one (ToBuild source image) shelf tells v w r s =
@@ -155,10 +197,17 @@ refuses_one (ToRun image ports steps) shelf tells v w r s =
 refuses_one (ToEvaluate source ports turns) shelf tells v w r s =
     let h = two_files shelf tells _ _ _ _ r s in
     means_refused_one ports h.0 h.1.0 v w h.1.1 h.1.2
+refuses_one (ToExecute source ports steps) shelf tells v w r s =
+    let h = two_files shelf tells _ _ _ _ r s in
+    exec_refused_one ports h.0 h.1.0 v w h.1.1 h.1.2
+
+image_run_status : (words : List ℕ) (lines : List (ℕ × ℕ)) (steps : ℕ) (answer : Answered) → ImageRuns words lines steps answer → IsStatus answer.status
+image_run_status words lines steps answer r = subst (λ a. IsStatus a.status) (sym r.is) (of_stop r.stands)
 
 -- what a command comes to has a status that there is
 pub comes_status : (what : Asked) (shelf : Shelves) (answer : Answered) (stored : Option (List ℕ)) → Comes what shelf answer stored → IsStatus answer.status
 comes_status (ToBuild source image) shelf answer stored c = quiet_is answer c.holds.quiet_is
-comes_status (ToRun image ports steps) shelf answer stored c = subst (λ a. IsStatus a.status) (sym c.0.holds.is) (of_stop c.0.holds.stands)
+comes_status (ToRun image ports steps) shelf answer stored c = image_run_status c.0.holds.contents.words c.0.holds.lines steps answer c.0.holds.runs
 comes_status (ToEvaluate source ports turns) shelf answer stored c =
     subst (λ a. IsStatus a.status) (sym c.0.holds.is) (of_outcome (source_run c.0.holds.program (input_of c.0.holds.lines) turns))
+comes_status (ToExecute source ports steps) shelf answer stored c = image_run_status c.0.holds.image.words c.0.holds.lines steps answer c.0.holds.runs

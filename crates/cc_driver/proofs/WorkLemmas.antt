@@ -54,7 +54,8 @@ pub build_fault_of : (fault : BuildFault) (why : Why) → why ≡ of_build_fault
 build_fault_of (build_faults.Lex l) why e some = (λ f. cc, e)
 build_fault_of (build_faults.Parse l) why e some = (λ f. cc, e)
 build_fault_of (build_faults.Types l) why e some = (λ f. cc, e)
-build_fault_of build_faults.NotYet why e some = (λ f. cc, e)
+build_fault_of (build_faults.Plan l) why e some = (λ f. cc, e)
+build_fault_of (build_faults.Link l) why e some = (λ f. cc, e)
 build_fault_of build_faults.NoMemory why e some = absurd (some e)
 
 -- ---- refused work

@@ -33,16 +33,20 @@ pub record IsImageOf (contents : Contents) (bytes : List ℕ) : Type 0 where
   pub whole : IsWhole contents
   pub text : bytes ≡ image_text contents
 
--- from zeros and on what the port lines give, the words of the image put these outputs in so many steps and stand here, and that is answered
+-- from zeros and on what port lines give, the words of an image put these outputs in so many steps and stand here, and that is answered
+pub record ImageRuns (words : List ℕ) (lines : List (ℕ × ℕ)) (steps : ℕ) (answer : Answered) : Type 0 where
+  pub outs : Outputs
+  pub stands : Stop
+  pub runs : machine_run (zero_start words) (of_sixteen (input_of lines)) steps ≡ reached_of outs stands
+  pub is : answer ≡ run_answer steps outs stands
+
+-- the image runs on what the port lines give
 pub record RunsTo (image_bytes port_bytes : List ℕ) (steps : ℕ) (answer : Answered) : Type 0 where
   pub contents : Contents
   pub lines : List (ℕ × ℕ)
-  pub outs : Outputs
-  pub stands : Stop
   pub image : IsImageOf contents image_bytes
   pub ports : PortText port_bytes lines
-  pub runs : machine_run (zero_start contents.words) (of_sixteen (input_of lines)) steps ≡ reached_of outs stands
-  pub is : answer ≡ run_answer steps outs stands
+  pub runs : ImageRuns contents.words lines steps answer
 
 -- the bytes of a port file are refused
 pub record ArePortsRefused (name bytes : List ℕ) (why : Why) : Type 0 where

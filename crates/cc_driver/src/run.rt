@@ -4,17 +4,33 @@ ghost use Rattle.cc_words.specs.Asked.{ToRun};
 ghost use Rattle.cc_text.specs.Refusals.{why_of, OfMemory};
 ghost use Rattle.cc_text.specs.Answers.{answered};
 ghost use Rattle.cc_driver.specs.World.{shelves};
-ghost use Rattle.cc_driver.specs.Run.{RunsTo, RunRefused};
+ghost use Rattle.cc_driver.specs.Run.{ImageRuns, RunsTo, RunRefused};
 ghost use Rattle.cc_driver.specs.Work.{WorkDone, WorkRefused, NothingStored};
 
 use crate::shelf::{Fetched, IMAGE_LIMIT, fetch_both};
 use c25_image::{read_image, read_ports};
-use c25_isa::Start;
+use c25_isa::{Image, Start};
 use c25_sim::Machine;
 use cc_shelf::Shelf;
 use cc_text::{Answer, Refusal, run_answer};
 use cc_words::Run;
 use std::alloc::Global;
+use word_base::{NoMemory, Ports};
+
+/// Runs an image from zeros.
+pub(crate) fn run_image(
+    alloc: Global,
+    image: &Image,
+    ports: Ports,
+    steps: u64,
+) -> Result<Answer, NoMemory>
+    ensures { IfOk result (λ a. ImageRuns image.now.words ports steps (answered a)) }
+{
+    let start = Start::zero(alloc, image)?;
+    let mut machine = Machine::new(alloc, start, ports)?;
+    let outcome = machine.run(alloc, steps)?;
+    run_answer(alloc, &outcome, steps)
+}
 
 // Runs the image of one text on the ports of another.
 fn run<'a>(alloc: Global, asked: &Run<'a>, files: &Fetched) -> Result<Answer, Refusal<'a>>
@@ -31,10 +47,7 @@ fn run<'a>(alloc: Global, asked: &Run<'a>, files: &Fetched) -> Result<Answer, Re
         Ok(ports) => ports,
         Err(fault) => return Err(Refusal::of_ports(asked.ports, fault)),
     };
-    let start = Start::zero(alloc, &image)?;
-    let mut machine = Machine::new(alloc, start, ports)?;
-    let outcome = machine.run(alloc, asked.steps)?;
-    Ok(run_answer(alloc, &outcome, asked.steps)?)
+    Ok(run_image(alloc, &image, ports, asked.steps)?)
 }
 
 /// Runs an image from zeros.

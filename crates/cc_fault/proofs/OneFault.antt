@@ -1,5 +1,5 @@
 -- A source has at most one fault, but for the place that one of syntax names and for which one of types, and none where it is accepted.
-use Rattle.std.proofs.Common.{◌≡◌, ◌≢◌, ℕ, List, refl, sym, ap, subst}
+use Rattle.std.proofs.Common.{◌≡◌, ℕ, List, refl, sym, ap, subst}
 use Rattle.c_syntax.specs.declared.token.Token.{Token}
 use Rattle.c_syntax.specs.Lexes.{Lexes}
 use Rattle.c_syntax.proofs.OneReading.{one_token_list}
@@ -13,10 +13,10 @@ use Rattle.c_parser.specs.declared.fault.ParseFault.{ParseFault}
 use Rattle.c_parser.specs.declared.fault.ParseFault.TheVariants as parse
 use Rattle.c_rules.specs.declared.fault.TypeFault.{TypeFault}
 use Rattle.c_rules.proofs.LawLemmas.{one_program, accepted}
-use Rattle.cc_thin.specs.Thin.{IsThinProgram}
-use Rattle.cc_fault.specs.SourceFaults.{HasFault, HasNoProgramFor, HasProgram, HasTree, IsTypedWith, IsLexFault, IsParseFault, IsTypeFault, IsSameFault, IsAccepted, IsUntyped, IsOfTypes}
+use Rattle.cc_image.proofs.OneImage.{one_plan_fault, one_link_fault, plan_or_link, image_no_plan_fault, image_no_link_fault}
+use Rattle.cc_fault.specs.SourceFaults.{HasFault, HasNoProgramFor, HasProgram, HasTree, IsTypedWith, IsLexFault, IsParseFault, IsSameFault, IsAccepted, IsUntyped, IsOfTypes}
 use Rattle.cc_fault.specs.declared.fault.BuildFault.{BuildFault}
-use Rattle.cc_fault.specs.declared.fault.BuildFault.TheVariants.{Lex, Parse, Types, NotYet, NoMemory}
+use Rattle.cc_fault.specs.declared.fault.BuildFault.TheVariants.{Lex, Parse, Types, Plan, Link, NoMemory}
 
 -- bytes with a tree have no fault of the lexer, and their tokens have a tree
 no_lexer_fault : (bytes : List ℕ) (P : UnitTree → Type 0) (l : LexFault) → HasTree bytes P → IsLexFault l bytes → ⊥
@@ -39,11 +39,11 @@ both_of_tree bytes P Q h k =
     let same = one_source k.0 h.1 k.1 (subst (λ t. IsSource t h.1) one h.3).derives k.3.derives in
     (k.1, subst P same h.4, k.4)
 
--- a typed program is thin or not
-not_both : (bytes : List ℕ) → IsAccepted bytes → HasFault bytes NotYet → ⊥
-not_both bytes h k =
+-- bytes have one typed program
+both_of_program : (bytes : List ℕ) (P Q : ProgramTree → Type 0) → HasTree bytes (IsTypedWith P) → HasTree bytes (IsTypedWith Q) → (program : ProgramTree) × P program × Q program
+both_of_program bytes P Q h k =
     let b = both_of_tree bytes _ _ h k in
-    b.2.2 (subst IsThinProgram (one_program b.0 b.1.0 b.2.0 b.1.1 b.2.1) b.1.2)
+    (b.2.0, subst P (one_program b.0 b.1.0 b.2.0 b.1.1 b.2.1) b.1.2, b.2.2)
 
 -- a typed program goes with no fault of types
 not_faulty : (bytes : List ℕ) (P : _) (why : TypeFault) → HasTree bytes (IsTypedWith P) → HasFault bytes (Types why) → ⊥
@@ -55,31 +55,42 @@ pub one_fault : (bytes : List ℕ) (a b : BuildFault) → HasFault bytes a → H
 one_fault bytes (Lex l) (Lex m) f g = sym (ap Lex (says_one bytes l m f.0 g.0 f.1 g.1))
 one_fault bytes (Lex l) (Parse why) f g = absurd (lexes_not_says bytes g.0 l f.0 g.1 f.1)
 one_fault bytes (Lex l) (Types why) f g = absurd (no_lexer_fault bytes _ l g f)
-one_fault bytes (Lex l) NotYet f g = absurd (no_lexer_fault bytes _ l g f)
+one_fault bytes (Lex l) (Plan full) f g = absurd (no_lexer_fault bytes _ l g f)
+one_fault bytes (Lex l) (Link full) f g = absurd (no_lexer_fault bytes _ l g f)
 one_fault bytes (Parse why) (Lex l) f g = absurd (lexes_not_says bytes f.0 l g.0 f.1 g.1)
 one_fault bytes (Parse why) (Parse other) f g = (other, refl)
 one_fault bytes (Parse why) (Types other) f g = absurd (no_parse_fault bytes _ why g f)
-one_fault bytes (Parse why) NotYet f g = absurd (no_parse_fault bytes _ why g f)
+one_fault bytes (Parse why) (Plan full) f g = absurd (no_parse_fault bytes _ why g f)
+one_fault bytes (Parse why) (Link full) f g = absurd (no_parse_fault bytes _ why g f)
 one_fault bytes (Types why) (Lex l) f g = absurd (no_lexer_fault bytes _ l f g)
 one_fault bytes (Types why) (Parse other) f g = absurd (no_parse_fault bytes _ other f g)
 one_fault bytes (Types why) (Types other) f g = (other, refl)
-one_fault bytes (Types why) NotYet f g = absurd (not_faulty bytes _ why g f)
-one_fault bytes NotYet (Lex l) f g = absurd (no_lexer_fault bytes _ l f g)
-one_fault bytes NotYet (Parse other) f g = absurd (no_parse_fault bytes _ other f g)
-one_fault bytes NotYet (Types other) f g = absurd (not_faulty bytes _ other f g)
-one_fault bytes NotYet NotYet f g = refl
+one_fault bytes (Types why) (Plan full) f g = absurd (not_faulty bytes _ why g f)
+one_fault bytes (Types why) (Link full) f g = absurd (not_faulty bytes _ why g f)
+one_fault bytes (Plan full) (Lex l) f g = absurd (no_lexer_fault bytes _ l f g)
+one_fault bytes (Link full) (Lex l) f g = absurd (no_lexer_fault bytes _ l f g)
+one_fault bytes (Plan full) (Parse other) f g = absurd (no_parse_fault bytes _ other f g)
+one_fault bytes (Link full) (Parse other) f g = absurd (no_parse_fault bytes _ other f g)
+one_fault bytes (Plan full) (Types other) f g = absurd (not_faulty bytes _ other f g)
+one_fault bytes (Link full) (Types other) f g = absurd (not_faulty bytes _ other f g)
+one_fault bytes (Plan why) (Plan other) f g = let b = both_of_program bytes _ _ f g in sym (ap Plan (one_plan_fault b.0 why other b.1 b.2))
+one_fault bytes (Plan why) (Link other) f g = let b = both_of_program bytes _ _ f g in absurd (plan_or_link b.0 why other b.1 b.2)
+one_fault bytes (Link why) (Plan other) f g = let b = both_of_program bytes _ _ f g in absurd (plan_or_link b.0 other why b.2 b.1)
+one_fault bytes (Link why) (Link other) f g = let b = both_of_program bytes _ _ f g in sym (ap Link (one_link_fault b.0 why other b.1 b.2))
 one_fault bytes NoMemory b f g = absurd f
 one_fault bytes (Lex l) NoMemory f g = absurd g
 one_fault bytes (Parse why) NoMemory f g = absurd g
 one_fault bytes (Types why) NoMemory f g = absurd g
-one_fault bytes NotYet NoMemory f g = absurd g
+one_fault bytes (Plan full) NoMemory f g = absurd g
+one_fault bytes (Link full) NoMemory f g = absurd g
 
 -- an accepted source has no fault
 pub accepted_no_fault : (bytes : List ℕ) (a : BuildFault) → IsAccepted bytes → HasFault bytes a → ⊥
 accepted_no_fault bytes (Lex l) h f = no_lexer_fault bytes _ l h f
 accepted_no_fault bytes (Parse why) h f = no_parse_fault bytes _ why h f
 accepted_no_fault bytes (Types why) h f = not_faulty bytes _ why h f
-accepted_no_fault bytes NotYet h f = not_both bytes h f
+accepted_no_fault bytes (Plan why) h f = let b = both_of_program bytes _ _ h f in image_no_plan_fault b.0 b.1.0 why b.1.1 b.2
+accepted_no_fault bytes (Link why) h f = let b = both_of_program bytes _ _ h f in image_no_link_fault b.0 b.1.0 why b.1.1 b.2
 accepted_no_fault bytes NoMemory h f = f
 
 -- one without a typed program has none but of types
@@ -87,19 +98,21 @@ pub untyped_fault : (bytes : List ℕ) (a : BuildFault) → IsUntyped bytes → 
 untyped_fault bytes (Lex l) u f = absurd (no_lexer_fault bytes _ l u f)
 untyped_fault bytes (Parse why) u f = absurd (no_parse_fault bytes _ why u f)
 untyped_fault bytes (Types why) u f = (why, refl)
-untyped_fault bytes NotYet u f = let b = both_of_tree bytes _ _ f u in absurd (b.2 b.1.0 b.1.1)
+untyped_fault bytes (Plan why) u f = let b = both_of_tree bytes _ _ f u in absurd (b.2 b.1.0 b.1.1)
+untyped_fault bytes (Link why) u f = let b = both_of_tree bytes _ _ f u in absurd (b.2 b.1.0 b.1.1)
 untyped_fault bytes NoMemory u f = absurd f
 
 -- nor is it accepted
 pub untyped_not_accepted : (bytes : List ℕ) → IsUntyped bytes → IsAccepted bytes → ⊥
 untyped_not_accepted bytes u a = let b = both_of_tree bytes _ _ a u in b.2 b.1.0 b.1.1
 
--- one with a typed program has none but that it isn't compiled so far
+-- one with a typed program has none but that its data or its code find no room
 pub program_no_fault : (bytes : List ℕ) (program : ProgramTree) (a : BuildFault) → HasProgram bytes program → HasNoProgramFor a bytes → ⊥
 program_no_fault bytes program (Lex l) h f = no_lexer_fault bytes _ l h f.1
 program_no_fault bytes program (Parse why) h f = no_parse_fault bytes _ why h f.1
 program_no_fault bytes program (Types why) h f = not_faulty bytes (λ p. Unit {0}) why (h.0, h.1, h.2, h.3, (program, h.4, tt {0})) f.1
-program_no_fault bytes program NotYet h f = f.0 refl
+program_no_fault bytes program (Plan why) h f = f.0
+program_no_fault bytes program (Link why) h f = f.0
 program_no_fault bytes program NoMemory h f = f.1
 
 -- bytes have one typed program

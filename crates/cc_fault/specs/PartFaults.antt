@@ -6,7 +6,9 @@ use Rattle.c_parser.specs.declared.fault.ParseFault.TheVariants as parse
 use Rattle.c_rules.specs.declared.fault.TypeFault.{TypeFault}
 use Rattle.c_rules.specs.declared.fault.TypeFault.TheVariants as types
 use Rattle.cc_fault.specs.declared.fault.BuildFault.{BuildFault}
-use Rattle.cc_fault.specs.declared.fault.BuildFault.TheVariants.{Lex, Parse, Types, NoMemory}
+use Rattle.cc_image.specs.declared.fault.TranslationFault.{TranslationFault}
+use Rattle.cc_image.specs.declared.fault.TranslationFault.TheVariants as translation
+use Rattle.cc_fault.specs.declared.fault.BuildFault.TheVariants.{Lex, Parse, Types, Plan, Link, NoMemory}
 
 abbrev pub of_lex_fault : LexFault → BuildFault
 of_lex_fault lex.NoMemory = NoMemory
@@ -19,3 +21,8 @@ of_parse_fault why = Parse why
 abbrev pub of_type_fault : TypeFault → BuildFault
 of_type_fault types.NoMemory = NoMemory
 of_type_fault why = Types why
+
+abbrev pub of_translation_fault : TranslationFault → BuildFault
+of_translation_fault (translation.Plan why) = Plan why
+of_translation_fault (translation.Link why) = Link why
+of_translation_fault translation.NoMemory = NoMemory

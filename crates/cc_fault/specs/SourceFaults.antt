@@ -1,5 +1,5 @@
 -- What each fault of a source says of its bytes (docs/COMMANDS.md, "Statuses and lines").
-use Rattle.std.specs.Prelude.{◌≡◌, ◌≢◌, ℕ, List}
+use Rattle.std.specs.Prelude.{◌≡◌, ◌≢◌, ⊤, ℕ, List}
 use Rattle.c_syntax.specs.declared.token.Token.{Token}
 use Rattle.c_syntax.specs.Lexes.{Lexes}
 use Rattle.c_lexer.specs.declared.fault.LexFault.{LexFault}
@@ -14,9 +14,10 @@ use Rattle.c_rules.specs.Checked.{IsTyped}
 use Rattle.c_rules.specs.Faults as rules
 use Rattle.c_rules.specs.declared.fault.TypeFault.{TypeFault}
 use Rattle.c_rules.specs.declared.fault.TypeFault.TheVariants as types
-use Rattle.cc_thin.specs.Thin.{IsThinProgram}
+use Rattle.c25_isa.specs.Image.{Contents}
+use Rattle.cc_image.specs.Images.{HasImage, HasPlanFault, HasLinkFault}
 use Rattle.cc_fault.specs.declared.fault.BuildFault.{BuildFault}
-use Rattle.cc_fault.specs.declared.fault.BuildFault.TheVariants.{Lex, Parse, Types, NotYet, NoMemory}
+use Rattle.cc_fault.specs.declared.fault.BuildFault.TheVariants.{Lex, Parse, Types, Plan, Link, NoMemory}
 
 -- the bytes have tokens, and these a tree with a property
 abbrev pub HasTree : List ℕ → (UnitTree → Type 0) → Type 0
@@ -30,9 +31,9 @@ IsTypedWith P source = (program : ProgramTree) × IsTyped source program × P pr
 abbrev pub HasProgram : List ℕ → ProgramTree → Type 0
 HasProgram bytes program = HasTree bytes (λ source. IsTyped source program)
 
--- the bytes have a tree, whose typed program is one that is compiled so far
+-- the bytes have a tree, whose typed program has an image
 abbrev pub IsAccepted : List ℕ → Type 0
-IsAccepted bytes = HasTree bytes (IsTypedWith IsThinProgram)
+IsAccepted bytes = HasTree bytes (IsTypedWith (λ program. (image : Contents) × HasImage program image))
 
 -- the bytes have a tree, which has no typed program
 abbrev pub IsUntyped : List ℕ → Type 0
@@ -56,12 +57,19 @@ abbrev pub HasFault : List ℕ → BuildFault → Type 0
 HasFault bytes (Lex why) = IsLexFault why bytes
 HasFault bytes (Parse why) = (tokens : List Token) × Lexes bytes tokens × IsParseFault why tokens
 HasFault bytes (Types why) = HasTree bytes (IsTypeFault why)
-HasFault bytes NotYet = HasTree bytes (IsTypedWith (λ program. ¬ IsThinProgram program))
+HasFault bytes (Plan why) = HasTree bytes (IsTypedWith (λ program. HasPlanFault program why))
+HasFault bytes (Link why) = HasTree bytes (IsTypedWith (λ program. HasLinkFault program why))
 HasFault bytes NoMemory = ⊥
+
+-- a fault of tokens, syntax or types
+abbrev pub IsOfSource : BuildFault → Type 0
+IsOfSource (Plan why) = ⊥
+IsOfSource (Link why) = ⊥
+IsOfSource why = ⊤
 
 -- the bytes have this fault, which leaves them without a typed program
 abbrev pub HasNoProgramFor : BuildFault → List ℕ → Type 0
-HasNoProgramFor why bytes = (why ≢ NotYet) × HasFault bytes why
+HasNoProgramFor why bytes = IsOfSource why × HasFault bytes why
 
 -- both are one fault, but for the place that one of syntax names and for which one of types
 abbrev pub IsSameFault : BuildFault → BuildFault → Type 0

@@ -4,6 +4,7 @@ ghost use Rattle.std.specs.Prelude.{◌≡◌};
 use c_lexer::LexFault;
 use c_parser::ParseFault;
 use c_rules::TypeFault;
+use cc_image::{LinkFault, PlanFault, TranslationFault};
 use word_base::NoMemory;
 
 /// Why a source isn't compiled, in the order in which these are answered. A place is a byte offset in the source. Want of
@@ -16,8 +17,10 @@ pub enum BuildFault {
     Parse(ParseFault),
     /// Its tree breaks a rule of names and types, or one of the whole source.
     Types(TypeFault),
-    /// It isn't one that is compiled so far.
-    NotYet,
+    /// Its data find no room in data memory.
+    Plan(PlanFault),
+    /// Its code finds no room in program memory.
+    Link(LinkFault),
     NoMemory,
 }
 
@@ -66,6 +69,20 @@ impl From<TypeFault> for BuildFault {
         match fault {
             TypeFault::NoMemory => BuildFault::NoMemory,
             why => BuildFault::Types(why),
+        }
+    }
+}
+
+impl From<TranslationFault> for BuildFault {
+    ghost use Rattle.cc_fault.specs.PartFaults.{of_translation_fault};
+
+    ghost from_gives = { λ given e. e ≡ of_translation_fault given };
+
+    fn from(fault: TranslationFault) -> Self {
+        match fault {
+            TranslationFault::Plan(why) => BuildFault::Plan(why),
+            TranslationFault::Link(why) => BuildFault::Link(why),
+            TranslationFault::NoMemory => BuildFault::NoMemory,
         }
     }
 }

@@ -1,4 +1,4 @@
-//! Runs and evaluations whose calls fail, each in turn. The answers were decided by hand from docs/COMMANDS.md.
+//! Runs, evaluations and executions whose calls fail, each in turn. The answers were decided by hand from docs/COMMANDS.md.
 use crate::commands::{Command, Left, leaves};
 use std::process::Abort;
 use std::test::Fail;
@@ -12,6 +12,8 @@ const SOURCE: &[u8] = b"int main(void){return 7;}";
 const RUN: &[&str] = &["run", "i", "p"];
 
 const MEANS: &[&str] = &["means", "i", "p"];
+
+const EXEC: &[&str] = &["exec", "i", "p"];
 
 // Runs a command on no input, and looks at what it leaves. It stores nothing.
 fn answers<R: Threads + Sync + AllocGlobal + Abort>(
@@ -70,4 +72,47 @@ fn failing_evaluations(rt: HostRuntime) -> Result<(), Fail> {
     answers(&rt, MEANS, SOURCE, (&[], &[0]), (4, ""), 2)?;
     // No further call is made.
     answers(&rt, MEANS, SOURCE, (&[2], &[1]), (0, "returned 0007\n"), 2)
+}
+
+/// Puts 0, 1 and 2 to port 1, and returns 7.
+const COUNTS: &[u8] = b"int main(void){int i; for(i=0;i<3;++i)__out(1,i); return 7;}";
+
+#[test]
+fn failing_executions(rt: HostRuntime) -> Result<(), Fail> {
+    answers(&rt, EXEC, COUNTS, (&[0], &[]), (3, "read fault: i\n"), 1)?;
+    answers(&rt, EXEC, COUNTS, (&[1], &[]), (3, "read fault: p\n"), 2)?;
+    answers(&rt, EXEC, b"", (&[], &[0]), (1, ""), 2)?;
+    // The answer can't be put, and nothing more is.
+    answers(&rt, EXEC, COUNTS, (&[], &[0]), (4, ""), 2)?;
+    // No further call is made.
+    answers(
+        &rt,
+        EXEC,
+        COUNTS,
+        (&[2], &[1]),
+        (0, "1 0000\n1 0001\n1 0002\nreturned 0007\n"),
+        2,
+    )
+}
+
+// The format of the ports comes before the faults of the source.
+#[test]
+fn ports_before_the_source(rt: HostRuntime) -> Result<(), Fail> {
+    leaves(
+        &rt,
+        Command {
+            words: EXEC,
+            file: b"",
+            ports: b"x",
+            shelf_fails_at: &[],
+            sink_fails_at: &[],
+        },
+        Left {
+            status: 9,
+            text: "file refused: p bad line 1\n",
+            calls: 2,
+            store_faults: 0,
+            files: 2,
+        },
+    )
 }

@@ -1,5 +1,5 @@
 //! Words whose request no run shows: an empty name, which no file has.
-use cc_words::{Build, Means, Request, Run, requested};
+use cc_words::{Build, Exec, Means, Request, Run, requested};
 use std::alloc::Global;
 use std::test::Fail;
 
@@ -25,6 +25,14 @@ fn shown(alloc: Global, request: &Option<Request>) -> Result<String, Fail> {
                 turns,
             } = asked;
             format!(in alloc; "means {source} {ports} {turns}")?
+        }
+        Some(Request::Exec(asked)) => {
+            let Exec {
+                source,
+                ports,
+                steps,
+            } = asked;
+            format!(in alloc; "exec {source} {ports} {steps}")?
         }
     })
 }

@@ -8,8 +8,12 @@ use Rattle.c_rules.specs.declared.fault.LimitName.{LimitName}
 use Rattle.c_rules.specs.declared.fault.LimitName.TheVariants as limits
 use Rattle.c_rules.specs.declared.fault.TypeFault.{TypeFault}
 use Rattle.c_rules.specs.declared.fault.TypeFault.TheVariants as type_faults
+use Rattle.mem_plan.specs.declared.data_plan.PlanFault.{PlanFault}
+use Rattle.mem_plan.specs.declared.data_plan.PlanFault.TheVariants as plan_faults
+use Rattle.c25_link.specs.declared.fault.LinkFault.{LinkFault}
+use Rattle.c25_link.specs.declared.fault.LinkFault.TheVariants as link_faults
 use Rattle.cc_fault.specs.declared.fault.BuildFault.{BuildFault}
-use Rattle.cc_fault.specs.declared.fault.BuildFault.TheVariants.{Lex, Parse, Types, NotYet, NoMemory}
+use Rattle.cc_fault.specs.declared.fault.BuildFault.TheVariants.{Lex, Parse, Types, Plan, Link, NoMemory}
 
 -- the line of a fault at a place
 abbrev pub place_line : List ℕ → ℕ → List ℕ
@@ -58,10 +62,20 @@ type_line (type_faults.Recursion chain) = codes "source refused: recursion" ++ (
 type_line (type_faults.Limit which count) = codes "source refused: limit " ++ (limit_name which ++ (codes " " ++ (decimal count ++ codes "\n")))
 type_line type_faults.NoMemory = []
 
+-- the lines of data and of code that find no room; want of memory has none
+abbrev pub plan_line : PlanFault → List ℕ
+plan_line (plan_faults.DataFull words) = codes "source refused: data full " ++ (decimal words ++ codes "\n")
+plan_line plan_faults.NoMemory = []
+
+abbrev pub link_line : LinkFault → List ℕ
+link_line (link_faults.CodeFull words) = codes "source refused: code full " ++ (decimal words ++ codes "\n")
+link_line link_faults.NoMemory = []
+
 -- the line that refuses a source; want of memory is no fault of one
 abbrev pub source_line : BuildFault → List ℕ
 source_line (Lex why) = lex_line why
 source_line (Parse why) = parse_line why
 source_line (Types why) = type_line why
-source_line NotYet = codes "source refused: not yet\n"
+source_line (Plan why) = plan_line why
+source_line (Link why) = link_line why
 source_line NoMemory = []

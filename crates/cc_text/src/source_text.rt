@@ -1,11 +1,12 @@
 //! The line that refuses a source.
 ghost use Rattle.std.specs.Prelude.{◌≡◌, ◌++◌, IfOk, string_bytes, codes};
-ghost use Rattle.cc_text.specs.SourceText.{source_line, lex_line, parse_line, type_line, place_line, limit_name, spaced};
+ghost use Rattle.cc_text.specs.SourceText.{source_line, lex_line, parse_line, type_line, plan_line, link_line, place_line, limit_name, spaced};
 
 use c_lexer::LexFault;
 use c_parser::ParseFault;
 use c_rules::{LimitName, TypeFault};
 use cc_fault::BuildFault;
+use cc_image::{LinkFault, PlanFault};
 use std::alloc::Global;
 use word_base::{NoMemory, Text};
 
@@ -91,6 +92,30 @@ fn parse_line(alloc: Global, fault: ParseFault) -> Result<String, NoMemory>
     }
 }
 
+// The line of data that find no room.
+fn plan_line(alloc: Global, fault: &PlanFault) -> Result<String, NoMemory>
+    ensures { IfOk result (λ line. string_bytes line ≡ plan_line fault.now) }
+{
+    match fault {
+        PlanFault::DataFull { words } => {
+            Ok(format!(in alloc; "source refused: data full {words}\n")?)
+        }
+        PlanFault::NoMemory => Err(NoMemory),
+    }
+}
+
+// The line of code that finds no room.
+fn link_line(alloc: Global, fault: &LinkFault) -> Result<String, NoMemory>
+    ensures { IfOk result (λ line. string_bytes line ≡ link_line fault.now) }
+{
+    match fault {
+        LinkFault::CodeFull { words } => {
+            Ok(format!(in alloc; "source refused: code full {words}\n")?)
+        }
+        LinkFault::NoMemory => Err(NoMemory),
+    }
+}
+
 /// The line that refuses a source for a fault, with its line feed. Want of memory is no fault of one, and has none.
 pub fn source_line(alloc: Global, fault: &BuildFault) -> Result<String, NoMemory>
     ensures { IfOk result (λ line. string_bytes line ≡ source_line fault.now) }
@@ -99,7 +124,8 @@ pub fn source_line(alloc: Global, fault: &BuildFault) -> Result<String, NoMemory
         BuildFault::Lex(why) => lex_line(alloc, *why),
         BuildFault::Parse(why) => parse_line(alloc, *why),
         BuildFault::Types(why) => type_line(alloc, why),
-        BuildFault::NotYet => Ok(String::from_str(alloc, "source refused: not yet\n")?),
+        BuildFault::Plan(why) => plan_line(alloc, why),
+        BuildFault::Link(why) => link_line(alloc, why),
         BuildFault::NoMemory => Err(NoMemory),
     }
 }

@@ -1,2 +1,3 @@
+mod Examples
 pub mod ThinRun
-pub mod ThinTree
+pub mod ThinImages

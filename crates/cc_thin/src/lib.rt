@@ -1,6 +1,6 @@
-//! Thin programs: one output of a constant and one returned constant, and the instructions that do what they do.
+//! The law of thin programs: one output of a constant and one returned constant. What they become does what they do.
 #![tactic(auto)]
 
-mod thin;
+mod laws;
 
-pub use thin::{Thin, read_thin};
+pub use laws::thin_images_agree;

@@ -80,19 +80,20 @@ refused app wanted of_rows words is fails =
     sym (ap (λ b. cond b (of_rows (matches_of wanted words)) None) fits_here)
 
 -- a first word that names no command
-pub no_command : (name : Text) (rest : List Text) → (name ≡ codes "build" → ⊥) → (name ≡ codes "run" → ⊥) → (name ≡ codes "means" → ⊥) → None ≡ asked (name ∷ rest)
-no_command name rest not_build not_run not_means = go (bytes_eq name (codes "build")) refl (bytes_eq name (codes "run")) refl (bytes_eq name (codes "means")) refl
+pub no_command : (name : Text) (rest : List Text) → (name ≡ codes "build" → ⊥) → (name ≡ codes "run" → ⊥) → (name ≡ codes "means" → ⊥) → (name ≡ codes "exec" → ⊥) → None ≡ asked (name ∷ rest)
+no_command name rest not_build not_run not_means not_exec = go (bytes_eq name (codes "build")) refl (bytes_eq name (codes "run")) refl (bytes_eq name (codes "means")) refl (bytes_eq name (codes "exec")) refl
   where
-    go : (b : Bool) → bytes_eq name (codes "build") ≡ b → (r : Bool) → bytes_eq name (codes "run") ≡ r → (m : Bool) → bytes_eq name (codes "means") ≡ m → None ≡ asked (name ∷ rest)
-    go true e r f m g = absurd (not_build ((bytes_eq-Decides name (codes "build")).0 e))
-    go false e true f m g = absurd (not_run ((bytes_eq-Decides name (codes "run")).0 f))
-    go false e false f true g = absurd (not_means ((bytes_eq-Decides name (codes "means")).0 g))
-    go false e false f false g = rw (e, f, g) refl
+    go : (b : Bool) → bytes_eq name (codes "build") ≡ b → (r : Bool) → bytes_eq name (codes "run") ≡ r → (m : Bool) → bytes_eq name (codes "means") ≡ m → (x : Bool) → bytes_eq name (codes "exec") ≡ x → None ≡ asked (name ∷ rest)
+    go true e r f m g x h = absurd (not_build ((bytes_eq-Decides name (codes "build")).0 e))
+    go false e true f m g x h = absurd (not_run ((bytes_eq-Decides name (codes "run")).0 f))
+    go false e false f true g x h = absurd (not_means ((bytes_eq-Decides name (codes "means")).0 g))
+    go false e false f false g true h = absurd (not_exec ((bytes_eq-Decides name (codes "exec")).0 h))
+    go false e false f false g false h = rw (e, f, g, h) refl
 
 -- the first of the words names no command
 pub no_command_first : (words : List (String Global)) (name : String Global) → Some name ≡ slice_get words 0
-    → (string_bytes name ≡ codes "build" → ⊥) → (string_bytes name ≡ codes "run" → ⊥) → (string_bytes name ≡ codes "means" → ⊥) → None ≡ asked (texts_of words)
-no_command_first [] name is not_build not_run not_means = cc
-no_command_first (w ∷ ws) name is not_build not_run not_means =
+    → (string_bytes name ≡ codes "build" → ⊥) → (string_bytes name ≡ codes "run" → ⊥) → (string_bytes name ≡ codes "means" → ⊥) → (string_bytes name ≡ codes "exec" → ⊥) → None ≡ asked (texts_of words)
+no_command_first [] name is not_build not_run not_means not_exec = cc
+no_command_first (w ∷ ws) name is not_build not_run not_means not_exec =
     let same : name ≡ w = ap (λ o. unwrap_or o name) is in
-    no_command (string_bytes w) (texts_of ws) (λ e. not_build (ap string_bytes same ∙ e)) (λ e. not_run (ap string_bytes same ∙ e)) (λ e. not_means (ap string_bytes same ∙ e))
+    no_command (string_bytes w) (texts_of ws) (λ e. not_build (ap string_bytes same ∙ e)) (λ e. not_run (ap string_bytes same ∙ e)) (λ e. not_means (ap string_bytes same ∙ e)) (λ e. not_exec (ap string_bytes same ∙ e))

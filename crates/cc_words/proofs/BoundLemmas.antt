@@ -28,7 +28,7 @@ use Rattle.clap.proofs.CallerLemmas.{entry_by_id, same_rules_by_id}
 use Rattle.clap.proofs.ValueTestLemmas.{Accepts-accepts}
 use Rattle.clap.proofs.WalkLemmas.{both}
 use Rattle.cc_words.specs.Asked.{is_number_to}
-use Rattle.cc_words.specs.Commands.{greatest_steps, greatest_turns, means_app, name_rule, number_rule, numbered_app, run_app}
+use Rattle.cc_words.specs.Commands.{exec_app, greatest_steps, greatest_turns, means_app, name_rule, number_rule, numbered_app, run_app}
 
 -- ---- what an entry gives, where no group has one and each value passes Q
 
@@ -212,3 +212,16 @@ steps_in_range = number_in_range (codes "image") (codes "ports") (codes "steps")
 pub turns_in_range : (old : Command) (m : ArgMatches) → IsParsedFrom old m → app_of old ≡ means_app → (t : Text) → one_text (found_of m) (codes "turns") ≡ Some t
     → is_number_to greatest_turns t ≡ true
 turns_in_range = number_in_range (codes "source") (codes "ports") (codes "turns") (codes "10000") greatest_turns turns_apart (codes "means")
+
+exec_apart : IsApart (codes "source") (codes "ports") (codes "steps")
+exec_apart = record {
+  named = λ e. apart 0 5 (sym (ap length e)) (omega arith);
+  no_help = λ e. apart 104 115 (sym (first_byte (codes "steps") (codes "help") e)) (omega arith);
+  no_version = λ e. apart 115 118 (first_byte (codes "steps") (codes "version") e) (omega arith);
+  no_first = refl;
+  no_second = refl;
+}
+
+pub exec_steps_in_range : (old : Command) (m : ArgMatches) → IsParsedFrom old m → app_of old ≡ exec_app → (t : Text) → one_text (found_of m) (codes "steps") ≡ Some t
+    → is_number_to greatest_steps t ≡ true
+exec_steps_in_range = number_in_range (codes "source") (codes "ports") (codes "steps") (codes "1000000") greatest_steps exec_apart (codes "exec")

@@ -14,9 +14,9 @@ use Rattle.clap.specs.declared.builder.value_parser.Reading.TheVariants as readi
 use Rattle.clap.specs.Kinds.{or_else, value_kinds}
 use Rattle.clap.specs.Walk.{is_empty}
 use Rattle.clap.proofs.OnLiterals.{clap_on_literals}
-use Rattle.cc_words.specs.Asked.{Asked, ToBuild, ToRun, ToEvaluate, asked, asked_to, asked_to_build, asked_to_evaluate, asked_to_run, build_of, is_number_to, is_plain_word, is_taken, means_of, number_to, numbered_of, run_of}
-use Rattle.cc_words.specs.Commands.{build_app, greatest_steps, greatest_turns, means_app, numbered_app, run_app, steps_rule, turns_rule}
-use Rattle.cc_words.specs.Plain.{AsksFor, AsksWithin, BuildsNoOtherNames, IsWithinBounds, MeansWithTurns, MeansWithTurnsAttached, MeansWithTurnsFirst, RunsWithSteps, RunsWithStepsAttached, RunsWithStepsFirst}
+use Rattle.cc_words.specs.Asked.{Asked, ToBuild, ToRun, ToEvaluate, ToExecute, asked, asked_to, asked_to_build, asked_to_evaluate, asked_to_execute, asked_to_run, build_of, exec_of, is_number_to, is_plain_word, is_taken, means_of, number_to, numbered_of, run_of}
+use Rattle.cc_words.specs.Commands.{build_app, exec_app, greatest_steps, greatest_turns, means_app, numbered_app, run_app, steps_rule, turns_rule}
+use Rattle.cc_words.specs.Plain.{AsksFor, AsksWithin, BuildsNoOtherNames, ExecutesWithSteps, ExecutesWithStepsAttached, ExecutesWithStepsFirst, IsWithinBounds, MeansWithTurns, MeansWithTurnsAttached, MeansWithTurnsFirst, RunsWithSteps, RunsWithStepsAttached, RunsWithStepsFirst}
 
 -- the word is no `--`, no `--name` and no `-n`
 abbrev IsNoFlag : Text → Type 0
@@ -75,7 +75,7 @@ other_names = (
 number_in : (greatest : ℕ) (m : Text) → is_number_to greatest m ≡ true → number_to greatest m ≡ Some (digits_value 10 (without_leading_plus m))
 number_in greatest m e = ap (λ b. cond b (Some (digits_value 10 (without_leading_plus m))) None) e
 
--- `run` and `means` of two names
+-- `run`, `exec` and `means` of two names
 run_taken : (name a b : Text) → IsNoFlag a → IsNoFlag b → is_taken run_app (name ∷ a ∷ b ∷ []) ≡ true
 unfolding clap_on_literals
 run_taken name a b fa fb = rw (fa.0, fa.1, fa.2, fb.0, fb.1, fb.2) refl
@@ -87,6 +87,18 @@ run_names name a b fa fb = rw (fa.0, fa.1, fa.2, fb.0, fb.1, fb.2) refl
 pub run_two_names : (a b : Text) → is_plain_word a ≡ true → is_plain_word b ≡ true → asked (codes "run" ∷ a ∷ b ∷ []) ≡ Some (ToRun a b 1000000)
 unfolding asked_to
 run_two_names a b pa pb = rw (run_taken (codes "run") a b (no_flag a pa) (no_flag b pb)) (run_names (codes "run") a b (no_flag a pa) (no_flag b pb))
+
+exec_taken : (name a b : Text) → IsNoFlag a → IsNoFlag b → is_taken exec_app (name ∷ a ∷ b ∷ []) ≡ true
+unfolding clap_on_literals
+exec_taken name a b fa fb = rw (fa.0, fa.1, fa.2, fb.0, fb.1, fb.2) refl
+
+exec_names : (name a b : Text) → IsNoFlag a → IsNoFlag b → exec_of (matches_of exec_app (name ∷ a ∷ b ∷ [])) ≡ Some (ToExecute a b 1000000)
+unfolding clap_on_literals
+exec_names name a b fa fb = rw (fa.0, fa.1, fa.2, fb.0, fb.1, fb.2) refl
+
+pub exec_two_names : (a b : Text) → is_plain_word a ≡ true → is_plain_word b ≡ true → asked (codes "exec" ∷ a ∷ b ∷ []) ≡ Some (ToExecute a b 1000000)
+unfolding asked_to
+exec_two_names a b pa pb = rw (exec_taken (codes "exec") a b (no_flag a pa) (no_flag b pb)) (exec_names (codes "exec") a b (no_flag a pa) (no_flag b pb))
 
 means_taken : (name a b : Text) → IsNoFlag a → IsNoFlag b → is_taken means_app (name ∷ a ∷ b ∷ []) ≡ true
 unfolding clap_on_literals
@@ -208,6 +220,69 @@ steps_attached a b pa pb m =
       rows = λ p how. run_attached_rows a b m (no_flag a pa) (no_flag b pb) p how;
     }) refl
 
+-- `exec` with any parser of its steps
+abbrev exec_with : ValueParser → App
+exec_with p = numbered_app (codes "exec") (codes "source") (codes "ports") (record steps_rule { parser = Some p })
+
+module _ (a b m : Text) (fa : IsNoFlag a) (fb : IsNoFlag b) (p : ValueParser) where
+  exec_behind_fault : IsNoFlag m → fault_of (exec_with p) (codes "exec" ∷ a ∷ b ∷ codes "--steps" ∷ m ∷ []) ≡ or_else (number_fault p m) []
+  unfolding clap_on_literals
+  exec_behind_fault fm = rw (fa.0, fa.1, fa.2, fb.0, fb.1, fb.2, fm.0, fm.1, fm.2) refl
+
+  exec_behind_rows : IsNoFlag m → reading_of p ≡ reading.AsWritten → Holds (codes "source") (codes "ports") (codes "steps") a b m (matches_of (exec_with p) (codes "exec" ∷ a ∷ b ∷ codes "--steps" ∷ m ∷ []))
+  unfolding clap_on_literals
+  exec_behind_rows fm how = (
+    rw (fa.0, fa.1, fa.2, fb.0, fb.1, fb.2, fm.0, fm.1, fm.2) refl,
+    rw (fa.0, fa.1, fa.2, fb.0, fb.1, fb.2, fm.0, fm.1, fm.2) refl,
+    rw (fa.0, fa.1, fa.2, fb.0, fb.1, fb.2, fm.0, fm.1, fm.2, how) refl,
+  )
+
+  exec_first_fault : IsNoFlag m → fault_of (exec_with p) (codes "exec" ∷ codes "--steps" ∷ m ∷ a ∷ b ∷ []) ≡ or_else (or_else (number_fault p m) []) []
+  unfolding clap_on_literals
+  exec_first_fault fm = rw (fm.0, fm.1, fm.2, fa.0, fa.1, fa.2, fb.0, fb.1, fb.2) refl
+
+  exec_first_rows : IsNoFlag m → reading_of p ≡ reading.AsWritten → Holds (codes "source") (codes "ports") (codes "steps") a b m (matches_of (exec_with p) (codes "exec" ∷ codes "--steps" ∷ m ∷ a ∷ b ∷ []))
+  unfolding clap_on_literals
+  exec_first_rows fm how = (
+    rw (fm.0, fm.1, fm.2, fa.0, fa.1, fa.2, fb.0, fb.1, fb.2) refl,
+    rw (fm.0, fm.1, fm.2, fa.0, fa.1, fa.2, fb.0, fb.1, fb.2) refl,
+    rw (fm.0, fm.1, fm.2, fa.0, fa.1, fa.2, fb.0, fb.1, fb.2, how) refl,
+  )
+
+  exec_attached_fault : fault_of (exec_with p) (codes "exec" ∷ a ∷ b ∷ (codes "--steps=" ++ m) ∷ []) ≡ or_else (or_else (or_else (number_fault p m) []) []) []
+  unfolding clap_on_literals
+  exec_attached_fault = rw (fa.0, fa.1, fa.2, fb.0, fb.1, fb.2) refl
+
+  exec_attached_rows : reading_of p ≡ reading.AsWritten → Holds (codes "source") (codes "ports") (codes "steps") a b m (matches_of (exec_with p) (codes "exec" ∷ a ∷ b ∷ (codes "--steps=" ++ m) ∷ []))
+  unfolding clap_on_literals
+  exec_attached_rows how =
+      (rw (fa.0, fa.1, fa.2, fb.0, fb.1, fb.2) refl, rw (fa.0, fa.1, fa.2, fb.0, fb.1, fb.2) refl, rw (fa.0, fa.1, fa.2, fb.0, fb.1, fb.2, how) refl)
+
+-- `exec` with a number of steps, behind the names, before them and attached
+pub exec_steps_behind : ExecutesWithSteps
+exec_steps_behind a b pa pb m pm =
+    let fm = no_flag m pm in
+    number_asked exec_with (codes "source") (codes "ports") (codes "steps") greatest_steps ToExecute (codes "exec" ∷ a ∷ b ∷ codes "--steps" ∷ m ∷ []) a b m (record {
+      fault = λ p. exec_behind_fault a b m (no_flag a pa) (no_flag b pb) p fm ∙ or_nothing (number_fault p m);
+      rows = λ p how. exec_behind_rows a b m (no_flag a pa) (no_flag b pb) p fm how;
+    }) refl
+
+pub exec_steps_first : ExecutesWithStepsFirst
+exec_steps_first a b pa pb m pm =
+    let fm = no_flag m pm in
+    number_asked exec_with (codes "source") (codes "ports") (codes "steps") greatest_steps ToExecute (codes "exec" ∷ codes "--steps" ∷ m ∷ a ∷ b ∷ []) a b m (record {
+      fault = λ p. exec_first_fault a b m (no_flag a pa) (no_flag b pb) p fm ∙ or_nothing (or_else (number_fault p m) []) ∙ or_nothing (number_fault p m);
+      rows = λ p how. exec_first_rows a b m (no_flag a pa) (no_flag b pb) p fm how;
+    }) refl
+
+pub exec_steps_attached : ExecutesWithStepsAttached
+exec_steps_attached a b pa pb m =
+    number_asked exec_with (codes "source") (codes "ports") (codes "steps") greatest_steps ToExecute (codes "exec" ∷ a ∷ b ∷ (codes "--steps=" ++ m) ∷ []) a b m (record {
+      fault = λ p. exec_attached_fault a b m (no_flag a pa) (no_flag b pb) p ∙ or_nothing (or_else (or_else (number_fault p m) []) [])
+          ∙ or_nothing (or_else (number_fault p m) []) ∙ or_nothing (number_fault p m);
+      rows = λ p how. exec_attached_rows a b m (no_flag a pa) (no_flag b pb) p how;
+    }) refl
+
 -- `means` with any parser of its turns
 abbrev means_with : ValueParser → App
 means_with p = numbered_app (codes "means") (codes "source") (codes "ports") (record turns_rule { parser = Some p })
@@ -314,13 +389,14 @@ taken_only false o h = tt
 pub within_asked : AsksWithin
 unfolding asked_to
 within_asked [] = tt
-within_asked (name ∷ rest) = go (bytes_eq name (codes "build")) (bytes_eq name (codes "run")) (bytes_eq name (codes "means"))
+within_asked (name ∷ rest) = go (bytes_eq name (codes "build")) (bytes_eq name (codes "run")) (bytes_eq name (codes "means")) (bytes_eq name (codes "exec"))
   where
     words : List Text
     words = name ∷ rest
 
-    go : (b r m : Bool) → IfSome (cond b (asked_to_build words) (cond r (asked_to_run words) (cond m (asked_to_evaluate words) None))) IsWithinBounds
-    go true r m = taken_only (is_taken build_app words) (build_of (matches_of build_app words)) (build_bounded (matches_of build_app words))
-    go false true m = taken_only (is_taken run_app words) (run_of (matches_of run_app words)) (numbered_bounded _ _ _ greatest_steps ToRun (λ a b n h. h) (matches_of run_app words))
-    go false false true = taken_only (is_taken means_app words) (means_of (matches_of means_app words)) (numbered_bounded _ _ _ greatest_turns ToEvaluate (λ a b n h. h) (matches_of means_app words))
-    go false false false = tt
+    go : (b r m x : Bool) → IfSome (cond b (asked_to_build words) (cond r (asked_to_run words) (cond m (asked_to_evaluate words) (cond x (asked_to_execute words) None)))) IsWithinBounds
+    go true r m x = taken_only (is_taken build_app words) (build_of (matches_of build_app words)) (build_bounded (matches_of build_app words))
+    go false true m x = taken_only (is_taken run_app words) (run_of (matches_of run_app words)) (numbered_bounded _ _ _ greatest_steps ToRun (λ a b n h. h) (matches_of run_app words))
+    go false false true x = taken_only (is_taken means_app words) (means_of (matches_of means_app words)) (numbered_bounded _ _ _ greatest_turns ToEvaluate (λ a b n h. h) (matches_of means_app words))
+    go false false false true = taken_only (is_taken exec_app words) (exec_of (matches_of exec_app words)) (numbered_bounded _ _ _ greatest_steps ToExecute (λ a b n h. h) (matches_of exec_app words))
+    go false false false false = tt

@@ -8,7 +8,7 @@ use Rattle.std.specs.declared.alloc.Global.{Global}
 use Rattle.clap.specs.ValueTests.{is_unsigned_in}
 use Rattle.clap.specs.Walk.{is_empty}
 use Rattle.clap.specs.Words.{App, Row, Text, fault_of, first_of, matches_of, one_of}
-use Rattle.cc_words.specs.Commands.{build_app, greatest_steps, greatest_turns, means_app, run_app}
+use Rattle.cc_words.specs.Commands.{build_app, exec_app, greatest_steps, greatest_turns, means_app, run_app}
 use Rattle.cc_words.specs.declared.asked.Request.{Request}
 use Rattle.cc_words.specs.declared.asked.Request.TheVariants as request
 
@@ -17,17 +17,19 @@ abbrev pub texts_of : List (String Global) → List Text
 texts_of words = map string_bytes words
 
 -- what is asked for: to build an image of a source, to run an image on ports for at most so many
--- steps, or to evaluate a source on ports with at most so many turns
+-- steps, to evaluate a source on ports with at most so many turns, or to compile a source and run it so
 pub data Asked : Type 0 where
   ToBuild : Text → Text → Asked
   ToRun : Text → Text → ℕ → Asked
   ToEvaluate : Text → Text → ℕ → Asked
+  ToExecute : Text → Text → ℕ → Asked
 
 -- a request, as what it asks for
 abbrev pub told : Request → Asked
 told (request.Build asked) = ToBuild asked.source.now asked.image.now
 told (request.Run asked) = ToRun asked.image.now asked.ports.now asked.steps
 told (request.Means asked) = ToEvaluate asked.source.now asked.ports.now asked.turns
+told (request.Exec asked) = ToExecute asked.source.now asked.ports.now asked.steps
 
 -- the text writes a number in decimal, from 1 to the greatest; a plus may stand first
 abbrev pub is_number_to : ℕ → Text → Bool
@@ -60,6 +62,10 @@ run_of = numbered_of (codes "image") (codes "ports") (codes "steps") greatest_st
 abbrev pub means_of : List Row → Option Asked
 means_of = numbered_of (codes "source") (codes "ports") (codes "turns") greatest_turns ToEvaluate
 
+-- what the matches of `exec` ask for
+abbrev pub exec_of : List Row → Option Asked
+exec_of = numbered_of (codes "source") (codes "ports") (codes "steps") greatest_steps ToExecute
+
 -- `clap` takes the words as those of the command
 abbrev pub is_taken : App → List Text → Bool
 is_taken app words = is_empty (fault_of app words)
@@ -77,10 +83,14 @@ asked_to_run = asked_to run_app run_of
 abbrev pub asked_to_evaluate : List Text → Option Asked
 asked_to_evaluate = asked_to means_app means_of
 
+abbrev pub asked_to_execute : List Text → Option Asked
+asked_to_execute = asked_to exec_app exec_of
+
 abbrev pub asked_by : Text → List Text → Option Asked
 asked_by name words = if bytes_eq name (codes "build") then asked_to_build words
     else (if bytes_eq name (codes "run") then asked_to_run words
-    else (if bytes_eq name (codes "means") then asked_to_evaluate words else None))
+    else (if bytes_eq name (codes "means") then asked_to_evaluate words
+    else (if bytes_eq name (codes "exec") then asked_to_execute words else None)))
 
 -- what the words ask for, if anything: the first word chooses the command
 abbrev pub asked : List Text → Option Asked

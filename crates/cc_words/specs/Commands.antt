@@ -52,3 +52,7 @@ run_app = numbered_app (codes "run") (codes "image") (codes "ports") steps_rule
 -- `means SRC PORTS [--turns N]`
 abbrev pub means_app : App
 means_app = numbered_app (codes "means") (codes "source") (codes "ports") turns_rule
+
+-- `exec SRC PORTS [--steps M]`
+abbrev pub exec_app : App
+exec_app = numbered_app (codes "exec") (codes "source") (codes "ports") steps_rule

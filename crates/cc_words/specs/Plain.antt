@@ -2,7 +2,7 @@
 use Rattle.std.specs.Prelude.{◌≡◌, ◌≤◌, ◌++◌, ℕ, ⊤, true, false, List, [], ◌∷◌, IfSome, codes}
 use Rattle.std.specs.Str.Parse.{digits_value, without_leading_plus}
 use Rattle.clap.specs.Words.{Text}
-use Rattle.cc_words.specs.Asked.{Asked, ToBuild, ToRun, ToEvaluate, Asks, AsksNothing, asked}
+use Rattle.cc_words.specs.Asked.{Asked, ToBuild, ToRun, ToEvaluate, ToExecute, Asks, AsksNothing, asked}
 use Rattle.cc_words.specs.Asked.{is_number_to, is_plain_word}
 use Rattle.cc_words.specs.Commands.{greatest_steps, greatest_turns}
 
@@ -75,11 +75,35 @@ abbrev pub MeansWithTurnsAttached : Type 0
 MeansWithTurnsAttached = OnPlain (λ a b. (text : Text)
     → MeansFor a b text (codes "means" ∷ a ∷ b ∷ (codes "--turns=" ++ text) ∷ []))
 
+-- `exec SRC PORTS`
+abbrev pub ExecutesTwoNames : Type 0
+ExecutesTwoNames = OnPlain (λ a b. Asks (codes "exec" ∷ a ∷ b ∷ []) (ToExecute a b 1000000))
+
+-- the words ask for a run of a source for the steps that a text writes
+abbrev pub ExecutesFor : Text → Text → Text → List Text → Type 0
+ExecutesFor a b = AsksFor greatest_steps (ToExecute a b)
+
+-- `exec SRC PORTS --steps M`, where M looks like no option
+abbrev pub ExecutesWithSteps : Type 0
+ExecutesWithSteps = OnPlain (λ a b. (text : Text) → is_plain_word text ≡ true
+    → ExecutesFor a b text (codes "exec" ∷ a ∷ b ∷ codes "--steps" ∷ text ∷ []))
+
+-- `exec --steps M SRC PORTS`
+abbrev pub ExecutesWithStepsFirst : Type 0
+ExecutesWithStepsFirst = OnPlain (λ a b. (text : Text) → is_plain_word text ≡ true
+    → ExecutesFor a b text (codes "exec" ∷ codes "--steps" ∷ text ∷ a ∷ b ∷ []))
+
+-- `exec SRC PORTS --steps=M`
+abbrev pub ExecutesWithStepsAttached : Type 0
+ExecutesWithStepsAttached = OnPlain (λ a b. (text : Text)
+    → ExecutesFor a b text (codes "exec" ∷ a ∷ b ∷ (codes "--steps=" ++ text) ∷ []))
+
 -- a run is of 1 to 100,000,000 steps, and a loop of an evaluation has 1 to 1,000,000 turns
 abbrev pub IsWithinBounds : Asked → Type 0
 IsWithinBounds (ToBuild source image) = ⊤
 IsWithinBounds (ToRun image ports steps) = (1 ≤ steps) × (steps ≤ greatest_steps)
 IsWithinBounds (ToEvaluate source ports turns) = (1 ≤ turns) × (turns ≤ greatest_turns)
+IsWithinBounds (ToExecute source ports steps) = (1 ≤ steps) × (steps ≤ greatest_steps)
 
 -- and that holds of whatever is asked for
 abbrev pub AsksWithin : Type 0

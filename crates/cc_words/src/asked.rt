@@ -3,6 +3,7 @@ ghost use Rattle.std.specs.Prelude.{◌≡◌, IfOk, option_map};
 ghost use Rattle.cc_words.specs.Asked.{asked, texts_of, told};
 
 use crate::build::{self, Build};
+use crate::exec::{self, Exec};
 use crate::means::{self, Means};
 use crate::run::{self, Run};
 use std::alloc::Global;
@@ -14,6 +15,7 @@ pub enum Request<'a> {
     Build(Build<'a>),
     Run(Run<'a>),
     Means(Means<'a>),
+    Exec(Exec<'a>),
 }
 
 /// What the words behind the program's name ask for, or `None` where they are refused. The first
@@ -28,6 +30,7 @@ pub fn requested<'a>(alloc: Global, words: &'a [String]) -> Result<Option<Reques
         "build" => build::request(alloc, words),
         "run" => run::request(alloc, words),
         "means" => means::request(alloc, words),
+        "exec" => exec::request(alloc, words),
         _ => Ok(None),
     }
 }

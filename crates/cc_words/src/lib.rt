@@ -4,12 +4,14 @@
 mod asked;
 mod build;
 mod commands;
+mod exec;
 mod means;
 mod plain;
 mod run;
 
 pub use asked::{Request, requested};
 pub use build::Build;
+pub use exec::Exec;
 pub use means::Means;
 pub use plain::plain_words;
 pub use run::Run;

@@ -1,6 +1,7 @@
 //! What the usual words ask for.
 ghost use Rattle.cc_words.specs.Plain.{AsksWithin, BuildsNoOtherNames, BuildsTwoNames, RunsTwoNames, MeansTwoNames};
 ghost use Rattle.cc_words.specs.Plain.{RunsWithSteps, RunsWithStepsAttached, RunsWithStepsFirst};
+ghost use Rattle.cc_words.specs.Plain.{ExecutesTwoNames, ExecutesWithSteps, ExecutesWithStepsAttached, ExecutesWithStepsFirst};
 ghost use Rattle.cc_words.specs.Plain.{MeansWithTurns, MeansWithTurnsAttached, MeansWithTurnsFirst};
 
 /// The words that hold no option but `--steps` or `--turns` ask for what one would say, and no words
@@ -17,5 +18,9 @@ pub fn plain_words()
     ensures turns { MeansWithTurns }
     ensures turns_first { MeansWithTurnsFirst }
     ensures turns_attached { MeansWithTurnsAttached }
+    ensures exec { ExecutesTwoNames }
+    ensures exec_steps { ExecutesWithSteps }
+    ensures exec_steps_first { ExecutesWithStepsFirst }
+    ensures exec_steps_attached { ExecutesWithStepsAttached }
     ensures range { AsksWithin }
 {}

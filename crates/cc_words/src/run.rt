@@ -21,8 +21,8 @@ pub struct Run<'a> {
     pub steps: u64,
 }
 
-// `--steps M`.
-fn steps<'a>(alloc: Global) -> Arg<'a>
+/// `--steps M`.
+pub(crate) fn steps<'a>(alloc: Global) -> Arg<'a>
     ensures rule { rule_of result ≡ steps_rule }
     ensures own { result.global ≡ false }
 {

@@ -1,4 +1,4 @@
-use Rattle.cc_words.proofs.PlainLemmas.{means_two_names, other_names, run_two_names, steps_attached, steps_behind, steps_first, turns_attached, turns_behind, turns_first, two_names, within_asked}
+use Rattle.cc_words.proofs.PlainLemmas.{exec_steps_attached, exec_steps_behind, exec_steps_first, exec_two_names, means_two_names, other_names, run_two_names, steps_attached, steps_behind, steps_first, turns_attached, turns_behind, turns_first, two_names, within_asked}
 use Rattle.cc_words.proofs.plain.plain_words.Goals as goal
 
 pub returns : goal.returns
@@ -13,5 +13,9 @@ returns c = record {
   turns = turns_behind;
   turns_first = turns_first;
   turns_attached = turns_attached;
+  exec = exec_two_names;
+  exec_steps = exec_steps_behind;
+  exec_steps_first = exec_steps_first;
+  exec_steps_attached = exec_steps_attached;
   range = within_asked;
 }
