@@ -1,0 +1,6 @@
+-- So many lists so far.
+use Rattle.std.proofs.Common.{◌≡◌, [], replicate}
+use Rattle.lay_greedy.proofs.spread.empty_lists.Given as goal
+
+abbrev pub invariant-loop : goal.invariant-loop
+invariant-loop l = l.lists.items ≡ replicate l.counter []

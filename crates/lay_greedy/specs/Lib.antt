@@ -1,0 +1,2 @@
+-- How lists of scalars stand in memory.
+pub mod Spread

@@ -1,0 +1,112 @@
+-- What is kept of a child, and whether its bound reaches a cost.
+use Rattle.std.proofs.Common.{◌≡◌, ℕ, suc, ◌+◌, ◌*◌, ◌-◌, ◌<◌, ◌≤◌, Bool, true, false, cond, not, List, [], ◌∷◌, ◌++◌, map, length, refl, ap, sym, ◌∙◌, arith, append-nil}
+use Rattle.std.specs.Prelude.{◌==◌, ◌||◌, nat_le, nat_lt, pos, ◌+ℤ◌, ◌-ℤ◌, sum_by, count_by, Option, Some}
+use Rattle.std.specs.List.{concat}
+use Rattle.std.proofs.lemmas.Bool.{not_from_false}
+use Rattle.std.proofs.lemmas.Bool.Decides.{nat_tests}
+use Rattle.std.proofs.lemmas.Int.{ints}
+use Rattle.std.proofs.lemmas.List.Sums.{sum_by-le-sum_by}
+use Rattle.lay_model.specs.Sequences.{Sequence}
+use Rattle.lay_cost.specs.Placements.{has}
+use Rattle.lay_cost.specs.Parts.{Node, node_lists, part_cost_of}
+use Rattle.lay_cost.proofs.Counts.{is_there}
+use Rattle.lay_tree.specs.Tree.{with_scalar, unplaced, is_complete, has_closes_left}
+use Rattle.lay_tree.specs.Bound.{weight_outside, sum_of_adjacent, greatest, last_of, most_saved, outside_loads, paid_outside, bound}
+use Rattle.lay_tree.specs.Search.{reaches}
+use Rattle.lay_search.specs.declared.kept.Kept.{Kept}
+use Rattle.lay_search.specs.Levels.{beside_last}
+use Rattle.lay_search.specs.Numbers.{last_scalar, most_beside, kept_with, kept_in, kept_at, next_kept, kept_reaches, may_close}
+use Rattle.lay_search.proofs.Unplaced.{minus, unplaced_scalar, greatest_minus, greatest_back, sum_minus, length_minus, count_kept}
+
+pub sum_same : {X : Type 0} (f g : X → ℕ) (xs : List X) → ((x : X) → f x ≡ g x) → sum_by f xs ≡ sum_by g xs
+sum_same f g xs h = omega (arith, sum_by-le-sum_by f g xs (λ x. omega (arith, h x)), sum_by-le-sum_by g f xs (λ x. omega (arith, h x)))
+
+pub adjacent_push : (w : ℕ → ℕ → ℕ) (xs : List ℕ) (s : ℕ) → sum_of_adjacent w (xs ++ (s ∷ [])) ≡ sum_of_adjacent w xs + beside_last w (last_scalar xs) s
+adjacent_push w [] s = refl
+adjacent_push w (x ∷ []) s = omega arith
+adjacent_push w (x ∷ y ∷ ys) s = omega (arith, adjacent_push w (y ∷ ys) s)
+
+pub last_push : (xs : List ℕ) (s : ℕ) → last_scalar (xs ++ (s ∷ [])) ≡ Some s
+last_push [] s = refl
+last_push (x ∷ []) s = refl
+last_push (x ∷ y ∷ ys) s = last_push (y ∷ ys) s
+
+last_list_push : (xs : List ℕ) (s : ℕ) → last_of (xs ++ (s ∷ [])) ≡ s ∷ []
+last_list_push [] s = refl
+last_list_push (x ∷ []) s = refl
+last_list_push (x ∷ y ∷ ys) s = last_list_push (y ∷ ys) s
+
+-- a scalar that isn't placed
+pub count_unplaced : (seq : Sequence) (n : Node) (s : ℕ) → s < seq.scalars → has (concat (node_lists n)) s ≡ false → count_by (λ t. t == s) (unplaced seq n) ≡ 1
+count_unplaced seq n s lt e = count_kept (λ t. not (has (concat (node_lists n)) t)) s 0 seq.scalars (not_from_false (has (concat (node_lists n)) s) e) (omega arith) (omega (arith, lt))
+
+pub has_unplaced : (seq : Sequence) (n : Node) (s : ℕ) → s < seq.scalars → has (concat (node_lists n)) s ≡ false → has (unplaced seq n) s ≡ true
+has_unplaced seq n s lt e = is_there s (unplaced seq n) (omega (arith, count_unplaced seq n s lt e))
+
+-- what can be saved for the scalars of a child is what is greatest among those of its parent
+pub most_of_child : (seq : Sequence) (n : Node) (s u : ℕ) → has (unplaced seq n) s ≡ true → most_saved seq (with_scalar n s) u ≡ most_beside seq n u
+most_of_child seq n s u e =
+    let f = weight_outside seq n u in
+    ap (λ l. greatest (map f (unplaced seq (with_scalar n s) ++ l))) (last_list_push n.open_list s)
+    ∙ ap (λ l. greatest (map f (l ++ (s ∷ [])))) (unplaced_scalar seq n s)
+    ∙ greatest_back f s (minus s (unplaced seq n))
+    ∙ sym (greatest_minus f s (unplaced seq n) e)
+
+pub sum_unplaced : (f : ℕ → ℕ) (seq : Sequence) (n : Node) (s : ℕ) → s < seq.scalars → has (concat (node_lists n)) s ≡ false → sum_by f (unplaced seq n) ≡ f s + sum_by f (unplaced seq (with_scalar n s))
+sum_unplaced f seq n s lt e =
+    sum_minus f s (unplaced seq n) ∙ ap (λ c. c * f s + sum_by f (minus s (unplaced seq n))) (count_unplaced seq n s lt e)
+    ∙ ap (λ a. a + sum_by f (minus s (unplaced seq n))) (one (f s)) ∙ ap (λ l. f s + sum_by f l) (sym (unplaced_scalar seq n s))
+  where
+    one : (a : ℕ) → 1 * a ≡ a
+    one a = omega arith
+
+pub length_unplaced : (seq : Sequence) (n : Node) (s : ℕ) → s < seq.scalars → has (concat (node_lists n)) s ≡ false → length (unplaced seq n) ≡ 1 + length (unplaced seq (with_scalar n s))
+length_unplaced seq n s lt e = length_minus s (unplaced seq n) ∙ ap (λ c. c + length (minus s (unplaced seq n))) (count_unplaced seq n s lt e) ∙ ap (λ l. 1 + length l) (sym (unplaced_scalar seq n s))
+
+saved_by_child : (seq : Sequence) (n : Node) (s : ℕ) → s < seq.scalars → has (concat (node_lists n)) s ≡ false → sum_by (most_beside seq n) (unplaced seq n) ≡ most_beside seq n s + sum_by (most_saved seq (with_scalar n s)) (unplaced seq (with_scalar n s))
+saved_by_child seq n s lt e =
+    sum_unplaced (most_beside seq n) seq n s lt e
+    ∙ ap (λ a. most_beside seq n s + a) (sym (sum_same (most_saved seq (with_scalar n s)) (most_beside seq n) (unplaced seq (with_scalar n s)) (λ u. most_of_child seq n s u (has_unplaced seq n s lt e))))
+
+pub most_beside_le : (seq : Sequence) (n : Node) (s : ℕ) → s < seq.scalars → has (concat (node_lists n)) s ≡ false → most_beside seq n s ≤ (kept_in seq n).greatest
+most_beside_le seq n s lt e = omega (arith, saved_by_child seq n s lt e)
+
+pub child_kept : (seq : Sequence) (n : Node) (s : ℕ) → s < seq.scalars → has (concat (node_lists n)) s ≡ false
+    → kept_at seq (with_scalar n s) ≡ next_kept (kept_in seq n) s (beside_last (weight_outside seq n) (last_scalar n.open_list) s) (most_beside seq n s)
+child_kept seq n s lt e =
+    let fewer : length (unplaced seq (with_scalar n s)) ≡ length (unplaced seq n) - 1 = omega (arith, length_unplaced seq n s lt e) in
+    let less : sum_by (most_saved seq (with_scalar n s)) (unplaced seq (with_scalar n s)) ≡ sum_by (most_beside seq n) (unplaced seq n) - most_beside seq n s = omega (arith, saved_by_child seq n s lt e) in
+    let saved = adjacent_push (weight_outside seq n) n.open_list s in
+    ap (λ u. make u (last_scalar (n.open_list ++ (s ∷ []))) (sum_of_adjacent (weight_outside seq n) (n.open_list ++ (s ∷ []))) (sum_by (most_saved seq (with_scalar n s)) (unplaced seq (with_scalar n s)))) fewer
+    ∙ ap (λ l. make (length (unplaced seq n) - 1) l (sum_of_adjacent (weight_outside seq n) (n.open_list ++ (s ∷ []))) (sum_by (most_saved seq (with_scalar n s)) (unplaced seq (with_scalar n s)))) (last_push n.open_list s)
+    ∙ ap (λ a. make (length (unplaced seq n) - 1) (Some s) a (sum_by (most_saved seq (with_scalar n s)) (unplaced seq (with_scalar n s)))) saved
+    ∙ ap (λ g. make (length (unplaced seq n) - 1) (Some s) (sum_of_adjacent (weight_outside seq n) n.open_list + beside_last (weight_outside seq n) (last_scalar n.open_list) s) g) less
+  where
+    make : ℕ → Option ℕ → ℕ → ℕ → Kept
+    make u l a g = record { closes = length n.closed; unplaced = u; last = l; closed = part_cost_of seq n.closed; loads = outside_loads seq n; paid = paid_outside seq n; saved = a; greatest = g }
+
+-- where the open list is empty, nothing but scalars that aren't placed can stand before one
+pub empty_kept : (seq : Sequence) (n : Node) → n.open_list ≡ [] → kept_in seq n ≡ kept_at seq n
+empty_kept seq n e = ap (kept_with seq n) (sum_same (most_beside seq n) (most_saved seq n) (unplaced seq n) (λ u. ap (λ l. greatest (map (weight_outside seq n u) l)) (sym (append-nil (unplaced seq n)) ∙ ap (λ o. unplaced seq n ++ last_of o) (sym e))))
+
+-- the bound
+by_loads : (a b c : ℕ) → nat_le c (a + b) ≡ reaches (pos a +ℤ pos b) c
+by_loads a b c = grind (arith, ints, nat_tests)
+
+by_pairs : (a b p s g c : ℕ) → nat_le (c + s + g) (a + b + p) ≡ reaches (pos a +ℤ (pos (b + p) -ℤ pos (s + g))) c
+by_pairs a b p s g c = grind (arith, ints, nat_tests)
+
+pub bound_reaches : (k : ℕ) (seq : Sequence) (n : Node) (cost : ℕ) → is_complete seq n ≡ false → kept_reaches k seq.step (kept_at seq n) cost ≡ reaches (bound k seq n) cost
+bound_reaches k seq n cost e =
+    let left : may_close k (kept_at seq n) ≡ has_closes_left k n = ap (λ m. nat_lt m k) (more (length n.closed)) in
+    rw e (by (may_close k (kept_at seq n)) (nat_lt 1 seq.step) left)
+  where
+    more : (m : ℕ) → m + 1 ≡ suc m
+    more m = omega arith
+
+    by : (a b : Bool) → a ≡ has_closes_left k n
+        → cond (a || b) (nat_le cost (part_cost_of seq n.closed + outside_loads seq n)) (nat_le (cost + sum_of_adjacent (weight_outside seq n) n.open_list + sum_by (most_saved seq n) (unplaced seq n)) (part_cost_of seq n.closed + outside_loads seq n + paid_outside seq n))
+        ≡ reaches (pos (part_cost_of seq n.closed) +ℤ cond (has_closes_left k n || b) (pos (outside_loads seq n)) (pos (outside_loads seq n + paid_outside seq n) -ℤ pos (sum_of_adjacent (weight_outside seq n) n.open_list + sum_by (most_saved seq n) (unplaced seq n)))) cost
+    by true b is = rw (← is) (by_loads (part_cost_of seq n.closed) (outside_loads seq n) cost)
+    by false true is = rw (← is) (by_loads (part_cost_of seq n.closed) (outside_loads seq n) cost)
+    by false false is = rw (← is) (by_pairs (part_cost_of seq n.closed) (outside_loads seq n) (paid_outside seq n) (sum_of_adjacent (weight_outside seq n) n.open_list) (sum_by (most_saved seq n) (unplaced seq n)) cost)

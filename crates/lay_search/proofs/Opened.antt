@@ -1,0 +1,80 @@
+-- Whether the root alone settles a search.
+use Rattle.std.proofs.Common.{◌≡◌, ℕ, zero, suc, ◌≤◌, Bool, true, false, List, [], ◌∷◌, map, length, refl, ap, ap₂, sym, ◌∙◌, arith, append-nil}
+use Rattle.std.specs.Prelude.{◌||◌}
+use Rattle.std.specs.List.{range_with_len}
+use Rattle.std.proofs.lemmas.Bool.{or_parts}
+use Rattle.std.proofs.lemmas.List.{length-map}
+use Rattle.std.proofs.lemmas.List.FromFn.{length-range_with_len}
+use Rattle.lay_model.specs.Sequences.{Sequence}
+use Rattle.lay_cost.specs.Cost.{arranged_cost}
+use Rattle.lay_tree.specs.declared.answer.Mark.{Mark}
+use Rattle.lay_tree.specs.declared.answer.Mark.TheVariants.{Closed}
+use Rattle.lay_tree.specs.declared.answer.Answer.TheVariants.{Certified}
+use Rattle.lay_tree.specs.Tree.{root, with_scalar, is_complete, is_empty, children, all_scalars}
+use Rattle.lay_tree.specs.Bound.{bound}
+use Rattle.lay_tree.specs.Greedy.{starting_lists}
+use Rattle.lay_tree.specs.Search.{reaches, search_from, search_answer, search_pieces, quota_of}
+use Rattle.lay_search.specs.declared.kept.Kept.{Kept}
+use Rattle.lay_search.specs.declared.descent.Descent.{Descent}
+use Rattle.lay_search.specs.Numbers.{kept_reaches}
+use Rattle.lay_search.specs.Descents.{IsNew, Knows}
+use Rattle.lay_search.proofs.Children.{empty_kept, bound_reaches}
+use Rattle.lay_search.proofs.Rooting.{root_unplaced}
+
+pub root_incomplete : (seq : Sequence) → (seq.scalars ≡ 0 → ⊥) → is_complete seq root ≡ false
+root_incomplete seq some = ap is_empty (root_unplaced seq) ∙ by seq.scalars some
+  where
+    by : (n : ℕ) → (n ≡ 0 → ⊥) → is_empty (range_with_len 0 n) ≡ false
+    by zero h = absurd (h refl)
+    by (suc n) h = refl
+
+pub root_complete : (seq : Sequence) → seq.scalars ≡ 0 → is_complete seq root ≡ true
+root_complete seq none = ap is_empty (root_unplaced seq ∙ ap (range_with_len 0) none)
+
+or_true : (r : Bool) → (r || true) ≡ true
+or_true true = refl
+or_true false = refl
+
+or_false : (r : Bool) → (r || false) ≡ r
+or_false true = refl
+or_false false = refl
+
+pub settled_none : (k : ℕ) (seq : Sequence) (cost : ℕ) → seq.scalars ≡ 0 → true ≡ (reaches (bound k seq root) cost || is_complete seq root)
+settled_none k seq cost none = sym (ap (λ b. reaches (bound k seq root) cost || b) (root_complete seq none) ∙ or_true (reaches (bound k seq root) cost))
+
+pub settled_some : (k : ℕ) (seq : Sequence) (quota cost : ℕ) (string : List ℕ) (old new : Descent) (kept : Kept) (result : Bool) → (seq.scalars ≡ 0 → ⊥) → IsNew seq k quota string cost old → Knows seq old new kept → result ≡ kept_reaches new.registers seq.step kept new.cost → result ≡ (reaches (bound k seq root) cost || is_complete seq root)
+settled_some k seq quota cost string old new kept result some is_new knows is =
+    is
+    ∙ ap₂ (λ r c. kept_reaches r seq.step kept c) (knows.limits.registers ∙ is_new.registers) (knows.answer.cost ∙ is_new.cost)
+    ∙ ap (λ j. kept_reaches k seq.step j cost) (knows.numbers ∙ empty_kept seq root refl)
+    ∙ bound_reaches k seq root cost (root_incomplete seq some)
+    ∙ sym (ap (λ b. reaches (bound k seq root) cost || b) (root_incomplete seq some) ∙ or_false (reaches (bound k seq root) cost))
+
+from_settled : (k : ℕ) (seq : Sequence) (budget : ℕ) (start : List (List ℕ)) → (reaches (bound k seq root) (arranged_cost seq start) || is_complete seq root) ≡ true → search_from k seq budget start ≡ Certified start (arranged_cost seq start) (Closed ∷ [])
+from_settled k seq budget start is = rw (is, search_from) refl
+
+from_open : (k : ℕ) (seq : Sequence) (budget : ℕ) (start : List (List ℕ)) → (reaches (bound k seq root) (arranged_cost seq start) || is_complete seq root) ≡ false → search_from k seq budget start ≡ search_pieces k seq (quota_of budget (length (children k seq root))) start
+from_open k seq budget start is = rw (is, search_from) refl
+
+pub children_of_root : (k : ℕ) (seq : Sequence) → children k seq root ≡ map (with_scalar root) (all_scalars seq)
+children_of_root k seq = append-nil (map (with_scalar root) (Rattle.lay_tree.specs.Tree.unplaced seq root)) ∙ ap (map (with_scalar root)) (root_unplaced seq)
+
+count_children : (k : ℕ) (seq : Sequence) → length (children k seq root) ≡ seq.scalars
+count_children k seq = ap length (children_of_root k seq) ∙ length-map (all_scalars seq) (with_scalar root) ∙ length-range_with_len 0 seq.scalars
+
+pub settled_answer : (k : ℕ) (seq : Sequence) (budget : ℕ) (lists : List (List ℕ)) (cost : ℕ) (marks : List Mark) (settled : Bool) → lists ≡ starting_lists k seq → cost ≡ arranged_cost seq lists → marks ≡ Closed ∷ [] → settled ≡ (reaches (bound k seq root) cost || is_complete seq root) → settled ≡ true → Certified lists cost marks ≡ search_answer k seq budget
+settled_answer k seq budget lists cost marks settled start costs ms is yes1 =
+    let test : (reaches (bound k seq root) (arranged_cost seq lists) || is_complete seq root) ≡ true = ap (λ c. reaches (bound k seq root) c || is_complete seq root) (sym costs) ∙ sym is ∙ yes1 in
+    ap₂ (λ c m. Certified lists c m) costs ms ∙ sym (from_settled k seq budget lists test) ∙ ap (search_from k seq budget) start
+
+pub open_answer : (k : ℕ) (seq : Sequence) (budget : ℕ) (lists : List (List ℕ)) (cost quota : ℕ) (settled : Bool) → lists ≡ starting_lists k seq → cost ≡ arranged_cost seq lists → quota ≡ quota_of budget seq.scalars → settled ≡ (reaches (bound k seq root) cost || is_complete seq root) → settled ≡ false → search_answer k seq budget ≡ search_pieces k seq quota lists
+open_answer k seq budget lists cost quota settled start costs share is no1 =
+    let test : (reaches (bound k seq root) (arranged_cost seq lists) || is_complete seq root) ≡ false = ap (λ c. reaches (bound k seq root) c || is_complete seq root) (sym costs) ∙ sym is ∙ no1 in
+    ap (search_from k seq budget) (sym start) ∙ from_open k seq budget lists test ∙ ap (λ q. search_pieces k seq q lists) (ap (quota_of budget) (count_children k seq) ∙ sym share)
+
+pub some_of_open : (k : ℕ) (seq : Sequence) (cost : ℕ) (settled : Bool) → settled ≡ (reaches (bound k seq root) cost || is_complete seq root) → settled ≡ false → 1 ≤ seq.scalars
+some_of_open k seq cost settled is no1 = by seq.scalars refl
+  where
+    by : (n : ℕ) → seq.scalars ≡ n → 1 ≤ n
+    by zero e = absurd (Rattle.std.proofs.lemmas.Bool.both_ways settled no1 (is ∙ sym (settled_none k seq cost e)))
+    by (suc n) e = omega arith

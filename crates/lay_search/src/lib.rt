@@ -1,0 +1,18 @@
+//! The search for an arrangement that costs least: a starting layout, and a tree of which each part is gone through or ruled out by a
+//! bound. What a node's bound needs is kept up to date while the search goes down and up. It knows neither the language nor the machine.
+#![tactic(auto)]
+
+mod closing;
+mod descent;
+mod kept;
+mod level;
+mod opening;
+mod pieces;
+mod rounds;
+
+pub use closing::close_search;
+pub use lay_greedy::greedy;
+pub use lay_tree::{Answer, Log, Mark, PieceEnd};
+pub use opening::{Opening, open_search};
+pub use pieces::run_piece;
+pub use rounds::search;

@@ -1,0 +1,4 @@
+pub mod Lines
+pub mod SequenceText
+pub mod SequenceReading
+pub mod LineReading

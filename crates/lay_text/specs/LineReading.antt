@@ -1,0 +1,65 @@
+-- What the reader of a sequence file has read so far, and what a line gives (docs/FORMATS.md, "Sequences").
+use Rattle.std.specs.Prelude.{◌≡◌, ◌≢◌, ℕ, ◌+◌, ◌-◌, ◌<◌, ◌≤◌, ◌^◌, List, [], ◌∷◌, ◌++◌, length, drop, All}
+use Rattle.std.specs.Str.Lines.{lines}
+use Rattle.lay_model.specs.Sequences.{Block, Sequence, IsBlock, counted}
+use Rattle.lay_text.specs.Lines.{filled_to}
+use Rattle.lay_text.specs.SequenceText.{scalars_line, step_line}
+use Rattle.lay_text.specs.SequenceReading.{TellStep, AreLinesOf}
+
+-- so many lines of the bytes are read
+pub record Place : Type 0 where
+  pub bytes : List ℕ
+  pub number : ℕ
+
+-- the lines that are left are those of the rest
+pub record IsLeft (bytes : List ℕ) (number : ℕ) (rest : List ℕ) : Type 0 where
+  pub cut : lines rest ≡ drop number (lines bytes)
+  pub there : number ≤ length (lines bytes)
+  pub few : number + length rest ≤ length bytes
+
+-- those that aren't blank
+abbrev pub read_to : Place → List (List ℕ)
+read_to p = filled_to p.number p.bytes
+
+-- the last line that was read isn't blank, and those others stand before it
+pub record HasRead (before : List (List ℕ)) (line : List ℕ) (p : Place) : Type 0 where
+  pub from_one : 0 < p.number
+  pub there : p.number ≤ length (lines p.bytes)
+  pub front : filled_to (p.number - 1) p.bytes ≡ before
+  pub all : read_to p ≡ before ++ line ∷ []
+
+-- all lines are read, and those aren't blank
+pub record HasReadAll (before : List (List ℕ)) (p : Place) : Type 0 where
+  pub there : p.number ≡ length (lines p.bytes)
+  pub all : read_to p ≡ before
+
+-- nothing, or a space first
+abbrev pub IsSpacedOff : List ℕ → Type 0
+IsSpacedOff [] = Unit {0}
+IsSpacedOff (code ∷ codes) = code ≡ 32
+
+-- what a line of a block gives, where there are so many scalars and the sum of weights times accesses may grow by so much
+pub record IsBlockOf (scalars room : ℕ) (b : Block) : Type 0 where
+  pub block : IsBlock b
+  pub weight : b.weight < 2 ^ 32
+  pub below : All (λ scalar. scalar < scalars) b.accesses
+  pub fits : counted b ≤ room
+
+-- the line that says how many scalars there are is read
+pub record HasCount (p : Place) (scalars : ℕ) : Type 0 where
+  pub few : scalars ≤ 64
+  pub read : read_to p ≡ scalars_line scalars ∷ []
+
+-- the lines before the blocks are read, and one behind them
+pub record IsHead (p : Place) (scalars step : ℕ) (line : List ℕ) : Type 0 where
+  pub few : scalars ≤ 64
+  pub moves : 1 ≤ step
+  pub near : step ≤ 8
+  pub steps : List (List ℕ)
+  pub tell : TellStep steps step
+  pub read : HasRead (scalars_line scalars ∷ steps) line p
+  pub behind : steps ≡ [] → (d : ℕ) → 1 ≤ d → d ≤ 8 → line ≢ step_line d
+
+-- the lines of a sequence are read
+abbrev pub HasWhole : Place → Sequence → Type 0
+HasWhole p s = AreLinesOf s (read_to p)
