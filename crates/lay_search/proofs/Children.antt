@@ -1,5 +1,5 @@
 -- What is kept of a child, and whether its bound reaches a cost.
-use Rattle.std.proofs.Common.{◌≡◌, ℕ, suc, ◌+◌, ◌*◌, ◌-◌, ◌<◌, ◌≤◌, Bool, true, false, cond, not, List, [], ◌∷◌, ◌++◌, map, length, refl, ap, sym, ◌∙◌, arith, append-nil}
+use Rattle.std.proofs.Common.{◌≡◌, ℕ, ◌+◌, ◌*◌, ◌-◌, ◌<◌, ◌≤◌, Bool, true, false, cond, not, List, [], ◌∷◌, ◌++◌, map, length, refl, ap, ap₂, sym, ◌∙◌, arith, append-nil}
 use Rattle.std.specs.Prelude.{◌==◌, ◌||◌, nat_le, nat_lt, pos, ◌+ℤ◌, ◌-ℤ◌, sum_by, count_by, Option, Some}
 use Rattle.std.specs.List.{concat}
 use Rattle.std.proofs.lemmas.Bool.{not_from_false}
@@ -15,7 +15,8 @@ use Rattle.lay_tree.specs.Bound.{weight_outside, sum_of_adjacent, greatest, last
 use Rattle.lay_tree.specs.Search.{reaches}
 use Rattle.lay_search.specs.declared.kept.Kept.{Kept}
 use Rattle.lay_search.specs.Levels.{beside_last}
-use Rattle.lay_search.specs.Numbers.{last_scalar, most_beside, kept_with, kept_in, kept_at, next_kept, kept_reaches, may_close}
+use Rattle.lay_search.specs.Numbers.{last_scalar, most_beside, needs_weights, needs_greatest, kept_with, kept_found, kept_in, kept_at, next_kept, kept_reaches}
+use Rattle.lay_search.proofs.Needs.{greatest_weigh, closes_left, if_plus, if_minus, if_both_le}
 use Rattle.lay_search.proofs.Unplaced.{minus, unplaced_scalar, greatest_minus, greatest_back, sum_minus, length_minus, count_kept}
 
 pub sum_same : {X : Type 0} (f g : X → ℕ) (xs : List X) → ((x : X) → f x ≡ g x) → sum_by f xs ≡ sum_by g xs
@@ -68,45 +69,84 @@ saved_by_child seq n s lt e =
     sum_unplaced (most_beside seq n) seq n s lt e
     ∙ ap (λ a. most_beside seq n s + a) (sym (sum_same (most_saved seq (with_scalar n s)) (most_beside seq n) (unplaced seq (with_scalar n s)) (λ u. most_of_child seq n s u (has_unplaced seq n s lt e))))
 
-pub most_beside_le : (seq : Sequence) (n : Node) (s : ℕ) → s < seq.scalars → has (concat (node_lists n)) s ≡ false → most_beside seq n s ≤ (kept_in seq n).greatest
-most_beside_le seq n s lt e = omega (arith, saved_by_child seq n s lt e)
+pub most_beside_le : (k : ℕ) (seq : Sequence) (n : Node) (s : ℕ) → s < seq.scalars → has (concat (node_lists n)) s ≡ false → cond (needs_greatest k seq n) (most_beside seq n s) 0 ≤ (kept_in k seq n).greatest
+most_beside_le k seq n s lt e = if_both_le (needs_greatest k seq n) (most_beside seq n s) (sum_by (most_beside seq n) (unplaced seq n)) (omega (arith, saved_by_child seq n s lt e))
 
-pub child_kept : (seq : Sequence) (n : Node) (s : ℕ) → s < seq.scalars → has (concat (node_lists n)) s ≡ false
-    → kept_at seq (with_scalar n s) ≡ next_kept (kept_in seq n) s (beside_last (weight_outside seq n) (last_scalar n.open_list) s) (most_beside seq n s)
-child_kept seq n s lt e =
+-- what a child has more in its open list, and what its scalars can save less, where these are kept
+abbrev pub beside_kept : Sequence → Node → ℕ → ℕ
+beside_kept seq n s = cond (needs_weights seq) (beside_last (weight_outside seq n) (last_scalar n.open_list) s) 0
+
+abbrev pub most_kept : ℕ → Sequence → Node → ℕ → ℕ
+most_kept k seq n s = cond (needs_greatest k seq n) (most_beside seq n s) 0
+
+pub child_kept : (k : ℕ) (seq : Sequence) (n : Node) (s : ℕ) → s < seq.scalars → has (concat (node_lists n)) s ≡ false → kept_at k seq (with_scalar n s) ≡ next_kept (kept_in k seq n) s (beside_kept seq n s) (most_kept k seq n s)
+child_kept k seq n s lt e =
+    let w = weight_outside seq n in
+    let some = needs_weights seq in
+    let ranks = needs_greatest k seq n in
     let fewer : length (unplaced seq (with_scalar n s)) ≡ length (unplaced seq n) - 1 = omega (arith, length_unplaced seq n s lt e) in
-    let less : sum_by (most_saved seq (with_scalar n s)) (unplaced seq (with_scalar n s)) ≡ sum_by (most_beside seq n) (unplaced seq n) - most_beside seq n s = omega (arith, saved_by_child seq n s lt e) in
-    let saved = adjacent_push (weight_outside seq n) n.open_list s in
-    ap (λ u. make u (last_scalar (n.open_list ++ (s ∷ []))) (sum_of_adjacent (weight_outside seq n) (n.open_list ++ (s ∷ []))) (sum_by (most_saved seq (with_scalar n s)) (unplaced seq (with_scalar n s)))) fewer
-    ∙ ap (λ l. make (length (unplaced seq n) - 1) l (sum_of_adjacent (weight_outside seq n) (n.open_list ++ (s ∷ []))) (sum_by (most_saved seq (with_scalar n s)) (unplaced seq (with_scalar n s)))) (last_push n.open_list s)
-    ∙ ap (λ a. make (length (unplaced seq n) - 1) (Some s) a (sum_by (most_saved seq (with_scalar n s)) (unplaced seq (with_scalar n s)))) saved
-    ∙ ap (λ g. make (length (unplaced seq n) - 1) (Some s) (sum_of_adjacent (weight_outside seq n) n.open_list + beside_last (weight_outside seq n) (last_scalar n.open_list) s) g) less
+    let left : sum_by (most_saved seq (with_scalar n s)) (unplaced seq (with_scalar n s)) ≡ sum_by (most_beside seq n) (unplaced seq n) - most_beside seq n s = omega (arith, saved_by_child seq n s lt e) in
+    let less = if_minus ranks (sum_by (most_saved seq (with_scalar n s)) (unplaced seq (with_scalar n s))) (sum_by (most_beside seq n) (unplaced seq n)) (most_beside seq n s) left in
+    let saved = if_plus some (sum_of_adjacent w (n.open_list ++ (s ∷ []))) (sum_of_adjacent w n.open_list) (beside_last w (last_scalar n.open_list) s) (adjacent_push w n.open_list s) in
+    let a = cond some (sum_of_adjacent w (n.open_list ++ (s ∷ []))) 0 in
+    let g = cond ranks (sum_by (most_saved seq (with_scalar n s)) (unplaced seq (with_scalar n s))) 0 in
+    ap (λ u. make u (last_scalar (n.open_list ++ (s ∷ []))) a g) fewer
+    ∙ ap (λ l. make (length (unplaced seq n) - 1) l a g) (last_push n.open_list s)
+    ∙ ap₂ (make (length (unplaced seq n) - 1) (Some s)) saved less
   where
     make : ℕ → Option ℕ → ℕ → ℕ → Kept
-    make u l a g = record { closes = length n.closed; unplaced = u; last = l; closed = part_cost_of seq n.closed; loads = outside_loads seq n; paid = paid_outside seq n; saved = a; greatest = g }
+    make u l a g = record { closes = length n.closed; unplaced = u; last = l; closed = part_cost_of seq n.closed; loads = outside_loads seq n; paid = cond (needs_weights seq) (paid_outside seq n) 0; saved = a; greatest = g }
 
 -- where the open list is empty, nothing but scalars that aren't placed can stand before one
-pub empty_kept : (seq : Sequence) (n : Node) → n.open_list ≡ [] → kept_in seq n ≡ kept_at seq n
-empty_kept seq n e = ap (kept_with seq n) (sum_same (most_beside seq n) (most_saved seq n) (unplaced seq n) (λ u. ap (λ l. greatest (map (weight_outside seq n u) l)) (sym (append-nil (unplaced seq n)) ∙ ap (λ o. unplaced seq n ++ last_of o) (sym e))))
+empty_most : (seq : Sequence) (n : Node) → n.open_list ≡ [] → sum_by (most_beside seq n) (unplaced seq n) ≡ sum_by (most_saved seq n) (unplaced seq n)
+empty_most seq n e = sum_same (most_beside seq n) (most_saved seq n) (unplaced seq n) (λ u. ap (λ l. greatest (map (weight_outside seq n u) l)) (sym (append-nil (unplaced seq n)) ∙ ap (λ o. unplaced seq n ++ last_of o) (sym e)))
+
+pub empty_kept : (k : ℕ) (seq : Sequence) (n : Node) → n.open_list ≡ [] → kept_in k seq n ≡ kept_at k seq n
+empty_kept k seq n e = ap (λ g. kept_with (needs_weights seq) seq n (cond (needs_greatest k seq n) g 0)) (empty_most seq n e)
 
 -- the bound
-by_loads : (a b c : ℕ) → nat_le c (a + b) ≡ reaches (pos a +ℤ pos b) c
-by_loads a b c = grind (arith, ints, nat_tests)
+by_loads_alone : (a b c : ℕ) → nat_le c (a + b) ≡ reaches (pos a +ℤ pos b) c
+by_loads_alone a b c = grind (arith, ints, nat_tests)
 
 by_pairs : (a b p s g c : ℕ) → nat_le (c + s + g) (a + b + p) ≡ reaches (pos a +ℤ (pos (b + p) -ℤ pos (s + g))) c
 by_pairs a b p s g c = grind (arith, ints, nat_tests)
 
-pub bound_reaches : (k : ℕ) (seq : Sequence) (n : Node) (cost : ℕ) → is_complete seq n ≡ false → kept_reaches k seq.step (kept_at seq n) cost ≡ reaches (bound k seq n) cost
-bound_reaches k seq n cost e =
-    let left : may_close k (kept_at seq n) ≡ has_closes_left k n = ap (λ m. nat_lt m k) (more (length n.closed)) in
-    rw e (by (may_close k (kept_at seq n)) (nat_lt 1 seq.step) left)
-  where
-    more : (m : ℕ) → m + 1 ≡ suc m
-    more m = omega arith
+-- what a bound needs of what is kept
+record CanBound (k : ℕ) (seq : Sequence) (n : Node) (j : Kept) : Type 0 where
+  closes : j.closes ≡ length n.closed
+  closed : j.closed ≡ part_cost_of seq n.closed
+  loads : j.loads ≡ outside_loads seq n
+  paid : needs_greatest k seq n ≡ true → j.paid ≡ paid_outside seq n
+  saved : needs_greatest k seq n ≡ true → j.saved ≡ sum_of_adjacent (weight_outside seq n) n.open_list
+  greatest : needs_greatest k seq n ≡ true → j.greatest ≡ sum_by (most_saved seq n) (unplaced seq n)
 
-    by : (a b : Bool) → a ≡ has_closes_left k n
-        → cond (a || b) (nat_le cost (part_cost_of seq n.closed + outside_loads seq n)) (nat_le (cost + sum_of_adjacent (weight_outside seq n) n.open_list + sum_by (most_saved seq n) (unplaced seq n)) (part_cost_of seq n.closed + outside_loads seq n + paid_outside seq n))
-        ≡ reaches (pos (part_cost_of seq n.closed) +ℤ cond (has_closes_left k n || b) (pos (outside_loads seq n)) (pos (outside_loads seq n + paid_outside seq n) -ℤ pos (sum_of_adjacent (weight_outside seq n) n.open_list + sum_by (most_saved seq n) (unplaced seq n)))) cost
-    by true b is = rw (← is) (by_loads (part_cost_of seq n.closed) (outside_loads seq n) cost)
-    by false true is = rw (← is) (by_loads (part_cost_of seq n.closed) (outside_loads seq n) cost)
-    by false false is = rw (← is) (by_pairs (part_cost_of seq n.closed) (outside_loads seq n) (paid_outside seq n) (sum_of_adjacent (weight_outside seq n) n.open_list) (sum_by (most_saved seq n) (unplaced seq n)) cost)
+reaches_by : (k : ℕ) (seq : Sequence) (n : Node) (j : Kept) (cost : ℕ) → CanBound k seq n j → is_complete seq n ≡ false → kept_reaches k seq.step j cost ≡ reaches (bound k seq n) cost
+reaches_by k seq n j cost can e = ap (λ m. cond (m || nat_lt 1 seq.step) (nat_le cost (j.closed + j.loads)) (nat_le (cost + j.saved + j.greatest) (j.closed + j.loads + j.paid))) (closes_left k n j can.closes) ∙ rw e (by (has_closes_left k n) (nat_lt 1 seq.step) can.paid can.saved can.greatest)
+  where
+    by : (a b : Bool) → (not (a || b) ≡ true → j.paid ≡ paid_outside seq n) → (not (a || b) ≡ true → j.saved ≡ sum_of_adjacent (weight_outside seq n) n.open_list) → (not (a || b) ≡ true → j.greatest ≡ sum_by (most_saved seq n) (unplaced seq n))
+        → cond (a || b) (nat_le cost (j.closed + j.loads)) (nat_le (cost + j.saved + j.greatest) (j.closed + j.loads + j.paid))
+        ≡ reaches (pos (part_cost_of seq n.closed) +ℤ cond (a || b) (pos (outside_loads seq n)) (pos (outside_loads seq n + paid_outside seq n) -ℤ pos (sum_of_adjacent (weight_outside seq n) n.open_list + sum_by (most_saved seq n) (unplaced seq n)))) cost
+    by true b p s g = rw (can.closed, can.loads) (by_loads_alone (part_cost_of seq n.closed) (outside_loads seq n) cost)
+    by false true p s g = rw (can.closed, can.loads) (by_loads_alone (part_cost_of seq n.closed) (outside_loads seq n) cost)
+    by false false p s g = rw (can.closed, can.loads, p refl, s refl, g refl) (by_pairs (part_cost_of seq n.closed) (outside_loads seq n) (paid_outside seq n) (sum_of_adjacent (weight_outside seq n) n.open_list) (sum_by (most_saved seq n) (unplaced seq n)) cost)
+
+pub bound_reaches : (k : ℕ) (seq : Sequence) (n : Node) (cost : ℕ) → is_complete seq n ≡ false → kept_reaches k seq.step (kept_at k seq n) cost ≡ reaches (bound k seq n) cost
+bound_reaches k seq n cost = reaches_by k seq n (kept_at k seq n) cost (record {
+  closes = refl;
+  closed = refl;
+  loads = refl;
+  paid = λ ranks. ap (λ b. cond b (paid_outside seq n) 0) (greatest_weigh k seq n ranks);
+  saved = λ ranks. ap (λ b. cond b (sum_of_adjacent (weight_outside seq n) n.open_list) 0) (greatest_weigh k seq n ranks);
+  greatest = λ ranks. ap (λ b. cond b (sum_by (most_saved seq n) (unplaced seq n)) 0) ranks;
+})
+
+-- where the open list is empty, also before the weights are found that the bound doesn't need
+pub empty_reaches : (k : ℕ) (seq : Sequence) (n : Node) (cost : ℕ) → n.open_list ≡ [] → is_complete seq n ≡ false → kept_reaches k seq.step (kept_found (needs_greatest k seq n) (needs_greatest k seq n) seq n) cost ≡ reaches (bound k seq n) cost
+empty_reaches k seq n cost none = reaches_by k seq n (kept_found (needs_greatest k seq n) (needs_greatest k seq n) seq n) cost (record {
+  closes = refl;
+  closed = refl;
+  loads = refl;
+  paid = λ ranks. ap (λ b. cond b (paid_outside seq n) 0) ranks;
+  saved = λ ranks. ap (λ b. cond b (sum_of_adjacent (weight_outside seq n) n.open_list) 0) ranks;
+  greatest = λ ranks. ap (λ b. cond b (sum_by (most_beside seq n) (unplaced seq n)) 0) ranks ∙ empty_most seq n none;
+})

@@ -12,7 +12,7 @@ use Rattle.lay_cost.proofs.Arranged.{small_lists}
 abbrev pub joined_lists : List (List ℕ) → List ℕ
 joined_lists ls = join_with_byte 255 ls
 
-no_close : (l : List ℕ) → All (λ s. s < 64) l → All (λ s. (s == close) ≡ false) l
+pub no_close : (l : List ℕ) → All (λ s. s < 64) l → All (λ s. (s == close) ≡ false) l
 no_close l all = All-weaker (λ s. s < 64) (λ s. (s == close) ≡ false) (λ s lt. ne_eqb s close (λ e. absurd (omega (arith, e, lt)))) l all
 
 pub lists_joined : (ls : List (List ℕ)) → All (λ l. All (λ s. s < 64) l) ls → 1 ≤ length ls → lists_of (joined_lists ls) ≡ ls

@@ -2,12 +2,15 @@ pub mod Ranges
 pub mod Sizes
 pub mod Steps
 pub mod Unplaced
+pub mod Needs
 pub mod Children
 pub mod Following
 pub mod Agreeing
 pub mod Strung
 pub mod Proper
 pub mod Descending
+pub mod Weighing
+pub mod OpenLists
 pub mod Completing
 pub mod Closings
 pub mod Bits

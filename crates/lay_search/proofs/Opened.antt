@@ -16,7 +16,7 @@ use Rattle.lay_tree.specs.Greedy.{starting_lists}
 use Rattle.lay_tree.specs.Search.{reaches, search_from, search_answer, search_pieces, quota_of}
 use Rattle.lay_search.specs.declared.kept.Kept.{Kept}
 use Rattle.lay_search.specs.declared.descent.Descent.{Descent}
-use Rattle.lay_search.specs.Numbers.{kept_reaches}
+use Rattle.lay_search.specs.Numbers.{kept_in, kept_reaches}
 use Rattle.lay_search.specs.Descents.{IsNew, Knows}
 use Rattle.lay_search.proofs.Children.{empty_kept, bound_reaches}
 use Rattle.lay_search.proofs.Rooting.{root_unplaced}
@@ -46,7 +46,7 @@ pub settled_some : (k : ℕ) (seq : Sequence) (quota cost : ℕ) (string : List 
 settled_some k seq quota cost string old new kept result some is_new knows is =
     is
     ∙ ap₂ (λ r c. kept_reaches r seq.step kept c) (knows.limits.registers ∙ is_new.registers) (knows.answer.cost ∙ is_new.cost)
-    ∙ ap (λ j. kept_reaches k seq.step j cost) (knows.numbers ∙ empty_kept seq root refl)
+    ∙ ap (λ j. kept_reaches k seq.step j cost) (knows.numbers ∙ ap (λ r. kept_in r seq root) (knows.limits.registers ∙ is_new.registers) ∙ empty_kept k seq root refl)
     ∙ bound_reaches k seq root cost (root_incomplete seq some)
     ∙ sym (ap (λ b. reaches (bound k seq root) cost || b) (root_incomplete seq some) ∙ or_false (reaches (bound k seq root) cost))
 

@@ -27,10 +27,11 @@ use Rattle.lay_cost.proofs.Rising.{all_has}
 use Rattle.lay_tree.specs.Tree.{with_scalar, unplaced, all_scalars, is_complete, is_empty}
 use Rattle.lay_tree.specs.Bound.{is_outside, weight_outside, sum_of_adjacent, sum_of_pairs, paid_outside}
 use Rattle.lay_search.specs.declared.kept.Kept.{Kept}
-use Rattle.lay_search.specs.Numbers.{kept_in, kept_at, AreSmall}
+use Rattle.lay_search.specs.Numbers.{needs_weights, needs_greatest, kept_found, kept_at, most_beside, AreSmall}
 use Rattle.lay_search.specs.Strings.{node_of}
 use Rattle.lay_search.proofs.Sizes.{one_if, weights_small, greatest_small, pairs_small, sum_filter_le, count_in_range}
 use Rattle.lay_search.proofs.Unplaced.{minus, sum_minus, count_kept}
+use Rattle.lay_search.proofs.Needs.{weights_below, if_le}
 use Rattle.lay_search.proofs.Children.{count_unplaced, child_kept}
 use Rattle.lay_search.proofs.Agreeing.{paid_is}
 use Rattle.lay_search.proofs.Strung.{lists_are}
@@ -48,10 +49,10 @@ proper_string n string h = record {
 parted : (node : Node) → concat (node_lists node) ≡ concat node.closed ++ node.open_list
 parted node = concat-append node.closed (node.open_list ∷ []) ∙ ap (λ l. concat node.closed ++ l) (append-nil node.open_list)
 
-open_few : (n : ℕ) (node : Node) → IsProper n node → All (λ s. s < n) node.open_list
+pub open_few : (n : ℕ) (node : Node) → IsProper n node → All (λ s. s < n) node.open_list
 open_few n node h = back_of (λ s. s < n) (concat node.closed) node.open_list (subst (λ xs. All (λ s. s < n) xs) (parted node) h.few)
 
-open_once : (n : ℕ) (node : Node) → IsProper n node → StandOnce node.open_list
+pub open_once : (n : ℕ) (node : Node) → IsProper n node → StandOnce node.open_list
 open_once n node h s =
     let all : count_by (λ t. t == s) (concat node.closed ++ node.open_list) ≤ 1 = subst (λ xs. count_by (λ t. t == s) xs ≤ 1) (parted node) (h.once s) in
     omega (arith, all, sum_by-append (λ t. cond (t == s) 1 0) (concat node.closed) node.open_list)
@@ -142,24 +143,24 @@ loads_small seq set h = omega (arith, h.countable, sum_by-le-sum_by (λ b. if li
 pub paid_small : (seq : Sequence) (node : Node) → IsSequence seq → paid_outside seq node ≤ 2 ^ 61
 paid_small seq node h = omega (arith, paid_is seq node, pairs_small (weight_outside seq node) seq.scalars, weights_small seq (is_outside node) h)
 
-pub node_small : (seq : Sequence) (node : Node) → IsSequence seq → IsProper seq.scalars node → AreSmall (kept_in seq node)
-node_small seq node h proper = record {
+pub found_small : (weighs ranks : Bool) (seq : Sequence) (node : Node) → IsSequence seq → IsProper seq.scalars node → AreSmall (kept_found weighs ranks seq node)
+found_small weighs ranks seq node h proper = record {
   closed = part_small seq node.closed h;
   loads = loads_small seq (is_outside node) h;
-  paid = paid_small seq node h;
-  saved = saved_small seq node h proper;
-  greatest = omega (arith, greatest_small (weight_outside seq node) (λ s. not (has (concat (node_lists node)) s)) seq.scalars, weights_small seq (is_outside node) h);
+  paid = if_le weighs (paid_outside seq node) (2 ^ 61) (paid_small seq node h);
+  saved = if_le weighs (sum_of_adjacent (weight_outside seq node) node.open_list) (2 ^ 61) (saved_small seq node h proper);
+  greatest = if_le ranks (sum_by (most_beside seq node) (unplaced seq node)) (2 ^ 61) (omega (arith, greatest_small (weight_outside seq node) (λ s. not (has (concat (node_lists node)) s)) seq.scalars, weights_small seq (is_outside node) h));
 }
 
-pub child_small : (seq : Sequence) (node : Node) (s : ℕ) → IsSequence seq → IsProper seq.scalars node → IsProper seq.scalars (with_scalar node s) → s < seq.scalars → has (concat (node_lists node)) s ≡ false → AreSmall (kept_at seq (with_scalar node s))
-child_small seq node s h proper child lt e =
-    let small = node_small seq node h proper in
+pub child_small : (k : ℕ) (seq : Sequence) (node : Node) (s : ℕ) → IsSequence seq → IsProper seq.scalars node → IsProper seq.scalars (with_scalar node s) → s < seq.scalars → has (concat (node_lists node)) s ≡ false → AreSmall (kept_at k seq (with_scalar node s))
+child_small k seq node s h proper child lt e =
+    let small = found_small (needs_weights seq) (needs_greatest k seq node) seq node h proper in
     record {
       closed = small.closed;
       loads = small.loads;
       paid = small.paid;
-      saved = saved_small seq (with_scalar node s) h child;
-      greatest = omega (arith, small.greatest, ap (λ (k : Kept). k.greatest) (child_kept seq node s lt e));
+      saved = if_le (needs_weights seq) (sum_of_adjacent (weight_outside seq (with_scalar node s)) (with_scalar node s).open_list) (2 ^ 61) (saved_small seq (with_scalar node s) h child);
+      greatest = omega (arith, small.greatest, ap (λ (j : Kept). j.greatest) (child_kept k seq node s lt e));
     }
 
 -- a complete node
@@ -207,12 +208,15 @@ open_members seq node proper = record {
     out s e true is = absurd (both_ways (has node.open_list s) (ap (λ l. has l s) (sym (append-nil node.open_list)) ∙ apart_from node.closed (node.open_list ∷ []) s proper.once is) e)
 
 -- at a step of 1
-pub complete_cost : (seq : Sequence) (node : Node) → IsSequence seq → seq.step ≡ 1 → IsProper seq.scalars node → Arranges seq.scalars (node_lists node)
-    → arranged_cost seq (node_lists node) + (kept_at seq node).saved ≡ (kept_at seq node).closed + (kept_at seq node).loads + (kept_at seq node).paid
-complete_cost seq node h one proper arranges =
+pub complete_cost : (k : ℕ) (seq : Sequence) (node : Node) → IsSequence seq → seq.step ≡ 1 → IsProper seq.scalars node → Arranges seq.scalars (node_lists node)
+    → arranged_cost seq (node_lists node) + (kept_at k seq node).saved ≡ (kept_at k seq node).closed + (kept_at k seq node).loads + (kept_at k seq node).paid
+complete_cost k seq node h one proper arranges =
     let there = All-weaker (λ b. All (λ s. s < seq.scalars) b.accesses) (λ b. All (λ s. has (concat (node_lists node)) s ≡ true) b.accesses) (λ b all. All-weaker (λ s. s < seq.scalars) (λ s. has (concat (node_lists node)) s ≡ true) (λ s lt. scalar_there seq.scalars (node_lists node) s arranges lt) b.accesses all) seq.blocks h.scalars in
     let law = last_list_costs seq node.closed node.open_list (filter (is_outside node) (all_scalars seq)) one proper.once there (open_members seq node proper) in
-    omega (arith, law, same_pairs (weight_outside seq node) (filter (is_outside node) (all_scalars seq)), same_adjacent (weight_outside seq node) node.open_list)
+    let some = weights_below seq one in
+    let paid : (kept_at k seq node).paid ≡ paid_outside seq node = ap (λ b. cond b (paid_outside seq node) 0) some in
+    let saved : (kept_at k seq node).saved ≡ sum_of_adjacent (weight_outside seq node) node.open_list = ap (λ b. cond b (sum_of_adjacent (weight_outside seq node) node.open_list) 0) some in
+    omega (arith, law, paid, saved, same_pairs (weight_outside seq node) (filter (is_outside node) (all_scalars seq)), same_adjacent (weight_outside seq node) node.open_list)
 
 pub complete_part : (seq : Sequence) (string : List ℕ) → IsSequence seq → Arranges seq.scalars (node_lists (node_of string)) → part_cost_of seq (lists_of string) ≡ arranged_cost seq (node_lists (node_of string))
 complete_part seq string h arranges = ap (part_cost_of seq) (lists_are string) ∙ part_of_all seq (node_lists (node_of string)) h arranges

@@ -1,5 +1,5 @@
 -- The root.
-use Rattle.std.proofs.Common.{◌≡◌, ℕ, ◌*◌, ◌<◌, ◌≤◌, Bool, true, false, not, List, [], ◌∷◌, filter, length, refl, ap, sym, subst, ◌∙◌, arith}
+use Rattle.std.proofs.Common.{◌≡◌, ℕ, ◌*◌, ◌<◌, ◌≤◌, Bool, true, false, not, List, [], ◌∷◌, filter, length, refl, ap, ap₂, sym, subst, ◌∙◌, arith, append-nil}
 use Rattle.std.specs.Prelude.{All, slice_index_or, replicate, None}
 use Rattle.std.specs.List.{concat}
 use Rattle.std.proofs.lemmas.List.{get_or-replicate}
@@ -9,20 +9,19 @@ use Rattle.lay_model.specs.Sequences.{Sequence, Block, IsSequence}
 use Rattle.lay_cost.specs.Placements.{has, placement_of}
 use Rattle.lay_cost.specs.Cost.{block_cost}
 use Rattle.lay_cost.specs.Restricted.{in_bits, loads}
-use Rattle.lay_cost.specs.Weights.{weight_at, AreWeights}
 use Rattle.lay_cost.specs.Parts.{Node, node_lists, part_cost_of, IsString}
 use Rattle.lay_cost.proofs.Adding.{part_by_blocks}
 use Rattle.lay_tree.specs.Tree.{root, unplaced, all_scalars}
-use Rattle.lay_tree.specs.Bound.{is_outside, sum_of_pairs, outside_loads, paid_outside}
+use Rattle.lay_tree.specs.Bound.{is_outside}
 use Rattle.lay_search.specs.declared.kept.Kept.{Kept}
 use Rattle.lay_search.specs.declared.descent.Descent.{Descent}
-use Rattle.lay_search.specs.Levels.{free_below, greatest_in_all, HasGreatest}
-use Rattle.lay_search.specs.Numbers.{kept_in}
+use Rattle.lay_search.specs.Numbers.{needs_weights, needs_greatest, kept_found, kept_in}
 use Rattle.lay_search.specs.Strings.{node_of}
-use Rattle.lay_search.specs.Descents.{level_at, here, IsLevel, IsAt}
+use Rattle.lay_search.specs.Descents.{level_at, here, greatest_needed, IsAtWith, Weighs, Knows}
 use Rattle.lay_search.proofs.Sizes.{sum_zero}
 use Rattle.lay_search.proofs.Children.{sum_same}
-use Rattle.lay_search.proofs.Agreeing.{ArePlaced, table_outside, loads_agree, greatest_outside, greatest_all_outside, total_is_paid}
+use Rattle.lay_search.proofs.Agreeing.{ArePlaced, loads_agree}
+use Rattle.lay_search.proofs.Needs.{nothing_found}
 
 filter_none : (xs : List ℕ) → filter (has []) xs ≡ []
 filter_none [] = refl
@@ -47,46 +46,46 @@ root_unplaced seq = filter_each (all_scalars seq)
 none_placed : (seq : Sequence) (placed : List Bool) → seq.scalars ≤ 64 → placed ≡ replicate 64 false → ArePlaced seq root placed
 none_placed seq placed few is s lt = ap (λ p. slice_index_or p s false) is ∙ get_or-replicate 64 s false false (omega (arith, lt, few))
 
-pub root_at : (seq : Sequence) (old new : Descent) → IsSequence seq → 1 ≤ new.registers → old.string.items ≡ [] → old.placed ≡ replicate 64 false → ((s : ℕ) → s < seq.scalars → in_bits old.outside s ≡ true) → length new.levels.items ≡ new.registers
-    → new.string.items ≡ old.string.items → new.placed ≡ old.placed → new.outside ≡ old.outside
-    → AreWeights seq (in_bits old.outside) (level_at new.levels.items 0).weights → HasGreatest (level_at new.levels.items 0).weights (level_at new.levels.items 0).greatest old.placed seq.scalars → IsAt seq new
-root_at seq old new sequence some nothing placed outside levels string same_placed same_outside weights greatest =
-    let e : here new ≡ root = ap node_of (string ∙ nothing) in
-    let few = sequence.few in
-    let l = level_at new.levels.items 0 in
-    let child = none_placed seq old.placed few placed in
-    let are = table_outside seq root (in_bits old.outside) l.weights sequence outside weights in
+pub root_at : (seq : Sequence) (d : Descent) → IsSequence seq → 1 ≤ d.registers → d.string.items ≡ [] → d.placed ≡ replicate 64 false → ((s : ℕ) → s < seq.scalars → in_bits d.outside s ≡ true) → length d.levels.items ≡ d.registers → IsAtWith false false seq d
+root_at seq d sequence some nothing placed outside levels =
+    let e : here d ≡ root = ap node_of nothing in
     record {
       sequence = sequence;
-      registers = subst (λ n. length n.closed < new.registers) (sym e) some;
+      registers = subst (λ n. length n.closed < d.registers) (sym e) some;
       levels = levels;
-      string = subst (λ xs. IsString seq.scalars xs) (sym (string ∙ nothing)) (record {
+      string = subst (λ xs. IsString seq.scalars xs) (sym nothing) (record {
         few = All-nil (λ s. s < seq.scalars);
         once = λ s. omega arith;
         closes = λ i lt is. absurd (omega (arith, lt));
       });
       closed = subst (λ (n : Node). All (λ k. 1 ≤ length k) n.closed) (sym e) (All-nil (λ k. 1 ≤ length k));
-      size = ap length (same_placed ∙ placed);
-      placed = λ t lt. ap (λ p. slice_index_or p t false) same_placed ∙ child t lt ∙ ap (λ n. has (concat (node_lists n)) t) (sym e);
-      outside = λ t lt. ap (λ o. in_bits o t) same_outside ∙ outside t lt ∙ ap (λ n. is_outside n t) (sym e);
-      level = subst (λ n. IsLevel seq n (level_at new.levels.items (length n.closed))) (sym e) (record {
-        weights = are;
-        greatest = λ t lt out. greatest t lt (ap not (child t lt ∙ out)) ∙ greatest_outside seq root l.weights old.placed t few are child lt;
-      });
+      size = ap length placed;
+      placed = λ t lt. none_placed seq d.placed sequence.few placed t lt ∙ ap (λ n. has (concat (node_lists n)) t) (sym e);
+      outside = λ t lt. outside t lt ∙ ap (λ n. is_outside n t) (sym e);
+      level = nothing_found seq (here d) (level_at d.levels.items (length (here d).closed));
     }
 
-pub root_kept : (seq : Sequence) (placed : List Bool) (set : ℕ) (table : List ℕ) (scalars loads_found paid sum : ℕ) → IsSequence seq → placed ≡ replicate 64 false → ((s : ℕ) → s < seq.scalars → in_bits set s ≡ true) → AreWeights seq (in_bits set) table
-    → scalars ≡ seq.scalars → loads_found ≡ loads seq (in_bits set) → paid ≡ sum_of_pairs (weight_at table) (all_scalars seq) → sum ≡ greatest_in_all table (free_below placed seq.scalars)
-    → (let k : Kept = record { closes = 0; unplaced = scalars; last = None; closed = 0; loads = loads_found; paid = paid; saved = 0; greatest = sum } in k) ≡ kept_in seq root
-root_kept seq placed set table scalars loads_found paid sum sequence none outside weights scalars_is loads_is paid_is sum_is =
-    let few = sequence.few in
-    let are = table_outside seq root (in_bits set) table sequence outside weights in
-    let child = none_placed seq placed few none in
-    ap (λ u. make u 0 loads_found paid sum) (scalars_is ∙ sym (length-range_with_len 0 seq.scalars) ∙ ap length (sym (root_unplaced seq)))
-    ∙ ap (λ c. make (length (unplaced seq root)) c loads_found paid sum) (sym (nothing_costs seq))
-    ∙ ap (λ l. make (length (unplaced seq root)) (part_cost_of seq []) l paid sum) (loads_is ∙ loads_agree seq (in_bits set) (is_outside root) sequence outside)
-    ∙ ap (λ p. make (length (unplaced seq root)) (part_cost_of seq []) (outside_loads seq root) p sum) (paid_is ∙ total_is_paid seq root table few are)
-    ∙ ap (λ g. make (length (unplaced seq root)) (part_cost_of seq []) (outside_loads seq root) (paid_outside seq root) g) (sum_is ∙ greatest_all_outside seq root table placed few are child)
+pub root_kept : (seq : Sequence) (d : Descent) (scalars loads_found : ℕ) → IsSequence seq → d.string.items ≡ [] → ((s : ℕ) → s < seq.scalars → in_bits d.outside s ≡ true) → scalars ≡ seq.scalars → loads_found ≡ loads seq (in_bits d.outside)
+    → (let k : Kept = record { closes = 0; unplaced = scalars; last = None; closed = 0; loads = loads_found; paid = 0; saved = 0; greatest = 0 } in k) ≡ kept_found false false seq (here d)
+root_kept seq d scalars loads_found sequence nothing outside scalars_is loads_is =
+    ap (λ u. make u 0 loads_found) (scalars_is ∙ sym (length-range_with_len 0 seq.scalars) ∙ ap length (sym (root_unplaced seq)))
+    ∙ ap₂ (make (length (unplaced seq root))) (sym (nothing_costs seq)) (loads_is ∙ loads_agree seq (in_bits d.outside) (is_outside root) sequence outside)
+    ∙ ap (λ s. kept_found false false seq (node_of s)) (sym nothing)
   where
-    make : ℕ → ℕ → ℕ → ℕ → ℕ → Kept
-    make u c l p g = record { closes = 0; unplaced = u; last = None; closed = c; loads = l; paid = p; saved = 0; greatest = g }
+    make : ℕ → ℕ → ℕ → Kept
+    make u c l = record { closes = 0; unplaced = u; last = None; closed = c; loads = l; paid = 0; saved = 0; greatest = 0 }
+
+-- the weights were found that its bound needs, and then the others
+pub root_knows : (seq : Sequence) (old middle new : Descent) (first kept : Kept) → old.string.items ≡ [] → Weighs (greatest_needed seq old) (greatest_needed seq old) [] seq old middle first → Weighs (needs_weights seq) (greatest_needed seq middle) [] seq middle new kept → Knows seq old new kept
+root_knows seq old middle new first kept nothing bounds costs =
+    let e : here new ≡ here middle = ap node_of costs.string in
+    let same : greatest_needed seq middle ≡ greatest_needed seq new = ap₂ (λ r n. needs_greatest r seq n) (sym costs.same.limits.registers) (sym e) in
+    let is : here new ≡ root = ap node_of (costs.string ∙ bounds.string ∙ nothing) in
+    record {
+      place = subst (λ b. IsAtWith (needs_weights seq) b seq new) same costs.place;
+      numbers = costs.numbers ∙ ap (λ b. kept_found (needs_weights seq) b seq (here new)) same ∙ ap (kept_in new.registers seq) is;
+      nothing = is;
+      answer = record { best = costs.answer.best ∙ bounds.answer.best; cost = costs.answer.cost ∙ bounds.answer.cost };
+      limits = record { registers = costs.same.limits.registers ∙ bounds.same.limits.registers; quota = costs.same.limits.quota ∙ bounds.same.limits.quota };
+      marks = costs.marks ∙ append-nil middle.marks.items ∙ bounds.marks ∙ append-nil old.marks.items;
+    }

@@ -1,5 +1,5 @@
 -- What is left when nodes were visited, by how they were.
-use Rattle.std.proofs.Common.{◌≡◌, ◌≢◌, ℕ, zero, suc, ◌-◌, ◌≤◌, Bool, true, false, cond, List, [], ◌∷◌, ◌++◌, length, refl, ap, ap₂, sym, subst, ◌∙◌, arith, append-nil, append_assoc, length-append}
+use Rattle.std.proofs.Common.{◌≡◌, ◌≢◌, ℕ, zero, suc, ◌+◌, ◌-◌, ◌≤◌, Bool, true, false, cond, List, [], ◌∷◌, ◌++◌, length, refl, ap, ap₂, sym, subst, ◌∙◌, arith, append-nil, append_assoc, length-append}
 use Rattle.std.specs.Prelude.{if◌then◌else◌, Result, Ok, Err, IfOk}
 use Rattle.std.proofs.lemmas.Bool.{both_ways}
 use Rattle.lay_model.specs.Sequences.{Sequence}
@@ -13,9 +13,9 @@ use Rattle.lay_tree.specs.Search.{reaches, Visited, behind, visit}
 use Rattle.lay_search.specs.declared.descent.Descent.{Descent}
 use Rattle.lay_search.specs.declared.descent.Ending.{Ending}
 use Rattle.lay_search.specs.declared.descent.Ending.TheVariants.{Finished, OutOfMarks}
-use Rattle.lay_search.specs.Descents.{HasBest, SameAnswer, SameLimits, SamePlace, Visits, visit_of, is_finished, IsClosed, Completes}
+use Rattle.lay_search.specs.Descents.{here, HasBest, SameAnswer, SameLimits, SameBelow, SamePlace, VisitsBelow, Visits, visit_of, is_finished, IsClosed, Completes}
 use Rattle.lay_search.proofs.Following.{joined, visit_closed, visit_complete, visit_branched, visit_append}
-use Rattle.lay_search.proofs.Descending.{same_itself, same_then}
+use Rattle.lay_search.proofs.Descending.{same_itself, same_less, same_then}
 
 -- what is left but for the place
 pub record Sees (seq : Sequence) (ns : List Node) (old new : Descent) (ending : Ending) : Type 0 where
@@ -24,11 +24,21 @@ pub record Sees (seq : Sequence) (ns : List Node) (old new : Descent) (ending : 
   pub marks : new.marks.items ≡ old.marks.items ++ (visit_of seq old ns).marks
   pub has_best : HasBest seq new
 
+pub seen_below : (closes : ℕ) (seq : Sequence) (ns : List Node) (old new : Descent) (ending : Ending) → VisitsBelow closes seq ns old new ending → Sees seq ns old new ending
+seen_below closes seq ns old new ending v = record { best = v.best; finished = v.finished; marks = v.marks; has_best = v.has_best }
+
 pub seen : (seq : Sequence) (ns : List Node) (old new : Descent) (ending : Ending) → Visits seq ns old new ending → Sees seq ns old new ending
-seen seq ns old new ending v = record { best = v.best; finished = v.finished; marks = v.marks; has_best = v.has_best }
+seen seq ns old new ending v = seen_below (length (here old).closed + 1) seq ns old new ending v
+
+pub placed_below : (closes : ℕ) (seq : Sequence) (ns : List Node) (old new : Descent) (ending : Ending) → Sees seq ns old new ending → (ending ≡ Finished → SameBelow closes old new) → VisitsBelow closes seq ns old new ending
+placed_below closes seq ns old new ending v place = record { best = v.best; finished = v.finished; marks = v.marks; has_best = v.has_best; place = place }
 
 pub placed_too : (seq : Sequence) (ns : List Node) (old new : Descent) (ending : Ending) → Sees seq ns old new ending → (ending ≡ Finished → SamePlace old new) → Visits seq ns old new ending
-placed_too seq ns old new ending v place = record { best = v.best; finished = v.finished; marks = v.marks; has_best = v.has_best; place = place }
+placed_too seq ns old new ending v place = placed_below (length (here old).closed + 1) seq ns old new ending v place
+
+-- what it knows of the nodes above alone
+pub visits_less : (seq : Sequence) (ns : List Node) (old new : Descent) (ending : Ending) → Visits seq ns old new ending → VisitsBelow (length (here old).closed) seq ns old new ending
+visits_less seq ns old new ending v = placed_below (length (here old).closed) seq ns old new ending (seen seq ns old new ending v) (λ e. same_less (length (here old).closed) (length (here old).closed + 1) old new (omega arith) (v.place e))
 
 pub no_place : (old new : Descent) → OutOfMarks ≡ Finished → SamePlace old new
 no_place old new e = absurd (both_ways true (sym (ap is_finished e)) refl)

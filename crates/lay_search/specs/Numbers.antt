@@ -1,9 +1,9 @@
 -- What is kept of a node of the tree, from scratch.
-use Rattle.std.specs.Prelude.{ℕ, ◌+◌, ◌-◌, ◌^◌, ◌≤◌, nat_le, nat_lt, Bool, ◌||◌, List, [], ◌∷◌, length, map, sum_by, Option, Some, None, if◌then◌else◌}
+use Rattle.std.specs.Prelude.{ℕ, ◌+◌, ◌-◌, ◌^◌, ◌≤◌, nat_le, nat_lt, Bool, not, ◌||◌, List, [], ◌∷◌, length, map, sum_by, Option, Some, None, if◌then◌else◌}
 use Rattle.lay_model.specs.Sequences.{Sequence}
 use Rattle.lay_cost.specs.Parts.{Node, part_cost_of}
 use Rattle.lay_search.specs.declared.kept.Kept.{Kept}
-use Rattle.lay_tree.specs.Tree.{unplaced}
+use Rattle.lay_tree.specs.Tree.{unplaced, has_closes_left}
 use Rattle.lay_tree.specs.Bound.{weight_outside, sum_of_adjacent, greatest, most_saved, outside_loads, paid_outside}
 
 abbrev pub last_scalar : List ℕ → Option ℕ
@@ -15,26 +15,38 @@ last_scalar (s ∷ t ∷ ss) = last_scalar (t ∷ ss)
 abbrev pub most_beside : Sequence → Node → ℕ → ℕ
 most_beside seq n s = greatest (map (weight_outside seq n s) (unplaced seq n))
 
--- with the sum of the greatest weights
-abbrev pub kept_with : Sequence → Node → ℕ → Kept
-kept_with seq n sum = record {
+-- at step 1 alone the weights of the scalars outside closed lists are kept: complete nodes cost by them
+abbrev pub needs_weights : Sequence → Bool
+needs_weights seq = not (nat_lt 1 seq.step)
+
+-- and only where no list may be closed any more the greatest ones: only there the bound doesn't come from loads alone
+abbrev pub needs_greatest : ℕ → Sequence → Node → Bool
+needs_greatest k seq n = not (has_closes_left k n || nat_lt 1 seq.step)
+
+-- with the weights, or 0 in their places, and with a sum of greatest ones
+abbrev pub kept_with : Bool → Sequence → Node → ℕ → Kept
+kept_with weighs seq n sum = record {
   closes = length n.closed;
   unplaced = length (unplaced seq n);
   last = last_scalar n.open_list;
   closed = part_cost_of seq n.closed;
   loads = outside_loads seq n;
-  paid = paid_outside seq n;
-  saved = sum_of_adjacent (weight_outside seq n) n.open_list;
+  paid = if weighs then paid_outside seq n else 0;
+  saved = if weighs then sum_of_adjacent (weight_outside seq n) n.open_list else 0;
   greatest = sum;
 }
 
--- of a node whose children come next: the greatest weights among the scalars that aren't placed
-abbrev pub kept_in : Sequence → Node → Kept
-kept_in seq n = kept_with seq n (sum_by (most_beside seq n) (unplaced seq n))
+-- with the greatest weights among the scalars that aren't placed, or 0
+abbrev pub kept_found : Bool → Bool → Sequence → Node → Kept
+kept_found weighs ranks seq n = kept_with weighs seq n (if ranks then sum_by (most_beside seq n) (unplaced seq n) else 0)
+
+-- of a node whose children come next, over k registers
+abbrev pub kept_in : ℕ → Sequence → Node → Kept
+kept_in k seq n = kept_found (needs_weights seq) (needs_greatest k seq n) seq n
 
 -- of a node whose bound is asked for: what can be saved at most for each scalar that isn't placed
-abbrev pub kept_at : Sequence → Node → Kept
-kept_at seq n = kept_with seq n (sum_by (most_saved seq n) (unplaced seq n))
+abbrev pub kept_at : ℕ → Sequence → Node → Kept
+kept_at k seq n = kept_with (needs_weights seq) seq n (if needs_greatest k seq n then sum_by (most_saved seq n) (unplaced seq n) else 0)
 
 -- with one scalar more in the open list, which is so often beside the last one, and whose greatest weight is this
 abbrev pub next_kept : Kept → ℕ → ℕ → ℕ → Kept
@@ -61,6 +73,10 @@ pub record AreSmall (k : Kept) : Type 0 where
 abbrev pub may_close : ℕ → Kept → Bool
 may_close registers k = nat_lt (k.closes + 1) registers
 
+-- whether the bound comes from loads alone
+abbrev pub by_loads : ℕ → ℕ → Kept → Bool
+by_loads registers step k = may_close registers k || nat_lt 1 step
+
 -- whether the bound of a node that isn't complete is at least a cost, by what is kept
 abbrev pub kept_reaches : ℕ → ℕ → Kept → ℕ → Bool
-kept_reaches registers step k cost = if may_close registers k || nat_lt 1 step then nat_le cost (k.closed + k.loads) else nat_le (cost + k.saved + k.greatest) (k.closed + k.loads + k.paid)
+kept_reaches registers step k cost = if by_loads registers step k then nat_le cost (k.closed + k.loads) else nat_le (cost + k.saved + k.greatest) (k.closed + k.loads + k.paid)

@@ -6,19 +6,19 @@ ghost use Rattle.lay_model.specs.Sequences.{IsSequence};
 ghost use Rattle.lay_cost.specs.Placements.{has};
 ghost use Rattle.lay_cost.specs.Cost.{arranged_cost};
 ghost use Rattle.lay_cost.specs.Restricted.{in_bits};
-ghost use Rattle.lay_cost.specs.Parts.{node_lists, lists_of};
+ghost use Rattle.lay_cost.specs.Parts.{node_lists, lists_of, part_cost_of};
 ghost use Rattle.lay_tree.specs.declared.answer.Mark.TheVariants.{Branched, Closed};
 ghost use Rattle.lay_tree.specs.Tree.{is_complete, is_empty, has_closes_left, with_scalar, with_close, children};
 ghost use Rattle.lay_tree.specs.Bound.{bound};
 ghost use Rattle.lay_tree.specs.Search.{reaches};
-ghost use Rattle.lay_search.specs.Numbers.{kept_in, kept_at, next_kept, kept_reaches, may_close, AreSmall};
-ghost use Rattle.lay_search.specs.Descents.{here, level_at, IsAt, HasBest, Visits, Enters, Leaves, Closes, Completes, IsClosed, Offers, Reopens, IsNew, Knows, is_finished};
-ghost use Rattle.lay_search.specs.Levels.{beside_last, is_free};
-ghost use Rattle.lay_cost.specs.Weights.{weight_at};
+ghost use Rattle.lay_search.specs.Numbers.{kept_in, kept_at, kept_found, needs_weights, kept_reaches, may_close, by_loads, AreSmall};
+ghost use Rattle.lay_search.specs.Descents.{here, greatest_needed, IsAt, IsAtWith, HasBest, Visits, VisitsBelow, Enters, Leaves, Weighs, Closes, Completes, IsClosed, Offers, Reopens, IsNew, Knows, is_finished};
+ghost use Rattle.lay_search.specs.Levels.{is_free};
 ghost use Rattle.lay_cost.specs.Parts.{IsString};
 
 use crate::kept::Kept;
 use crate::level::Level;
+use crate::open_list::open_list;
 use lay_cost::{CLOSE, loads, part_cost};
 use lay_model::Sequence;
 use lay_tree::Mark;
@@ -80,7 +80,7 @@ impl Descent {
             string: Vec::new(alloc),
             placed: [false; 64],
             outside,
-            levels: levels(alloc, seq, registers, outside)?,
+            levels: levels(alloc, seq, registers)?,
             best,
             cost,
             marks: Vec::new(alloc),
@@ -96,19 +96,54 @@ impl Descent {
         requires levels { length self.old.levels.items ≡ self.old.registers }
         ensures { Knows seq.now self.old self.new result }
     {
-        let level = &mut self.levels[0];
-        let greatest = level.refill(seq, self.outside, &self.placed);
-        let paid = level.total(seq.scalars());
-        Kept {
+        let kept = Kept {
             closes: 0,
             unplaced: seq.scalars(),
             last: None,
             closed: 0,
             loads: loads(seq, self.outside),
-            paid,
+            paid: 0,
             saved: 0,
-            greatest,
+            greatest: 0,
+        };
+        let kept = self.weigh_for_bound(seq, kept);
+        self.weigh_for_costs(seq, kept)
+    }
+
+    // The weights outside the closed lists of a node whose open list is empty, where its bound needs them.
+    fn weigh_for_bound(&mut self, seq: &Sequence, kept: Kept) -> Kept
+        requires place { IsAtWith false false seq.now self.old }
+        requires kept { kept ≡ kept_found false false seq.now (here self.old) }
+        requires none { (here self.old).open_list ≡ [] }
+        ensures { Weighs (greatest_needed seq.now self.old) (greatest_needed seq.now self.old) [] seq.now self.old self.new result }
+    {
+        if self.bounds_by_loads(seq, kept) {
+            return kept;
         }
+        let level = &mut self.levels[usize::from(kept.closes)];
+        let greatest = level.refill(seq, self.outside, &self.placed);
+        let paid = level.total(seq.scalars());
+        Kept {
+            paid,
+            greatest,
+            ..kept
+        }
+    }
+
+    // And where complete nodes below it alone need them.
+    fn weigh_for_costs(&mut self, seq: &Sequence, kept: Kept) -> Kept
+        requires place { IsAtWith (greatest_needed seq.now self.old) (greatest_needed seq.now self.old) seq.now self.old }
+        requires kept { kept ≡ kept_found (greatest_needed seq.now self.old) (greatest_needed seq.now self.old) seq.now (here self.old) }
+        requires none { (here self.old).open_list ≡ [] }
+        ensures { Weighs (needs_weights seq.now) (greatest_needed seq.now self.old) [] seq.now self.old self.new result }
+    {
+        if seq.step() > 1 || !self.may_close(kept) {
+            return kept;
+        }
+        let level = &mut self.levels[usize::from(kept.closes)];
+        level.weights.refill(seq, self.outside);
+        let paid = level.total(seq.scalars());
+        Kept { paid, ..kept }
     }
 
     /// Whether the bound of a node that isn't complete is at least the best cost, by what is kept of the node.
@@ -117,11 +152,18 @@ impl Descent {
         requires cost { self.now.cost ≤ 2 ^ 60 }
         ensures { result ≡ kept_reaches self.now.registers seq.now.step kept self.now.cost }
     {
-        if self.may_close(kept) || seq.step() > 1 {
+        if self.bounds_by_loads(seq, kept) {
             kept.reaches_by_loads(self.cost)
         } else {
             kept.reaches_in_last_list(self.cost)
         }
+    }
+
+    // Whether bounds come from loads alone.
+    fn bounds_by_loads(&self, seq: &Sequence, kept: Kept) -> bool
+        ensures { result ≡ by_loads self.now.registers seq.now.step kept }
+    {
+        self.may_close(kept) || seq.step() > 1
     }
 
     fn may_close(&self, kept: Kept) -> bool
@@ -141,7 +183,7 @@ impl Descent {
     fn expand(&mut self, seq: &Sequence, kept: Kept) -> Result<Ending, NoMemory>
         requires place { IsAt seq.now self.old }
         requires best { HasBest seq.now self.old }
-        requires kept { kept ≡ kept_in seq.now (here self.old) }
+        requires kept { kept ≡ kept_in self.old.registers seq.now (here self.old) }
         requires incomplete { is_complete seq.now (here self.old) ≡ false }
         ensures { IfOk result (λ ending. Visits seq.now (children self.old.registers seq.now (here self.old)) self.old self.new ending) }
     {
@@ -170,7 +212,7 @@ impl Descent {
     ) -> Result<Ending, NoMemory>
         requires place { IsAt seq.now self.old }
         requires best { HasBest seq.now self.old }
-        requires kept { kept ≡ kept_in seq.now (here self.old) }
+        requires kept { kept ≡ kept_in self.old.registers seq.now (here self.old) }
         requires scalar { scalar < seq.now.scalars }
         requires unplaced { has (concat (node_lists (here self.old))) scalar ≡ false }
         ensures { IfOk result (λ ending. Visits seq.now (with_scalar (here self.old) scalar ∷ []) self.old self.new ending) }
@@ -178,7 +220,7 @@ impl Descent {
         if self.is_full() {
             return Ok(Ending::OutOfMarks);
         }
-        let child = self.child_of(kept, scalar);
+        let child = self.child_of(seq, kept, scalar);
         if child.unplaced == 0 {
             self.complete(seq, child, scalar)?;
             self.close_node()
@@ -195,7 +237,7 @@ impl Descent {
         requires best { HasBest seq.now self.old }
         requires scalar { scalar < seq.now.scalars }
         requires unplaced { has (concat (node_lists (here self.old))) scalar ≡ false }
-        requires child { child ≡ kept_at seq.now (with_scalar (here self.old) scalar) }
+        requires child { child ≡ kept_at self.old.registers seq.now (with_scalar (here self.old) scalar) }
         requires room { length self.old.marks.items < self.old.quota }
         requires incomplete { is_complete seq.now (with_scalar (here self.old) scalar) ≡ false }
         requires below { reaches (bound self.old.registers seq.now (with_scalar (here self.old) scalar)) self.old.cost ≡ false }
@@ -204,7 +246,7 @@ impl Descent {
         let kept = self.enter(seq, child, scalar)?;
         match self.expand(seq, kept)? {
             Ending::Finished => {
-                self.leave(seq, child.closes, scalar);
+                self.leave(seq, child, scalar);
                 Ok(Ending::Finished)
             }
             Ending::OutOfMarks => Ok(Ending::OutOfMarks),
@@ -216,7 +258,7 @@ impl Descent {
     fn visit_close(&mut self, seq: &Sequence, kept: Kept) -> Result<Ending, NoMemory>
         requires place { IsAt seq.now self.old }
         requires best { HasBest seq.now self.old }
-        requires kept { kept ≡ kept_in seq.now (here self.old) }
+        requires kept { kept ≡ kept_in self.old.registers seq.now (here self.old) }
         requires some { is_empty (here self.old).open_list ≡ false }
         requires left { has_closes_left self.old.registers (here self.old) ≡ true }
         requires incomplete { is_complete seq.now (here self.old) ≡ false }
@@ -238,20 +280,31 @@ impl Descent {
 
     #[cycle(descent)]
     fn visit_closed(&mut self, seq: &Sequence, child: Kept) -> Result<Ending, NoMemory>
-        requires place { IsAt seq.now self.old }
+        requires place { IsAtWith (greatest_needed seq.now self.old) (greatest_needed seq.now self.old) seq.now self.old }
         requires best { HasBest seq.now self.old }
-        requires child { child ≡ kept_in seq.now (here self.old) }
+        requires child { child ≡ kept_found (greatest_needed seq.now self.old) (greatest_needed seq.now self.old) seq.now (here self.old) }
         requires none { (here self.old).open_list ≡ [] }
         requires room { length self.old.marks.items < self.old.quota }
         requires incomplete { is_complete seq.now (here self.old) ≡ false }
-        ensures { IfOk result (λ ending. Visits seq.now (here self.old ∷ []) self.old self.new ending) }
+        ensures { IfOk result (λ ending. VisitsBelow (length (here self.old).closed) seq.now (here self.old ∷ []) self.old self.new ending) }
     {
         if self.reaches(seq, child) {
             self.close_node()
         } else {
-            self.marks.push(Mark::Branched)?;
-            self.expand(seq, child)
+            let kept = self.branch_closed(seq, child)?;
+            self.expand(seq, kept)
         }
+    }
+
+    // The weights are found that its bound didn't need.
+    fn branch_closed(&mut self, seq: &Sequence, child: Kept) -> Result<Kept, NoMemory>
+        requires place { IsAtWith (greatest_needed seq.now self.old) (greatest_needed seq.now self.old) seq.now self.old }
+        requires child { child ≡ kept_found (greatest_needed seq.now self.old) (greatest_needed seq.now self.old) seq.now (here self.old) }
+        requires none { (here self.old).open_list ≡ [] }
+        ensures { IfOk result (λ kept. Weighs (needs_weights seq.now) (greatest_needed seq.now self.old) (Branched ∷ []) seq.now self.old self.new kept) }
+    {
+        self.marks.push(Mark::Branched)?;
+        Ok(self.weigh_for_costs(seq, child))
     }
 
     // Whether a close is the last child of a node.
@@ -262,21 +315,23 @@ impl Descent {
     }
 
     // The child with one more scalar, as its bound needs it.
-    fn child_of(&self, kept: Kept, scalar: u8) -> Kept
-        requires level { kept.closes < length self.now.levels.items }
-        requires scalar { scalar < 64 }
-        requires last { IfSome kept.last (λ s. s < 64) }
-        requires unplaced { 1 ≤ kept.unplaced }
-        requires saved { kept.saved + beside_last (weight_at (level_at self.now.levels.items kept.closes).weights) kept.last scalar < 2 ^ 64 }
-        requires greatest { slice_index (level_at self.now.levels.items kept.closes).greatest scalar ≤ kept.greatest }
-        ensures { result ≡ next_kept kept scalar (beside_last (weight_at (level_at self.now.levels.items kept.closes).weights) kept.last scalar) (slice_index (level_at self.now.levels.items kept.closes).greatest scalar) }
+    fn child_of(&self, seq: &Sequence, kept: Kept, scalar: u8) -> Kept
+        requires place { IsAt seq.now self.now }
+        requires kept { kept ≡ kept_in self.now.registers seq.now (here self.now) }
+        requires scalar { scalar < seq.now.scalars }
+        requires unplaced { has (concat (node_lists (here self.now))) scalar ≡ false }
+        ensures { result ≡ kept_at self.now.registers seq.now (with_scalar (here self.now) scalar) }
     {
+        if seq.step() > 1 {
+            return kept.with_scalar(scalar, 0, 0);
+        }
         let level = &self.levels[usize::from(kept.closes)];
-        kept.with_scalar(
-            scalar,
-            level.beside(kept.last, scalar),
-            level.greatest(scalar),
-        )
+        let beside = level.beside(kept.last, scalar);
+        if self.may_close(kept) {
+            kept.with_scalar(scalar, beside, 0)
+        } else {
+            kept.with_scalar(scalar, beside, level.greatest(scalar))
+        }
     }
 
     fn close_node(&mut self) -> Result<Ending, NoMemory>
@@ -292,7 +347,7 @@ impl Descent {
         requires best { HasBest seq.now self.old }
         requires scalar { scalar < seq.now.scalars }
         requires unplaced { has (concat (node_lists (here self.old))) scalar ≡ false }
-        requires child { child ≡ kept_at seq.now (with_scalar (here self.old) scalar) }
+        requires child { child ≡ kept_at self.old.registers seq.now (with_scalar (here self.old) scalar) }
         requires complete { is_complete seq.now (with_scalar (here self.old) scalar) ≡ true }
         ensures { IfOk result (λ _. Completes seq.now (with_scalar (here self.old) scalar) self.old self.new) }
     {
@@ -308,7 +363,7 @@ impl Descent {
         requires sequence { IsSequence seq.now }
         requires string { IsString seq.now.scalars self.now.string.items }
         requires arranges { Arranges seq.now.scalars (node_lists (here self.now)) }
-        requires kept { kept ≡ kept_at seq.now (here self.now) }
+        requires kept { kept ≡ kept_at self.now.registers seq.now (here self.now) }
         requires small { AreSmall kept }
         ensures { result ≡ arranged_cost seq.now (node_lists (here self.now)) }
     {
@@ -337,12 +392,15 @@ impl Descent {
         requires place { IsAt seq.now self.old }
         requires scalar { scalar < seq.now.scalars }
         requires unplaced { has (concat (node_lists (here self.old))) scalar ≡ false }
-        requires child { child ≡ kept_at seq.now (with_scalar (here self.old) scalar) }
+        requires child { child ≡ kept_at self.old.registers seq.now (with_scalar (here self.old) scalar) }
         ensures { IfOk result (λ kept. Enters seq.now scalar self.old self.new kept) }
     {
         self.marks.push(Mark::Branched)?;
         self.string.push(scalar)?;
         self.placed[usize::from(scalar)] = true;
+        if self.bounds_by_loads(seq, child) {
+            return Ok(child);
+        }
         let greatest = self.levels[usize::from(child.closes)].take_out(
             scalar,
             seq.scalars(),
@@ -352,40 +410,54 @@ impl Descent {
     }
 
     // And is taken away again.
-    fn leave(&mut self, seq: &Sequence, closes: u8, scalar: u8)
-        requires level { closes < length self.old.levels.items }
+    fn leave(&mut self, seq: &Sequence, child: Kept, scalar: u8)
+        requires level { child.closes < length self.old.levels.items }
         requires scalar { scalar < 64 }
-        ensures { Leaves seq.now closes scalar self.old self.new }
+        ensures { Leaves (not (by_loads self.old.registers seq.now.step child)) seq.now child.closes scalar self.old self.new }
     {
-        self.levels[usize::from(closes)].put_back(scalar, seq.scalars(), &self.placed);
+        if !self.bounds_by_loads(seq, child) {
+            let level = &mut self.levels[usize::from(child.closes)];
+            level.put_back(scalar, seq.scalars(), &self.placed);
+        }
         self.placed[usize::from(scalar)] = false;
         self.string.pop();
     }
 
-    // The open list is closed: the next level is filled anew.
+    // What the lists cost when the open one is closed too. At a step of 1 the costs of lists add up.
+    fn closed_cost(&self, seq: &Sequence, kept: Kept) -> u64
+        requires place { IsAt seq.now self.now }
+        requires kept { kept ≡ kept_in self.now.registers seq.now (here self.now) }
+        ensures { result ≡ part_cost_of seq.now (node_lists (here self.now)) }
+    {
+        if seq.step() > 1 {
+            part_cost(seq, &self.string)
+        } else {
+            kept.closed + part_cost(seq, open_list(&self.string))
+        }
+    }
+
+    // The open list is closed.
     fn close_list(&mut self, seq: &Sequence, kept: Kept) -> Result<Kept, NoMemory>
         requires place { IsAt seq.now self.old }
-        requires kept { kept ≡ kept_in seq.now (here self.old) }
+        requires kept { kept ≡ kept_in self.old.registers seq.now (here self.old) }
         requires some { is_empty (here self.old).open_list ≡ false }
         requires left { has_closes_left self.old.registers (here self.old) ≡ true }
         ensures { IfOk result (λ child. Closes seq.now self.old self.new child) }
     {
-        let closed = part_cost(seq, &self.string);
+        let closed = self.closed_cost(seq, kept);
         self.outside = unplaced_of(&self.placed, seq.scalars());
-        let level = &mut self.levels[usize::from(kept.closes) + 1];
-        let greatest = level.refill(seq, self.outside, &self.placed);
-        let paid = level.total(seq.scalars());
         self.string.push(CLOSE)?;
-        Ok(Kept {
+        let child = Kept {
             closes: kept.closes + 1,
             unplaced: kept.unplaced,
             last: None,
             closed,
             loads: loads(seq, self.outside),
-            paid,
+            paid: 0,
             saved: 0,
-            greatest,
-        })
+            greatest: 0,
+        };
+        Ok(self.weigh_for_bound(seq, child))
     }
 
     // And it is open again.
@@ -398,17 +470,12 @@ impl Descent {
 }
 
 // A level for each number of closed lists.
-fn levels(
-    alloc: Global,
-    seq: &Sequence,
-    registers: u8,
-    outside: u64,
-) -> Result<Vec<Level>, NoMemory>
+fn levels(alloc: Global, seq: &Sequence, registers: u8) -> Result<Vec<Level>, NoMemory>
     ensures { IfOk result (λ levels. length levels.items ≡ registers) }
 {
     let mut levels = Vec::new(alloc);
     for _closes in 0..registers {
-        levels.push(Level::new(alloc, seq, outside)?)?;
+        levels.push(Level::new(alloc, seq)?)?;
     }
     Ok(levels)
 }

@@ -15,11 +15,11 @@ pub(crate) struct Kept {
     pub(crate) closed: u64,
     /// The weights of the blocks that hold a scalar that isn't in a closed list.
     pub(crate) loads: u64,
-    /// How often two of these are neighbours, over each two of them.
+    /// How often two of these are neighbours, over each two of them. It is 0 at a step above 1, as the next two are.
     pub(crate) paid: u64,
     /// Of this, what stands beside one another in the open list.
     pub(crate) saved: u64,
-    /// The greatest weight of each scalar that isn't placed with another one of these, in all.
+    /// The greatest weight of each scalar that isn't placed with another one of these, in all. It is 0 where one more list may be closed.
     pub(crate) greatest: u64,
 }
 

@@ -20,9 +20,10 @@ pub(crate) struct Level {
 }
 
 impl Level {
-    pub(crate) fn new(alloc: Global, seq: &Sequence, outside: u64) -> Result<Self, NoMemory> {
+    /// With room for weights, of which none is known yet.
+    pub(crate) fn new(alloc: Global, seq: &Sequence) -> Result<Self, NoMemory> {
         Ok(Level {
-            weights: weights(alloc, seq, outside)?,
+            weights: weights(alloc, seq, 0)?,
             greatest: [0; 64],
         })
     }
@@ -136,7 +137,7 @@ impl Level {
         sum
     }
 
-    // The greatest weight of a scalar, when another one was placed.
+    // The greatest weight of a scalar, when another one was placed: it has to be found anew only where the two weighed the most.
     fn without(&mut self, scalar: u8, other: u8, scalars: u8, placed: &[bool; 64]) -> u64
         requires few { scalars ≤ 64 }
         requires below { scalar < 64 }
@@ -147,7 +148,8 @@ impl Level {
         ensures kept { self.new.greatest ≡ slice_set self.old.greatest scalar result }
     {
         let place = usize::from(scalar);
-        if self.weights.at(scalar, other) == self.greatest[place] {
+        let weight = self.weights.at(scalar, other);
+        if weight > 0 && weight == self.greatest[place] {
             self.greatest[place] = self.greatest_of(scalar, scalars, placed);
         }
         self.greatest[place]

@@ -6,6 +6,7 @@ mod closing;
 mod descent;
 mod kept;
 mod level;
+mod open_list;
 mod opening;
 mod pieces;
 mod rounds;

@@ -18,7 +18,7 @@ visit_scalar-requires-clause-best c =
     (c.in_ok-best.ensures ∙ ap (λ ls. join_with_byte 255 ls) c.lists.ensures.lists) c.requires.arranges (omega (arith, c.requires.number)) c.requires.cost
 
 pub visit_scalar-requires-clause-kept : goal.visit_scalar-requires-clause-kept
-visit_scalar-requires-clause-kept c = c.root-kept.ensures.numbers ∙ ap (kept_in c.args.seq.now) (sym c.root-kept.ensures.nothing)
+visit_scalar-requires-clause-kept c = c.root-kept.ensures.numbers ∙ ap (kept_in c.root-kept.new.self.registers c.args.seq.now) (sym c.root-kept.ensures.nothing)
 
 pub returns : goal.returns
 returns c =

@@ -25,14 +25,14 @@ pub complete_cost-cost-requires-clause-kept : goal.complete_cost-cost-requires-c
 complete_cost-cost-requires-clause-kept c =
     let few = c.requires.place.sequence.few in
     let e = ap node_of c.in_ok-push.ensures.items ∙ node_scalar c.args.self.now.string.items c.args.scalar (omega (arith, c.requires.scalar, few)) in
-    c.requires.child ∙ ap (kept_at c.args.seq.now) (sym e)
+    c.requires.child ∙ ap (kept_at c.args.self.now.registers c.args.seq.now) (sym e)
 
 pub complete_cost-cost-requires-clause-small : goal.complete_cost-cost-requires-clause-small
 complete_cost-cost-requires-clause-small c =
     let seq = c.args.seq.now in
     let d = c.args.self.now in
     let at_it = c.requires.place in
-    subst (λ k. AreSmall k) (sym c.requires.child) (child_small seq (here d) c.args.scalar at_it.sequence (proper_string seq.scalars d.string.items at_it.string) (proper_child seq d c.args.scalar at_it c.requires.scalar c.requires.unplaced) c.requires.scalar c.requires.unplaced)
+    subst (λ k. AreSmall k) (sym c.requires.child) (child_small d.registers seq (here d) c.args.scalar at_it.sequence (proper_string seq.scalars d.string.items at_it.string) (proper_child seq d c.args.scalar at_it c.requires.scalar c.requires.unplaced) c.requires.scalar c.requires.unplaced)
 
 pub returns : goal.returns
 returns c =

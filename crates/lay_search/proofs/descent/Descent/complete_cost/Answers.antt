@@ -10,7 +10,7 @@ cost-requires-clause-saved c =
     let seq = c.args.seq.now in
     let node = here c.args.self.now in
     let one : seq.step ≡ 1 = omega (arith, c.step.ensures, c.if-step-gt1.false, c.requires.sequence.moves) in
-    let law = complete_cost seq node c.requires.sequence one (proper_string seq.scalars c.args.self.now.string.items c.requires.string) c.requires.arranges in
+    let law = complete_cost c.args.self.now.registers seq node c.requires.sequence one (proper_string seq.scalars c.args.self.now.string.items c.requires.string) c.requires.arranges in
     omega (arith, law, ap (λ (k : Kept). k.saved) c.requires.kept, ap (λ (k : Kept). k.closed) c.requires.kept, ap (λ (k : Kept). k.loads) c.requires.kept, ap (λ (k : Kept). k.paid) c.requires.kept)
 
 pub returns-then-step-gt1 : goal.returns-then-step-gt1
@@ -23,5 +23,5 @@ returns-else-step-gt1 c =
     let seq = c.args.seq.now in
     let node = here c.args.self.now in
     let one : seq.step ≡ 1 = omega (arith, c.step.ensures, c.if-step-gt1.false, c.requires.sequence.moves) in
-    let law = complete_cost seq node c.requires.sequence one (proper_string seq.scalars c.args.self.now.string.items c.requires.string) c.requires.arranges in
+    let law = complete_cost c.args.self.now.registers seq node c.requires.sequence one (proper_string seq.scalars c.args.self.now.string.items c.requires.string) c.requires.arranges in
     omega (arith, law, c.cost.ensures, ap (λ (k : Kept). k.saved) c.requires.kept, ap (λ (k : Kept). k.closed) c.requires.kept, ap (λ (k : Kept). k.loads) c.requires.kept, ap (λ (k : Kept). k.paid) c.requires.kept)
