@@ -1,0 +1,31 @@
+-- Walks of functions of an image. The expected values are worked out by hand from docs/MACHINE.md.
+use Rattle.std.proofs.Common.{◌≡◌, Some, None, [], ◌∷◌, refl}
+use Rattle.std.specs.Prelude.{codes}
+use Rattle.c25_isa.specs.Image.{Contents}
+use Rattle.c25_isa.specs.Walk.{Blocks, UnknownAddress}
+use Rattle.c25_walk.specs.Walks.{walk_of, count_of}
+
+-- `load`: LARK AR2,10h; MAR *,AR2; LAC *+; B to LAC *-; SBRK 1; at 6 LAC *-; RET. `spin`: at 8 MAR *-; B to itself
+abbrev image : Contents
+image = record {
+  words = 0xc210 ∷ 0x558a ∷ 0x20a0 ∷ 0xff80 ∷ 6 ∷ 0x7f01 ∷ 0x2090 ∷ 0xce26 ∷ 0x5590 ∷ 0xff80 ∷ 9 ∷ [];
+  functions = record { name = codes "load"; first = 0; last = 7 } ∷ record { name = codes "spin"; first = 8; last = 10 } ∷ [];
+}
+
+-- behind the jump nothing is known
+load : walk_of image 0 ≡ Some (UnknownAddress 6)
+load = refl
+
+-- LARK, and SBRK behind the jump, of any register
+load_counts : count_of image 0 ≡ Some 2
+load_counts = refl
+
+spin : walk_of image 1 ≡ Some (Blocks [])
+spin = refl
+
+-- MAR *-, of any register
+spin_counts : count_of image 1 ≡ Some 1
+spin_counts = refl
+
+no_third : walk_of image 2 ≡ None
+no_third = refl

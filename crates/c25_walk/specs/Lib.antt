@@ -1,0 +1,5 @@
+pub mod KnownView
+pub mod Decoding
+pub mod Marks
+pub mod Walking
+pub mod Walks
