@@ -343,6 +343,12 @@ asks() {
             wants 6 "running after ${request[3]} $counted" "$@"
             rm -f -- "./${request[1]}" "./${request[2]}"
             ;;
+        layout)
+            printf 'scalars 1\nblock 1 0\nend\n' > "./${request[1]}"
+            wants 0 'cost 1 optimal
+register 0: 0' "$@"
+            rm -f -- "./${request[1]}"
+            ;;
         *) fail "another request: ${request[*]}" ;;
     esac
     [ -z "$(ls -A)" ] || fail "other files are left by '$*': $(ls -A)"
@@ -361,7 +367,7 @@ while IFS= read -r row; do
     fi
 done < <(rows words.txt)
 cd ..
-[ "$lists" -ge 131 ] || fail "words.txt has $lists lists"
+[ "$lists" -ge 184 ] || fail "words.txt has $lists lists"
 wants 2 'words refused' ''
 
 # Files as long as they may be, and one byte longer.
@@ -606,6 +612,58 @@ timed 'a filter over 10000 words' words.wants means "$top/examples/fir.c" words 
 timed "the filter's program over 10000 words" words.wants exec "$top/examples/fir.c" words --steps 100000000
 sed -i '$ c running after 10000 turns' words.wants
 puts words.wants means "$top/examples/fir.c" words
+
+# Layouts: the sequences of layouts.txt with their least costs, and worked ones with all lines.
+layouts=0
+while IFS= read -r row; do
+    layouts=$((layouts + 1))
+    answer=${row%% | *}
+    row=${row#* | }
+    shows "${row#* | }" > sequence
+    got=$("$program" layout sequence ${row%% | *} | head -n 1)
+    [ "$got" = "$answer" ] || fail "layout gave '$got', and wanted '$answer': $row"
+done < <(rows layouts.txt)
+[ "$layouts" -ge 72 ] || fail "layouts.txt has $layouts sequences"
+# lays_out WORDS SEQUENCE LINES
+lays_out() {
+    shows "$2" > sequence
+    wants 0 "$3" layout sequence $1
+}
+lays_out '' 'scalars 4\nblock 1 1 0 1 0 2 0 3\nend\n' 'cost 2 optimal
+register 0: 1 0 2 3'
+lays_out '-r 2' 'scalars 5\nblock 1 0 1 0 2 0 3 0 4\nend\n' 'cost 2 optimal
+register 0: 0 1
+register 1: 2 3 4'
+pairs() { awk -v n="$1" 'BEGIN { printf "scalars %d\\n", n; for (i = 0; i < n; i++) for (j = i + 1; j < n; j++) printf "block 1 %d %d\\n", i, j; printf "end\\n" }'; }
+lays_out '' "$(pairs 8)" 'cost 49 optimal
+register 0: 6 4 2 0 1 3 5 7'
+lays_out '-r 4' "$(pairs 6)" 'cost 25 optimal
+register 0: 4 2 0 1 3 5'
+lays_out '--budget 20' "scalars 20\nblock 1$(awk 'BEGIN { for (i = 1; i < 20; i++) printf " 0 %d", i }')\nend\n" 'cost 34 best piece 0 quota 1
+register 0: 1 0 2 3 4 5 6 7 8 9 10 11 12 13 14 15 16 17 18 19'
+lays_out '' 'scalars 4\nblock 1 0 1 0 2 0 3 0\nend\n' 'cost 3 optimal
+register 0: 1 0 2 3'
+lays_out '' 'scalars 4\nstep 2\nblock 1 0 1 0 2 0 3 0\nend\n' 'cost 2 optimal
+register 0: 1 0 2 3'
+lays_out '' 'scalars 4\nblock 1 0 1 0 2 0 2 0 3 0 3\nend\n' 'cost 3 optimal
+register 0: 2 0 3 1'
+cycle='scalars 5\nblock 2 1 0\nblock 2 0 2\nblock 2 2 4\nblock 2 4 3\nblock 3 0 4\nend\n'
+lays_out '' "$cycle" 'cost 14 optimal
+register 0: 1 0 2 4 3'
+lays_out '--budget 25' "$cycle" 'cost 15 best piece 0 quota 5
+register 0: 1 0 4 2 3'
+lays_out '--budget 30' "$cycle" 'cost 14 best piece 0 quota 6
+register 0: 1 0 2 4 3'
+lays_out '--budget 40' "$cycle" 'cost 14 best piece 1 quota 8
+register 0: 1 0 2 4 3'
+lays_out '' 'scalars 0\nend' 'cost 0 optimal'
+printf 'scalars 65\nend\n' > sequence
+wants 9 'file refused: sequence too many scalars 65' layout sequence
+printf 'scalars 2\r\n\nblock 1 2\nend\n' > sequence
+wants 9 'file refused: sequence bad line 3' layout sequence
+printf 'scalars 2\nstep 9\nend\n' > sequence
+wants 9 'file refused: sequence bad line 2' layout sequence
+wants 3 'read fault: absent' layout absent
 
 # Programs whose answers are by hand or by arithmetic here.
 

@@ -1,6 +1,7 @@
 -- The told files come to one thing or are refused for one, for each command.
-use Rattle.std.proofs.Common.{◌≡◌, ◌≢◌, ◌∙◌, ℕ, List, Option, refl, sym, ap, subst, IsTrue}
-use Rattle.cc_words.specs.Asked.{Asked, ToBuild, ToRun, ToEvaluate, ToExecute}
+use Rattle.std.proofs.Common.{◌≡◌, ◌≢◌, ◌∙◌, ℕ, List, Option, refl, sym, ap, subst, lit<, IsTrue}
+use Rattle.std.specs.Str.Lines.{lines}
+use Rattle.cc_words.specs.Asked.{Asked, ToBuild, ToRun, ToEvaluate, ToExecute, ToLayOut}
 use Rattle.word_base.specs.Ports.{Outputs, input_of}
 use Rattle.c_tree.specs.SourceRun.{source_run}
 use Rattle.c25_isa.specs.Image.{Contents}
@@ -16,6 +17,9 @@ use Rattle.c25_image.specs.PortText.{PortText, PortSays}
 use Rattle.c25_image.proofs.ImageEnds.{text_injective}
 use Rattle.c25_image.proofs.ImageExact.{says_no_text}
 use Rattle.c25_image.proofs.PortLines.{bad_no_text, one_port_text}
+use Rattle.lay_text.specs.Lines.{filled}
+use Rattle.lay_text.proofs.Exact.{sequences_same, says_not_read}
+use Rattle.lay_tree.specs.Search.{search_answer}
 use Rattle.cc_image.specs.Images.{HasImage}
 use Rattle.cc_image.proofs.OneImage.{one as one_image}
 use Rattle.cc_fault.specs.SourceFaults.{HasProgram, IsAccepted}
@@ -25,6 +29,7 @@ use Rattle.cc_text.specs.Answers.{Answered}
 use Rattle.cc_text.specs.Refusals.{Why, refusal_status}
 use Rattle.cc_text.specs.RunText.{run_answer}
 use Rattle.cc_text.specs.MeansText.{means_answer}
+use Rattle.cc_text.specs.LayoutText.{layout_answer}
 use Rattle.cc_driver.specs.World.{Shelves}
 use Rattle.cc_driver.specs.Fetches.{AreFetched}
 use Rattle.cc_driver.specs.Build.{BuildsTo, IsRefusedFor}
@@ -32,6 +37,7 @@ use Rattle.cc_driver.specs.Run.{ImageRuns, RunsTo, RunRefused, BadImage, BadPort
 use Rattle.cc_driver.specs.Means.{MeansTo, MeansRefused, PortsFirst, SourceThen}
 use Rattle.cc_driver.specs.Exec.{ExecutesTo, ExecuteRefused}
 use Rattle.cc_driver.specs.Exec as exec
+use Rattle.cc_driver.specs.Layout.{LaysOutTo, LayoutRefused}
 use Rattle.cc_driver.specs.Commands.{files_of, Comes, Rejects}
 use Rattle.cc_driver.specs.Puts.{IsStatus}
 use Rattle.cc_driver.proofs.StatusLemmas.{quiet_is, of_stop, of_outcome}
@@ -44,12 +50,14 @@ comes_told (ToBuild source image) shelf answer stored c = ((c.bytes, c.fetched),
 comes_told (ToRun image ports steps) shelf answer stored c = ((c.0.bytes, c.0.fetched), ((c.0.more, c.0.also), tt {0}))
 comes_told (ToEvaluate source ports turns) shelf answer stored c = ((c.0.bytes, c.0.fetched), ((c.0.more, c.0.also), tt {0}))
 comes_told (ToExecute source ports steps) shelf answer stored c = ((c.0.bytes, c.0.fetched), ((c.0.more, c.0.also), tt {0}))
+comes_told (ToLayOut sequence registers budget) shelf answer stored c = ((c.0.bytes, c.0.fetched), tt {0})
 
 pub refuses_told : (what : Asked) (shelf : Shelves) (why : Why) → Rejects what shelf why → AreFetched shelf (files_of what)
 refuses_told (ToBuild source image) shelf why r = ((r.bytes, r.fetched), tt {0})
 refuses_told (ToRun image ports steps) shelf why r = ((r.bytes, r.fetched), ((r.more, r.also), tt {0}))
 refuses_told (ToEvaluate source ports turns) shelf why r = ((r.bytes, r.fetched), ((r.more, r.also), tt {0}))
 refuses_told (ToExecute source ports steps) shelf why r = ((r.bytes, r.fetched), ((r.more, r.also), tt {0}))
+refuses_told (ToLayOut sequence registers budget) shelf why r = ((r.bytes, r.fetched), tt {0})
 
 -- ---- ports
 
@@ -157,6 +165,19 @@ exec_refused_one ports s p v w (exec.SourceThen lines text fault has is) (exec.P
 exec_refused_one ports s p v w (exec.SourceThen lines text fault has is) (exec.SourceThen more also other too are) =
     ap refusal_status is ∙ sym (ap refusal_status are)
 
+-- ---- layout
+
+layout_one : (bytes : List ℕ) (registers budget : ℕ) (a b : Answered) → LaysOutTo bytes registers budget a → LaysOutTo bytes registers budget b → a ≡ b
+layout_one bytes registers budget a b r q =
+    let sequence = sequences_same r.sequence q.sequence (filled (lines bytes)) r.reads q.reads in
+    r.is ∙ ap (λ s. layout_answer (search_answer registers s budget)) sequence ∙ sym q.is
+
+layout_not : (name bytes : List ℕ) (registers budget : ℕ) (a : Answered) (why : Why) → LaysOutTo bytes registers budget a → LayoutRefused name bytes why → ⊥
+layout_not name bytes registers budget a why c r = r.some (says_not_read bytes c.sequence c.reads r.fault r.says)
+
+layout_status_nine : (name bytes : List ℕ) (why : Why) → LayoutRefused name bytes why → refusal_status why ≡ 9
+layout_status_nine name bytes why r = ap refusal_status r.is
+
 -- ---- all commands
 
 pub comes_one : (what : Asked) (shelf : Shelves) (tells : IsTrue shelf.tells) (a b : Answered) (s t : Option (List ℕ)) → Comes what shelf a s → Comes what shelf b t → a ≡ b
@@ -172,6 +193,9 @@ comes_one (ToEvaluate source ports turns) shelf tells a b s t c d =
 comes_one (ToExecute source ports steps) shelf tells a b s t c d =
     let h = two_files shelf tells _ _ _ _ c.0 d.0 in
     exec_one h.0 h.1.0 steps a b h.1.1 h.1.2
+comes_one (ToLayOut sequence registers budget) shelf tells a b s t c d =
+    let h = one_file shelf tells _ _ _ c.0 d.0 in
+    layout_one h.0 registers budget a b h.1 h.2
 
 pub comes_not : (what : Asked) (shelf : Shelves) (tells : IsTrue shelf.tells) (a : Answered) (s : Option (List ℕ)) (why : Why) → Comes what shelf a s → Rejects what shelf why → ⊥
 comes_not (ToBuild source image) shelf tells a s why c r =
@@ -186,6 +210,9 @@ comes_not (ToEvaluate source ports turns) shelf tells a s why c r =
 comes_not (ToExecute source ports steps) shelf tells a s why c r =
     let h = two_files shelf tells _ _ _ _ c.0 r in
     exec_not ports h.0 h.1.0 steps a why h.1.1 h.1.2
+comes_not (ToLayOut sequence registers budget) shelf tells a s why c r =
+    let h = one_file shelf tells _ _ _ c.0 r in
+    layout_not sequence h.0 registers budget a why h.1 h.2
 
 pub refuses_one : (what : Asked) (shelf : Shelves) (tells : IsTrue shelf.tells) (v w : Why) → Rejects what shelf v → Rejects what shelf w → refusal_status v ≡ refusal_status w
 refuses_one (ToBuild source image) shelf tells v w r s =
@@ -200,6 +227,9 @@ refuses_one (ToEvaluate source ports turns) shelf tells v w r s =
 refuses_one (ToExecute source ports steps) shelf tells v w r s =
     let h = two_files shelf tells _ _ _ _ r s in
     exec_refused_one ports h.0 h.1.0 v w h.1.1 h.1.2
+refuses_one (ToLayOut sequence registers budget) shelf tells v w r s =
+    let h = one_file shelf tells _ _ _ r s in
+    layout_status_nine sequence h.0 v h.1 ∙ sym (layout_status_nine sequence h.0 w h.2)
 
 image_run_status : (words : List ℕ) (lines : List (ℕ × ℕ)) (steps : ℕ) (answer : Answered) → ImageRuns words lines steps answer → IsStatus answer.status
 image_run_status words lines steps answer r = subst (λ a. IsStatus a.status) (sym r.is) (of_stop r.stands)
@@ -211,3 +241,4 @@ comes_status (ToRun image ports steps) shelf answer stored c = image_run_status 
 comes_status (ToEvaluate source ports turns) shelf answer stored c =
     subst (λ a. IsStatus a.status) (sym c.0.holds.is) (of_outcome (source_run c.0.holds.program (input_of c.0.holds.lines) turns))
 comes_status (ToExecute source ports steps) shelf answer stored c = image_run_status c.0.holds.image.words c.0.holds.lines steps answer c.0.holds.runs
+comes_status (ToLayOut sequence registers budget) shelf answer stored c = subst (λ a. IsStatus a.status) (sym c.0.holds.is) (0, lit< tt, refl)

@@ -1,7 +1,7 @@
 -- The statuses that there are.
 use Rattle.std.proofs.Common.{◌≡◌, ℕ, List, Option, Some, None, refl, sym, subst, lit<}
 use Rattle.cc_text.specs.declared.refusal.FileFault.{FileFault}
-use Rattle.cc_text.specs.declared.refusal.FileFault.TheVariants.{Read, TooLong, Image, Ports}
+use Rattle.cc_text.specs.declared.refusal.FileFault.TheVariants.{Read, TooLong, Image, Ports, Sequence}
 use Rattle.cc_text.specs.Refusals.{Why, OfFile, OfSource, OfStore, OfMemory, file_status, refusal_status}
 use Rattle.c25_isa.specs.declared.event.Stop.{Stop}
 use Rattle.c25_isa.specs.declared.event.Stop.TheVariants as stop
@@ -19,6 +19,7 @@ of_file Read = (3, lit< tt, refl)
 of_file TooLong = (8, lit< tt, refl)
 of_file (Image why) = (8, lit< tt, refl)
 of_file (Ports why) = (8, lit< tt, refl)
+of_file (Sequence why) = (8, lit< tt, refl)
 
 of_why : (why : Why) → IsStatus (refusal_status why)
 of_why (OfFile name why) = of_file why

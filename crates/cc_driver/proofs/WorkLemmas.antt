@@ -1,9 +1,11 @@
 -- The work of commands from their parts.
 use Rattle.std.proofs.Common.{arith, inl, inr, ◌≡◌, ◌≢◌, ◌∙◌, ℕ, Bool, List, [], ◌∷◌, Option, Some, None, Ok, Err, IfOk, refl, sym, ap, subst, append-nil}
-use Rattle.std.specs.Prelude.{Result, IfErr, IsErrAnd}
+use Rattle.std.specs.Prelude.{Result, IfErr, IfSome, IsErrAnd}
 use Rattle.cc_shelf.specs.Counts.{Rose}
 use Rattle.cc_shelf.specs.Stock.{Stock}
-use Rattle.cc_words.specs.Asked.{Asked, ToBuild}
+use Rattle.cc_words.specs.Asked.{Asked, ToBuild, asked}
+use Rattle.cc_words.specs.Plain.{IsWithinBounds}
+use Rattle.cc_words.proofs.PlainLemmas.{within_asked}
 use Rattle.c25_isa.specs.Image.{Contents}
 use Rattle.c25_image.specs.ImageText.{image_text}
 use Rattle.c25_image.specs.ImageFaults.{IsWhole, Says}
@@ -12,17 +14,21 @@ use Rattle.c25_image.specs.declared.fault.ImageFault.{ImageFault}
 use Rattle.c25_image.specs.declared.fault.ImageFault.TheVariants as image_faults
 use Rattle.c25_image.specs.declared.fault.PortFault.{PortFault}
 use Rattle.c25_image.specs.declared.fault.PortFault.TheVariants as port_faults
+use Rattle.lay_text.specs.SequenceReading.{Says as SequenceSays}
+use Rattle.lay_text.specs.declared.fault.SeqFault.{SeqFault}
+use Rattle.lay_text.specs.declared.fault.SeqFault.TheVariants as sequence_faults
 use Rattle.cc_fault.specs.declared.fault.BuildFault.{BuildFault}
 use Rattle.cc_fault.specs.declared.fault.BuildFault.TheVariants as build_faults
 use Rattle.cc_compile.specs.Compiles.{IsBuilt}
 use Rattle.cc_text.specs.declared.answer.Answer.{Answer}
 use Rattle.cc_text.specs.declared.refusal.Refusal.{Refusal}
 use Rattle.cc_text.specs.Answers.{answered}
-use Rattle.cc_text.specs.Refusals.{Why, OfFile, OfSource, OfStore, OfMemory, why_of, of_build_fault, of_image_fault, of_port_fault}
+use Rattle.cc_text.specs.Refusals.{Why, OfFile, OfSource, OfStore, OfMemory, why_of, of_build_fault, of_image_fault, of_port_fault, of_sequence_fault}
 use Rattle.cc_driver.specs.World.{Shelves, shelves}
 use Rattle.cc_driver.specs.Fetches.{Wanted, IsFetched, AreFetched, NoneFailed, ForMemory}
 use Rattle.cc_driver.specs.Build.{source_file, quiet}
 use Rattle.cc_driver.specs.Run.{RunRefused, BadImage, ArePortsRefused}
+use Rattle.cc_driver.specs.Layout.{LayoutRefused}
 use Rattle.cc_driver.specs.Commands.{files_of, stores_under, Rejects}
 use Rattle.cc_driver.specs.Work.{NothingStored, WorkRefused, WorkLeaves, StoreStopped, AtFetch, AtFiles, AtStore, AtMemory}
 
@@ -49,6 +55,11 @@ image_fault_of image ports i p image_faults.NoMemory why says e some = absurd (s
 pub port_fault_of : (ports p : List ℕ) (fault : PortFault) (why : Why) → PortSays p fault → why ≡ of_port_fault ports fault → why ≢ OfMemory → ArePortsRefused ports p why
 port_fault_of ports p (port_faults.BadLine line) why says e some = record { fault = port_faults.BadLine line; some = λ f. cc; says = says; is = e }
 port_fault_of ports p port_faults.NoMemory why says e some = absurd (some e)
+
+pub sequence_fault_of : (name bytes : List ℕ) (fault : SeqFault) (why : Why) → SequenceSays bytes fault → why ≡ of_sequence_fault name fault → why ≢ OfMemory → LayoutRefused name bytes why
+sequence_fault_of name bytes (sequence_faults.BadLine line) why says e some = record { fault = sequence_faults.BadLine line; some = λ f. cc; says = says; is = e }
+sequence_fault_of name bytes (sequence_faults.TooManyScalars count) why says e some = record { fault = sequence_faults.TooManyScalars count; some = λ f. cc; says = says; is = e }
+sequence_fault_of name bytes sequence_faults.NoMemory why says e some = absurd (some e)
 
 pub build_fault_of : (fault : BuildFault) (why : Why) → why ≡ of_build_fault fault → why ≢ OfMemory → (fault ≢ build_faults.NoMemory) × (why ≡ OfSource fault)
 build_fault_of (build_faults.Lex l) why e some = (λ f. cc, e)
@@ -129,6 +140,10 @@ nothing_leaves what shelf result none kept = record {
 }
 
 -- ---- words
+
+-- what words ask for is within its bounds
+pub bounded : (words : List (List ℕ)) (a : Asked) → Some a ≡ asked words → IsWithinBounds a
+bounded words a e = subst (λ o. IfSome o IsWithinBounds) (sym e) (within_asked words)
 
 -- words ask for one thing
 pub one_asked : (o : Option Asked) (a b : Asked) → Some a ≡ o → o ≡ Some b → a ≡ b

@@ -1,7 +1,7 @@
 -- The commands, a row each: which files one fetches, under which name it stores, what it comes to, and for what its files are refused
 -- (docs/COMMANDS.md).
 use Rattle.std.specs.Prelude.{◌≡◌, ℕ, List, [], ◌∷◌, Option, Some, None}
-use Rattle.cc_words.specs.Asked.{Asked, ToBuild, ToRun, ToEvaluate, ToExecute}
+use Rattle.cc_words.specs.Asked.{Asked, ToBuild, ToRun, ToEvaluate, ToExecute, ToLayOut}
 use Rattle.cc_text.specs.Answers.{Answered}
 use Rattle.cc_text.specs.Refusals.{Why}
 use Rattle.cc_driver.specs.World.{Shelves}
@@ -10,6 +10,7 @@ use Rattle.cc_driver.specs.Build.{source_file, FileHas, BuildsTo, IsRefusedFor}
 use Rattle.cc_driver.specs.Run.{image_file, ports_file, RunsTo, RunRefused}
 use Rattle.cc_driver.specs.Means.{MeansTo, MeansRefused}
 use Rattle.cc_driver.specs.Exec.{ExecutesTo, ExecuteRefused}
+use Rattle.cc_driver.specs.Layout.{sequence_file, LaysOutTo, LayoutRefused}
 
 -- the files that a command fetches, in this order
 abbrev pub files_of : Asked → List Wanted
@@ -17,6 +18,7 @@ files_of (ToBuild source image) = source_file source ∷ []
 files_of (ToRun image ports steps) = image_file image ∷ ports_file ports ∷ []
 files_of (ToEvaluate source ports turns) = source_file source ∷ ports_file ports ∷ []
 files_of (ToExecute source ports steps) = source_file source ∷ ports_file ports ∷ []
+files_of (ToLayOut sequence registers budget) = sequence_file sequence ∷ []
 
 -- the name under which a command stores, where it does
 abbrev pub stores_under : Asked → Option (List ℕ)
@@ -24,6 +26,7 @@ stores_under (ToBuild source image) = Some image
 stores_under (ToRun image ports steps) = None
 stores_under (ToEvaluate source ports turns) = None
 stores_under (ToExecute source ports steps) = None
+stores_under (ToLayOut sequence registers budget) = None
 
 -- the bytes of two files have a property
 pub record FilesHave (shelf : Shelves) (first second : Wanted) (P : List ℕ → List ℕ → Type 0) : Type 0 where
@@ -42,6 +45,8 @@ Comes (ToEvaluate source ports turns) shelf answer stored =
     FilesHave shelf (source_file source) (ports_file ports) (λ s p. MeansTo s p turns answer) × (stored ≡ None)
 Comes (ToExecute source ports steps) shelf answer stored =
     FilesHave shelf (source_file source) (ports_file ports) (λ s p. ExecutesTo s p steps answer) × (stored ≡ None)
+Comes (ToLayOut sequence registers budget) shelf answer stored =
+    FileHas shelf (sequence_file sequence) (λ s. LaysOutTo s registers budget answer) × (stored ≡ None)
 
 -- for what a command refuses its files, which all fit
 abbrev pub Rejects : Asked → Shelves → Why → Type 0
@@ -52,3 +57,5 @@ Rejects (ToEvaluate source ports turns) shelf why =
     FilesHave shelf (source_file source) (ports_file ports) (λ s p. MeansRefused ports s p why)
 Rejects (ToExecute source ports steps) shelf why =
     FilesHave shelf (source_file source) (ports_file ports) (λ s p. ExecuteRefused ports s p why)
+Rejects (ToLayOut sequence registers budget) shelf why =
+    FileHas shelf (sequence_file sequence) (λ s. LayoutRefused sequence s why)

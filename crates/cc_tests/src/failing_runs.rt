@@ -1,4 +1,4 @@
-//! Runs, evaluations and executions whose calls fail, each in turn. The answers were decided by hand from docs/COMMANDS.md.
+//! Runs, evaluations, executions and layouts whose calls fail, each in turn. The answers were decided by hand from docs/COMMANDS.md.
 use crate::commands::{Command, Left, leaves};
 use std::process::Abort;
 use std::test::Fail;
@@ -92,6 +92,35 @@ fn failing_executions(rt: HostRuntime) -> Result<(), Fail> {
         (&[2], &[1]),
         (0, "1 0000\n1 0001\n1 0002\nreturned 0007\n"),
         2,
+    )
+}
+
+const LAYOUT: &[&str] = &["layout", "i"];
+
+/// Between any two others comes scalar 0.
+const SEQUENCE: &[u8] = b"scalars 4\nblock 1 0 1 0 2 0 3\nend\n";
+
+#[test]
+fn failing_layouts(rt: HostRuntime) -> Result<(), Fail> {
+    answers(
+        &rt,
+        LAYOUT,
+        SEQUENCE,
+        (&[0], &[]),
+        (3, "read fault: i\n"),
+        1,
+    )?;
+    answers(&rt, LAYOUT, b"", (&[], &[0]), (9, ""), 1)?;
+    // The answer can't be put, and nothing more is.
+    answers(&rt, LAYOUT, SEQUENCE, (&[], &[0]), (4, ""), 1)?;
+    // No further call is made.
+    answers(
+        &rt,
+        LAYOUT,
+        SEQUENCE,
+        (&[1], &[1]),
+        (0, "cost 2 optimal\nregister 0: 1 0 2 3\n"),
+        1,
     )
 }
 

@@ -1,5 +1,5 @@
 //! Words whose request no run shows: an empty name, which no file has.
-use cc_words::{Build, Exec, Means, Request, Run, requested};
+use cc_words::{Build, Exec, Layout, Means, Request, Run, requested};
 use std::alloc::Global;
 use std::test::Fail;
 
@@ -33,6 +33,14 @@ fn shown(alloc: Global, request: &Option<Request>) -> Result<String, Fail> {
                 steps,
             } = asked;
             format!(in alloc; "exec {source} {ports} {steps}")?
+        }
+        Some(Request::Layout(asked)) => {
+            let Layout {
+                sequence,
+                registers,
+                budget,
+            } = asked;
+            format!(in alloc; "layout {sequence} {registers} {budget}")?
         }
     })
 }

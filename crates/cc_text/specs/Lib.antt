@@ -3,3 +3,4 @@ pub mod Refusals
 pub mod Answers
 pub mod RunText
 pub mod MeansText
+pub mod LayoutText

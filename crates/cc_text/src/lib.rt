@@ -3,6 +3,7 @@
 #![tactic(auto)]
 
 mod answer;
+mod layout_text;
 mod means_text;
 mod refusal;
 mod refusal_text;
@@ -10,6 +11,7 @@ mod run_text;
 mod source_text;
 
 pub use answer::Answer;
+pub use layout_text::layout_answer;
 pub use means_text::means_answer;
 pub use refusal::{FileFault, Refusal};
 pub use refusal_text::file_line;

@@ -1,9 +1,10 @@
 //! Why a command is refused.
 ghost use Rattle.std.specs.Prelude.{◌≡◌};
-ghost use Rattle.cc_text.specs.Refusals.{why_of, of_image_fault, of_port_fault, refusal_status, file_status};
+ghost use Rattle.cc_text.specs.Refusals.{why_of, of_image_fault, of_port_fault, of_sequence_fault, refusal_status, file_status};
 
 use c25_image::{ImageFault, PortFault};
 use cc_fault::BuildFault;
+use lay_text::SeqFault;
 use word_base::NoMemory;
 
 /// Why a file is refused.
@@ -17,6 +18,8 @@ pub enum FileFault {
     Image(ImageFault),
     /// It is no port file.
     Ports(PortFault),
+    /// It is no sequence file.
+    Sequence(SeqFault),
 }
 
 impl FileFault {
@@ -25,7 +28,10 @@ impl FileFault {
     {
         match self {
             FileFault::Read => 3,
-            FileFault::TooLong | FileFault::Image(_) | FileFault::Ports(_) => 9,
+            FileFault::TooLong
+            | FileFault::Image(_)
+            | FileFault::Ports(_)
+            | FileFault::Sequence(_) => 9,
         }
     }
 }
@@ -65,6 +71,19 @@ impl<'a> Refusal<'a> {
             why => Refusal::File {
                 name,
                 why: FileFault::Ports(why),
+            },
+        }
+    }
+
+    /// A file of this name is no sequence file.
+    pub fn of_sequence(name: &'a str, fault: SeqFault) -> Self
+        ensures { why_of result ≡ of_sequence_fault name.now fault }
+    {
+        match fault {
+            SeqFault::NoMemory => Refusal::NoMemory,
+            why => Refusal::File {
+                name,
+                why: FileFault::Sequence(why),
             },
         }
     }

@@ -1,9 +1,10 @@
 //! The line that refuses a file.
 ghost use Rattle.std.specs.Prelude.{◌≡◌, IfOk, string_bytes};
-ghost use Rattle.cc_text.specs.Refusals.{file_line, image_line, port_line};
+ghost use Rattle.cc_text.specs.Refusals.{file_line, image_line, port_line, sequence_line};
 
 use crate::refusal::FileFault;
 use c25_image::{ImageFault, PortFault};
+use lay_text::SeqFault;
 use std::alloc::Global;
 use word_base::NoMemory;
 
@@ -37,6 +38,21 @@ fn port_line(alloc: Global, name: &str, fault: PortFault) -> Result<String, NoMe
     }
 }
 
+// The line that refuses a sequence file.
+fn sequence_line(alloc: Global, name: &str, fault: SeqFault) -> Result<String, NoMemory>
+    ensures { IfOk result (λ line. string_bytes line ≡ sequence_line name.now fault) }
+{
+    match fault {
+        SeqFault::BadLine { line } => {
+            Ok(format!(in alloc; "file refused: {name} bad line {line}\n")?)
+        }
+        SeqFault::TooManyScalars { count } => {
+            Ok(format!(in alloc; "file refused: {name} too many scalars {count}\n")?)
+        }
+        SeqFault::NoMemory => Err(NoMemory),
+    }
+}
+
 /// The line that refuses a file of a name, with its line feed. Want of memory is no fault of one, and has none.
 pub fn file_line(alloc: Global, name: &str, fault: FileFault) -> Result<String, NoMemory>
     ensures { IfOk result (λ line. string_bytes line ≡ file_line name.now fault) }
@@ -46,5 +62,6 @@ pub fn file_line(alloc: Global, name: &str, fault: FileFault) -> Result<String, 
         FileFault::TooLong => Ok(format!(in alloc; "file refused: {name} too long\n")?),
         FileFault::Image(why) => image_line(alloc, name, why),
         FileFault::Ports(why) => port_line(alloc, name, why),
+        FileFault::Sequence(why) => sequence_line(alloc, name, why),
     }
 }

@@ -12,7 +12,8 @@ use Rattle.clap.proofs.ValueTestLemmas.{accepts-Accepts}
 use Rattle.clap.specs.Words.{App, Row, Text, first_of, is_simple, is_simple_and_free, matches_of, one_of, rows_of}
 use Rattle.clap.specs.declared.parser.matches.Found.{Found}
 use Rattle.clap.proofs.WalkLemmas.{both, first_value-rows, one_text-rows}
-use Rattle.cc_words.specs.Asked.{Asked, ToBuild, asked, asked_to, build_of, is_number_to, is_taken, number_to, numbered_of, texts_of}
+use Rattle.cc_words.specs.Asked.{Asked, ToBuild, ToLayOut, asked, asked_to, build_of, is_number_to, is_taken, layout_of, number_of, number_to, numbered_of, texts_of}
+use Rattle.cc_words.specs.Commands.{greatest_budget, greatest_registers}
 
 -- what a getter gave is what the rows hold
 pub text_is : (f : Found) (id : Text) (o : Option Text) → o ≡ first_value f id → first_of id (rows_of f) ≡ o
@@ -65,6 +66,17 @@ module _ (first second number : Text) (greatest : ℕ) (what : Text → Text →
       → option_and_then (number_to greatest) (one_of number (rows_of f)) ≡ n → option_map (what a b) n ≡ numbered_of first second number greatest what (rows_of f)
   number_found f a b n ea eb en = rw (text_is f first (Some a) ea, text_is f second (Some b) eb, en) refl
 
+-- the matches of `layout`, by what the getters gave
+pub no_sequence : (f : Found) → None ≡ first_value f (codes "sequence") → None ≡ layout_of (rows_of f)
+no_sequence f e = rw (text_is f (codes "sequence") None e) refl
+
+pub layout_found : (f : Found) (s : Text) (m n : Option ℕ) → Some s ≡ first_value f (codes "sequence") → number_of (codes "registers") greatest_registers (rows_of f) ≡ m → number_of (codes "budget") greatest_budget (rows_of f) ≡ n
+    → option_and_then (λ registers. option_map (ToLayOut s registers) n) m ≡ layout_of (rows_of f)
+layout_found f s m n es em en = rw (text_is f (codes "sequence") (Some s) es, em, en) refl
+
+pub no_registers : (f : Found) (s : Text) → Some s ≡ first_value f (codes "sequence") → number_of (codes "registers") greatest_registers (rows_of f) ≡ None → None ≡ layout_of (rows_of f)
+no_registers f s es em = rw (text_is f (codes "sequence") (Some s) es, em) refl
+
 -- the words are taken, and the matches say what they ask for
 pub taken : (app wanted : App) (of_rows : List Row → Option Asked) (words : List Text) (rows : List Row) (o : Option Asked) → app ≡ wanted → is_taken app words ≡ true → rows ≡ matches_of app words
     → o ≡ of_rows rows → o ≡ asked_to wanted of_rows words
@@ -80,20 +92,22 @@ refused app wanted of_rows words is fails =
     sym (ap (λ b. cond b (of_rows (matches_of wanted words)) None) fits_here)
 
 -- a first word that names no command
-pub no_command : (name : Text) (rest : List Text) → (name ≡ codes "build" → ⊥) → (name ≡ codes "run" → ⊥) → (name ≡ codes "means" → ⊥) → (name ≡ codes "exec" → ⊥) → None ≡ asked (name ∷ rest)
-no_command name rest not_build not_run not_means not_exec = go (bytes_eq name (codes "build")) refl (bytes_eq name (codes "run")) refl (bytes_eq name (codes "means")) refl (bytes_eq name (codes "exec")) refl
+pub no_command : (name : Text) (rest : List Text) → (name ≡ codes "build" → ⊥) → (name ≡ codes "run" → ⊥) → (name ≡ codes "means" → ⊥) → (name ≡ codes "exec" → ⊥) → (name ≡ codes "layout" → ⊥) → None ≡ asked (name ∷ rest)
+no_command name rest not_build not_run not_means not_exec not_layout = go (bytes_eq name (codes "build")) refl (bytes_eq name (codes "run")) refl (bytes_eq name (codes "means")) refl (bytes_eq name (codes "exec")) refl (bytes_eq name (codes "layout")) refl
   where
-    go : (b : Bool) → bytes_eq name (codes "build") ≡ b → (r : Bool) → bytes_eq name (codes "run") ≡ r → (m : Bool) → bytes_eq name (codes "means") ≡ m → (x : Bool) → bytes_eq name (codes "exec") ≡ x → None ≡ asked (name ∷ rest)
-    go true e r f m g x h = absurd (not_build ((bytes_eq-Decides name (codes "build")).0 e))
-    go false e true f m g x h = absurd (not_run ((bytes_eq-Decides name (codes "run")).0 f))
-    go false e false f true g x h = absurd (not_means ((bytes_eq-Decides name (codes "means")).0 g))
-    go false e false f false g true h = absurd (not_exec ((bytes_eq-Decides name (codes "exec")).0 h))
-    go false e false f false g false h = rw (e, f, g, h) refl
+    go : (b : Bool) → bytes_eq name (codes "build") ≡ b → (r : Bool) → bytes_eq name (codes "run") ≡ r → (m : Bool) → bytes_eq name (codes "means") ≡ m → (x : Bool) → bytes_eq name (codes "exec") ≡ x
+        → (l : Bool) → bytes_eq name (codes "layout") ≡ l → None ≡ asked (name ∷ rest)
+    go true e r f m g x h l i = absurd (not_build ((bytes_eq-Decides name (codes "build")).0 e))
+    go false e true f m g x h l i = absurd (not_run ((bytes_eq-Decides name (codes "run")).0 f))
+    go false e false f true g x h l i = absurd (not_means ((bytes_eq-Decides name (codes "means")).0 g))
+    go false e false f false g true h l i = absurd (not_exec ((bytes_eq-Decides name (codes "exec")).0 h))
+    go false e false f false g false h true i = absurd (not_layout ((bytes_eq-Decides name (codes "layout")).0 i))
+    go false e false f false g false h false i = rw (e, f, g, h, i) refl
 
 -- the first of the words names no command
 pub no_command_first : (words : List (String Global)) (name : String Global) → Some name ≡ slice_get words 0
-    → (string_bytes name ≡ codes "build" → ⊥) → (string_bytes name ≡ codes "run" → ⊥) → (string_bytes name ≡ codes "means" → ⊥) → (string_bytes name ≡ codes "exec" → ⊥) → None ≡ asked (texts_of words)
-no_command_first [] name is not_build not_run not_means not_exec = cc
-no_command_first (w ∷ ws) name is not_build not_run not_means not_exec =
+    → (string_bytes name ≡ codes "build" → ⊥) → (string_bytes name ≡ codes "run" → ⊥) → (string_bytes name ≡ codes "means" → ⊥) → (string_bytes name ≡ codes "exec" → ⊥) → (string_bytes name ≡ codes "layout" → ⊥) → None ≡ asked (texts_of words)
+no_command_first [] name is not_build not_run not_means not_exec not_layout = cc
+no_command_first (w ∷ ws) name is not_build not_run not_means not_exec not_layout =
     let same : name ≡ w = ap (λ o. unwrap_or o name) is in
-    no_command (string_bytes w) (texts_of ws) (λ e. not_build (ap string_bytes same ∙ e)) (λ e. not_run (ap string_bytes same ∙ e)) (λ e. not_means (ap string_bytes same ∙ e)) (λ e. not_exec (ap string_bytes same ∙ e))
+    no_command (string_bytes w) (texts_of ws) (λ e. not_build (ap string_bytes same ∙ e)) (λ e. not_run (ap string_bytes same ∙ e)) (λ e. not_means (ap string_bytes same ∙ e)) (λ e. not_exec (ap string_bytes same ∙ e)) (λ e. not_layout (ap string_bytes same ∙ e))

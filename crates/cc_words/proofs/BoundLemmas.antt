@@ -6,7 +6,7 @@ use Rattle.std.specs.Str.{bytes_eq}
 use Rattle.std.specs.Borrow.{Bor}
 use Rattle.std.proofs.lemmas.Bool.{eqb-true}
 use Rattle.std.proofs.lemmas.Slice.Eq.{bytes_eq-Decides}
-use Rattle.std.proofs.lemmas.List.Elements.{All-cons, All-nil}
+use Rattle.std.proofs.lemmas.List.{length-map}
 use Rattle.clap.specs.Facts.{Entry, EntryPasses, HasReading, PassesArg, ValuesPass, args_of, groups_of, parser_of, parser_of_value}
 use Rattle.clap.specs.Built.{IsAuto, IsParsedFrom, SameRules}
 use Rattle.clap.specs.Matches.{found_of, matched_of, one_text}
@@ -28,7 +28,7 @@ use Rattle.clap.proofs.CallerLemmas.{entry_by_id, same_rules_by_id}
 use Rattle.clap.proofs.ValueTestLemmas.{Accepts-accepts}
 use Rattle.clap.proofs.WalkLemmas.{both}
 use Rattle.cc_words.specs.Asked.{is_number_to}
-use Rattle.cc_words.specs.Commands.{exec_app, greatest_steps, greatest_turns, means_app, name_rule, number_rule, numbered_app, run_app}
+use Rattle.cc_words.specs.Commands.{budget_rule, exec_app, greatest_budget, greatest_registers, greatest_steps, greatest_turns, layout_app, means_app, name_rule, number_rule, numbered_app, registers_rule, run_app}
 
 -- ---- what an entry gives, where no group has one and each value passes Q
 
@@ -69,7 +69,7 @@ text_passed c f id Q t values no_groups named reads read found = go (matched_of 
         let got = entry_by_id (EntryPasses c) f.entries.items id x values e in
         text_at c id Q x got.0 t no_groups named reads read got.1 ((bytes_eq-Decides got.0.0.now id).0 got.2) got.3 (rw e at found)
 
--- ---- the arguments of a command of two names and a number
+-- ---- the arguments of a command, by its rules
 
 nil_of_empty : {X : Type 0} (xs : List X) → is_empty xs ≡ true → xs ≡ []
 nil_of_empty [] e = refl
@@ -80,14 +80,6 @@ no_groups_of a e =
     let third : is_empty a.groups.items ≡ true = (both _ _ (both _ _ (both _ _ e).1).1).0 in
     nil_of_empty a.groups.items third
 
--- the number's id is none that `clap` uses itself, and differs from those of the names
-record IsApart (first second id : Text) : Type 0 where
-  named : id ≡ [] → ⊥
-  no_help : id ≡ codes "help" → ⊥
-  no_version : id ≡ codes "version" → ⊥
-  no_first : bytes_eq first id ≡ false
-  no_second : bytes_eq second id ≡ false
-
 -- two numbers are not both equal and apart
 apart : (a b : ℕ) → a ≡ b → a < b → ⊥
 apart a b e lt = absurd (omega arith)
@@ -95,73 +87,63 @@ apart a b e lt = absurd (omega arith)
 first_byte : (s t : Text) → s ≡ t → slice_index s 0 ≡ slice_index t 0
 first_byte s t e = ap (λ w. slice_index w 0) e
 
-head_is : (r s : Rule) (rs ss : List Rule) → r ∷ rs ≡ s ∷ ss → r ≡ s
-head_is r s rs ss e = ap (λ l. unwrap_or (slice_get l 0) s) e
-
-tail_is : (r s : Rule) (rs ss : List Rule) → r ∷ rs ≡ s ∷ ss → rs ≡ ss
-tail_is r s rs ss e = ap (λ l. tail_or l) e
-  where
-    tail_or : List Rule → List Rule
-    tail_or [] = []
-    tail_or (x ∷ xs) = xs
-
 not_true : (b : Bool) → not b ≡ true → b ≡ false
 not_true true e = absurd (true≢false (sym e))
 not_true false e = refl
 
-module _ (first second id usual : Text) (greatest : ℕ) (ids : IsApart first second id) where
-  -- the third is the number
+rule_at : (xs : List Arg) (j : ℕ) (d : Arg) → slice_index_or (map rule_of xs) j (rule_of d) ≡ rule_of (slice_index_or xs j d)
+rule_at [] j d = refl
+rule_at (x ∷ xs) zero d = refl
+rule_at (x ∷ xs) (suc j) d = rule_at xs j d
+
+-- the number's rule stands at the place, and no other has its id, which is none that `clap` uses itself
+record IsNumberAt (place : ℕ) (rules : List Rule) (id : Text) (greatest : ℕ) : Type 0 where
+  named : id ≡ [] → ⊥
+  no_help : id ≡ codes "help" → ⊥
+  no_version : id ≡ codes "version" → ⊥
+  has : place < length rules
+  parser_is : (d : Rule) → (slice_index_or rules place d).parser ≡ Some (parser.Unsigned 1 greatest)
+  id_is : (d : Rule) → (slice_index_or rules place d).id ≡ id
+  one : (j : ℕ) (d : Rule) → j < length rules → bytes_eq (slice_index_or rules j d).id id ≡ true → j ≡ place
+  simple : (j : ℕ) (d : Rule) → j < length rules → (slice_index_or rules j d).is_simple ≡ true
+
+module _ (place : ℕ) (rules : List Rule) (id : Text) (greatest : ℕ) (at_place : IsNumberAt place rules id greatest) where
+  -- the argument at the place is the number
   record IsNumbered (xs : List Arg) : Type 0 where
-    has : 2 < length xs
-    parser_is : (d : Arg) → (slice_index_or xs 2 d).value_parser ≡ Some (parser.Unsigned 1 greatest)
-    id_is : (d : Arg) → (slice_index_or xs 2 d).id.now ≡ id
-    one : (j : ℕ) (e : Arg) → j < length xs → bytes_eq (slice_index_or xs j e).id.now id ≡ true → j ≡ 2
+    has : place < length xs
+    parser_is : (d : Arg) → (slice_index_or xs place d).value_parser ≡ Some (parser.Unsigned 1 greatest)
+    id_is : (d : Arg) → (slice_index_or xs place d).id.now ≡ id
+    one : (j : ℕ) (e : Arg) → j < length xs → bytes_eq (slice_index_or xs j e).id.now id ≡ true → j ≡ place
     groups : All (λ a. a.groups.items ≡ []) xs
 
-  three : (x y z : Arg) → rule_of x ≡ name_rule first → rule_of y ≡ name_rule second → rule_of z ≡ number_rule id usual greatest → IsNumbered (x ∷ y ∷ z ∷ [])
-  three x y z ex ey ez = record {
-    has = omega arith;
-    parser_is = λ d. ap (λ r. r.parser) ez;
-    id_is = λ d. ap (λ r. r.id) ez;
-    one = only;
-    groups = All-cons P x (y ∷ z ∷ []) (no_groups_of x (ap (λ r. r.is_simple) ex)) (All-cons P y (z ∷ []) (no_groups_of y (ap (λ r. r.is_simple) ey))
-        (All-cons P z [] (no_groups_of z (ap (λ r. r.is_simple) ez)) (All-nil P)));
+  numbered : (xs : List Arg) → map rule_of xs ≡ rules → IsNumbered xs
+  numbered xs same = record {
+    has = let in_rules : place < length rules = at_place.has in omega (arith, long, in_rules);
+    parser_is = λ d. ap (λ (r : Rule). r.parser) (rule_is place d) ∙ at_place.parser_is (rule_of d);
+    id_is = λ d. ap (λ (r : Rule). r.id) (rule_is place d) ∙ at_place.id_is (rule_of d);
+    one = λ j e lt eq. at_place.one j (rule_of e) (omega (arith, long, lt)) (ap (λ (r : Rule). bytes_eq r.id id) (sym (rule_is j e)) ∙ eq);
+    groups = λ j d lt. no_groups_of (slice_index_or xs j d) (ap (λ (r : Rule). r.is_simple) (rule_is j d) ∙ at_place.simple j (rule_of d) (omega (arith, long, lt)));
   }
     where
-      P : Arg → Type 0
-      P a = a.groups.items ≡ []
+      long : length xs ≡ length rules
+      long = sym (length-map xs rule_of) ∙ ap length same
 
-      only : (j : ℕ) (e : Arg) → j < 3 → bytes_eq (slice_index_or (x ∷ y ∷ z ∷ []) j e).id.now id ≡ true → j ≡ 2
-      only zero e lt same =
-          let is : x.id.now ≡ first = ap (λ r. r.id) ex in
-          absurd (true≢false (sym same ∙ ap (λ w. bytes_eq w id) is ∙ ids.no_first))
-      only (suc zero) e lt same =
-          let is : y.id.now ≡ second = ap (λ r. r.id) ey in
-          absurd (true≢false (sym same ∙ ap (λ w. bytes_eq w id) is ∙ ids.no_second))
-      only (suc (suc zero)) e lt same = refl
-      only (suc (suc (suc j))) e lt same = absurd (omega arith)
-
-  numbered : (xs : List Arg) → map rule_of xs ≡ name_rule first ∷ name_rule second ∷ number_rule id usual greatest ∷ [] → IsNumbered xs
-  numbered [] e = absurd (apart 0 3 (ap length e) (omega arith))
-  numbered (x ∷ []) e = absurd (apart 1 3 (ap length e) (omega arith))
-  numbered (x ∷ y ∷ []) e = absurd (apart 2 3 (ap length e) (omega arith))
-  numbered (x ∷ y ∷ z ∷ []) e =
-      three x y z (head_is _ _ _ _ e) (head_is _ _ _ _ (tail_is _ _ _ _ e)) (head_is _ _ _ _ (tail_is _ _ _ _ (tail_is _ _ _ _ e)))
-  numbered (x ∷ y ∷ z ∷ u ∷ rest) e = absurd (apart 3 (suc (suc (suc (suc (length (map rule_of rest)))))) (sym (ap length e)) (omega arith))
+      rule_is : (j : ℕ) (d : Arg) → rule_of (slice_index_or xs j d) ≡ slice_index_or rules j (rule_of d)
+      rule_is j d = sym (rule_at xs j d) ∙ ap (λ l. slice_index_or l j (rule_of d)) same
 
   -- ---- the range
 
   module _ (old : Command) (m : ArgMatches) (p : IsParsedFrom old m) (is : IsNumbered (args_of old)) where
-    no_auto : (d : Arg) → IsAuto (slice_index_or (args_of old) 2 d) → ⊥
-    no_auto d (inl h) = ids.no_help (sym (is.id_is d) ∙ h)
-    no_auto d (inr h) = ids.no_version (sym (is.id_is d) ∙ h)
+    no_auto : (d : Arg) → IsAuto (slice_index_or (args_of old) place d) → ⊥
+    no_auto d (inl h) = at_place.no_help (sym (is.id_is d) ∙ h)
+    no_auto d (inr h) = at_place.no_version (sym (is.id_is d) ∙ h)
 
     -- an argument of the built command with this id has the parser
     parser_by_id : (j : ℕ) (x : Arg) → j < length (args_of p.built) → slice_index_or (args_of p.built) j x ≡ x → bytes_eq x.id.now id ≡ true
         → parser_of x ≡ parser.Unsigned 1 greatest
     parser_by_id j x high at same =
-        let id_is : (slice_index_or (args_of old) 2 x).id.now ≡ id = is.id_is x in
-        let rules : SameRules (slice_index_or (args_of old) 2 x) x = same_rules_by_id old m p 2 x is.has
+        let id_is : (slice_index_or (args_of old) place x).id.now ≡ id = is.id_is x in
+        let rules : SameRules (slice_index_or (args_of old) place x) x = same_rules_by_id old m p place x is.has
         (λ i e lt eq. is.one i e lt (subst (λ (w : Text). bytes_eq (slice_index_or (args_of old) i e).id.now w ≡ true) id_is eq))
         (no_auto x) j x high at (subst (λ (w : Text). bytes_eq x.id.now w ≡ true) (sym id_is) same) in
         ap parser_of_value (rules.parser (parser.Unsigned 1 greatest) (is.parser_is x))
@@ -172,20 +154,60 @@ module _ (first second id usual : Text) (greatest : ℕ) (ids : IsApart first se
     passes : (v : Text) → PassesArg p.built id v → IsUnsignedIn 1 greatest v
     passes v any = subst (λ (w : ValueParser). Accepts any.1.ignore_case w v) (parser_by_id any.0 any.1 any.2 any.3 any.4.0) any.4.1
 
-  number_in_range : (name : Text) (old : Command) (m : ArgMatches) → IsParsedFrom old m → app_of old ≡ numbered_app name first second (number_rule id usual greatest) → (t : Text) → one_text (found_of m) id ≡ Some t
+  number_in_range : (app : App) → app.top.rules ≡ rules → app.top.is_plain ≡ true → (old : Command) (m : ArgMatches) → IsParsedFrom old m → app_of old ≡ app → (t : Text) → one_text (found_of m) id ≡ Some t
       → is_number_to greatest t ≡ true
-  number_in_range name old m p is t found =
-      let rules : map rule_of (args_of old) ≡ name_rule first ∷ name_rule second ∷ number_rule id usual greatest ∷ [] = ap (λ (a : App). a.top.rules) is in
-      let list = numbered (args_of old) rules in
-      let plain : has_plain_fields (out-Command old) ≡ true = ap (λ (a : App). a.top.is_plain) is in
+  number_in_range app same_rules is_plain old m p is t found =
+      let its_rules : map rule_of (args_of old) ≡ rules = ap (λ (a : App). a.top.rules) is ∙ same_rules in
+      let list = numbered (args_of old) its_rules in
+      let plain : has_plain_fields (out-Command old) ≡ true = ap (λ (a : App). a.top.is_plain) is ∙ is_plain in
       let outer = both _ _ plain in
       let no_groups : groups_of old ≡ [] = nil_of_empty (groups_of old) outer.0 in
       let globals : (out-Command old).has_globals ≡ false = not_true (out-Command old).has_globals (both _ _ (both _ _ outer.1).1).0 in
       let parsed = p.parsed (p.from.globals ∙ globals) in
       Accepts-accepts false (parser.Unsigned 1 greatest) t (text_passed p.built (found_of m) id (IsUnsignedIn 1 greatest) t parsed.values ((p.from.same_groups list.groups).1 ∙ no_groups)
-      ids.named (reads old m p list) (passes old m p list) found)
+      at_place.named (reads old m p list) (passes old m p list) found)
 
--- ---- the commands
+-- ---- the commands of two names and a number
+
+-- the number's id is none that `clap` uses itself, and differs from those of the names
+record IsApart (first second id : Text) : Type 0 where
+  named : id ≡ [] → ⊥
+  no_help : id ≡ codes "help" → ⊥
+  no_version : id ≡ codes "version" → ⊥
+  no_first : bytes_eq first id ≡ false
+  no_second : bytes_eq second id ≡ false
+
+module _ (first second id usual : Text) (greatest : ℕ) (ids : IsApart first second id) where
+  abbrev numbered_rules : List Rule
+  numbered_rules = name_rule first ∷ name_rule second ∷ number_rule id usual greatest ∷ []
+
+  third_is_number : IsNumberAt 2 numbered_rules id greatest
+  third_is_number = record {
+    named = ids.named;
+    no_help = ids.no_help;
+    no_version = ids.no_version;
+    has = omega arith;
+    parser_is = λ d. refl;
+    id_is = λ d. refl;
+    one = only;
+    simple = plain;
+  }
+    where
+      only : (j : ℕ) (d : Rule) → j < 3 → bytes_eq (slice_index_or numbered_rules j d).id id ≡ true → j ≡ 2
+      only zero d lt same = absurd (true≢false (sym same ∙ ids.no_first))
+      only (suc zero) d lt same = absurd (true≢false (sym same ∙ ids.no_second))
+      only (suc (suc zero)) d lt same = refl
+      only (suc (suc (suc j))) d lt same = absurd (omega arith)
+
+      plain : (j : ℕ) (d : Rule) → j < 3 → (slice_index_or numbered_rules j d).is_simple ≡ true
+      plain zero d lt = refl
+      plain (suc zero) d lt = refl
+      plain (suc (suc zero)) d lt = refl
+      plain (suc (suc (suc j))) d lt = absurd (omega arith)
+
+  third_in_range : (name : Text) (old : Command) (m : ArgMatches) → IsParsedFrom old m → app_of old ≡ numbered_app name first second (number_rule id usual greatest) → (t : Text) → one_text (found_of m) id ≡ Some t
+      → is_number_to greatest t ≡ true
+  third_in_range name = number_in_range 2 numbered_rules id greatest third_is_number (numbered_app name first second (number_rule id usual greatest)) refl refl
 
 steps_apart : IsApart (codes "image") (codes "ports") (codes "steps")
 steps_apart = record {
@@ -207,11 +229,11 @@ turns_apart = record {
 
 pub steps_in_range : (old : Command) (m : ArgMatches) → IsParsedFrom old m → app_of old ≡ run_app → (t : Text) → one_text (found_of m) (codes "steps") ≡ Some t
     → is_number_to greatest_steps t ≡ true
-steps_in_range = number_in_range (codes "image") (codes "ports") (codes "steps") (codes "1000000") greatest_steps steps_apart (codes "run")
+steps_in_range = third_in_range (codes "image") (codes "ports") (codes "steps") (codes "1000000") greatest_steps steps_apart (codes "run")
 
 pub turns_in_range : (old : Command) (m : ArgMatches) → IsParsedFrom old m → app_of old ≡ means_app → (t : Text) → one_text (found_of m) (codes "turns") ≡ Some t
     → is_number_to greatest_turns t ≡ true
-turns_in_range = number_in_range (codes "source") (codes "ports") (codes "turns") (codes "10000") greatest_turns turns_apart (codes "means")
+turns_in_range = third_in_range (codes "source") (codes "ports") (codes "turns") (codes "10000") greatest_turns turns_apart (codes "means")
 
 exec_apart : IsApart (codes "source") (codes "ports") (codes "steps")
 exec_apart = record {
@@ -224,4 +246,59 @@ exec_apart = record {
 
 pub exec_steps_in_range : (old : Command) (m : ArgMatches) → IsParsedFrom old m → app_of old ≡ exec_app → (t : Text) → one_text (found_of m) (codes "steps") ≡ Some t
     → is_number_to greatest_steps t ≡ true
-exec_steps_in_range = number_in_range (codes "source") (codes "ports") (codes "steps") (codes "1000000") greatest_steps exec_apart (codes "exec")
+exec_steps_in_range = third_in_range (codes "source") (codes "ports") (codes "steps") (codes "1000000") greatest_steps exec_apart (codes "exec")
+
+-- ---- `layout`
+
+abbrev layout_rules : List Rule
+layout_rules = name_rule (codes "sequence") ∷ registers_rule ∷ budget_rule ∷ []
+
+layout_plain : (j : ℕ) (d : Rule) → j < 3 → (slice_index_or layout_rules j d).is_simple ≡ true
+layout_plain zero d lt = refl
+layout_plain (suc zero) d lt = refl
+layout_plain (suc (suc zero)) d lt = refl
+layout_plain (suc (suc (suc j))) d lt = absurd (omega arith)
+
+second_is_registers : IsNumberAt 1 layout_rules (codes "registers") greatest_registers
+second_is_registers = record {
+  named = λ e. apart 0 9 (sym (ap length e)) (omega arith);
+  no_help = λ e. apart 104 114 (sym (first_byte (codes "registers") (codes "help") e)) (omega arith);
+  no_version = λ e. apart 114 118 (first_byte (codes "registers") (codes "version") e) (omega arith);
+  has = omega arith;
+  parser_is = λ d. refl;
+  id_is = λ d. refl;
+  one = only;
+  simple = layout_plain;
+}
+  where
+    only : (j : ℕ) (d : Rule) → j < 3 → bytes_eq (slice_index_or layout_rules j d).id (codes "registers") ≡ true → j ≡ 1
+    only zero d lt same = absurd (true≢false (sym same))
+    only (suc zero) d lt same = refl
+    only (suc (suc zero)) d lt same = absurd (true≢false (sym same))
+    only (suc (suc (suc j))) d lt same = absurd (omega arith)
+
+third_is_budget : IsNumberAt 2 layout_rules (codes "budget") greatest_budget
+third_is_budget = record {
+  named = λ e. apart 0 6 (sym (ap length e)) (omega arith);
+  no_help = λ e. apart 98 104 (first_byte (codes "budget") (codes "help") e) (omega arith);
+  no_version = λ e. apart 98 118 (first_byte (codes "budget") (codes "version") e) (omega arith);
+  has = omega arith;
+  parser_is = λ d. refl;
+  id_is = λ d. refl;
+  one = only;
+  simple = layout_plain;
+}
+  where
+    only : (j : ℕ) (d : Rule) → j < 3 → bytes_eq (slice_index_or layout_rules j d).id (codes "budget") ≡ true → j ≡ 2
+    only zero d lt same = absurd (true≢false (sym same))
+    only (suc zero) d lt same = absurd (true≢false (sym same))
+    only (suc (suc zero)) d lt same = refl
+    only (suc (suc (suc j))) d lt same = absurd (omega arith)
+
+pub registers_in_range : (old : Command) (m : ArgMatches) → IsParsedFrom old m → app_of old ≡ layout_app → (t : Text) → one_text (found_of m) (codes "registers") ≡ Some t
+    → is_number_to greatest_registers t ≡ true
+registers_in_range = number_in_range 1 layout_rules (codes "registers") greatest_registers second_is_registers layout_app refl refl
+
+pub budget_in_range : (old : Command) (m : ArgMatches) → IsParsedFrom old m → app_of old ≡ layout_app → (t : Text) → one_text (found_of m) (codes "budget") ≡ Some t
+    → is_number_to greatest_budget t ≡ true
+budget_in_range = number_in_range 2 layout_rules (codes "budget") greatest_budget third_is_budget layout_app refl refl

@@ -1,3 +1,4 @@
 pub mod AskedLemmas
 pub mod PlainLemmas
+pub mod LayoutLemmas
 pub mod BoundLemmas

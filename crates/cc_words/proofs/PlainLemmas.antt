@@ -14,15 +14,15 @@ use Rattle.clap.specs.declared.builder.value_parser.Reading.TheVariants as readi
 use Rattle.clap.specs.Kinds.{or_else, value_kinds}
 use Rattle.clap.specs.Walk.{is_empty}
 use Rattle.clap.proofs.OnLiterals.{clap_on_literals}
-use Rattle.cc_words.specs.Asked.{Asked, ToBuild, ToRun, ToEvaluate, ToExecute, asked, asked_to, asked_to_build, asked_to_evaluate, asked_to_execute, asked_to_run, build_of, exec_of, is_number_to, is_plain_word, is_taken, means_of, number_to, numbered_of, run_of}
-use Rattle.cc_words.specs.Commands.{build_app, exec_app, greatest_steps, greatest_turns, means_app, numbered_app, run_app, steps_rule, turns_rule}
+use Rattle.cc_words.specs.Asked.{Asked, ToBuild, ToRun, ToEvaluate, ToExecute, ToLayOut, asked, asked_to, asked_to_build, asked_to_evaluate, asked_to_execute, asked_to_lay_out, asked_to_run, build_of, exec_of, is_number_to, is_plain_word, is_taken, layout_of, means_of, number_of, number_to, numbered_of, run_of}
+use Rattle.cc_words.specs.Commands.{build_app, exec_app, greatest_budget, greatest_registers, greatest_steps, greatest_turns, layout_app, means_app, numbered_app, run_app, steps_rule, turns_rule}
 use Rattle.cc_words.specs.Plain.{AsksFor, AsksWithin, BuildsNoOtherNames, ExecutesWithSteps, ExecutesWithStepsAttached, ExecutesWithStepsFirst, IsWithinBounds, MeansWithTurns, MeansWithTurnsAttached, MeansWithTurnsFirst, RunsWithSteps, RunsWithStepsAttached, RunsWithStepsFirst}
 
 -- the word is no `--`, no `--name` and no `-n`
-abbrev IsNoFlag : Text → Type 0
+abbrev pub IsNoFlag : Text → Type 0
 IsNoFlag word = (bytes_eq word (45 ∷ 45 ∷ []) ≡ false) × (long_of word ≡ None) × (short_of word ≡ None)
 
-no_flag : (word : Text) → is_plain_word word ≡ true → IsNoFlag word
+pub no_flag : (word : Text) → is_plain_word word ≡ true → IsNoFlag word
 no_flag [] plain = (refl, refl, refl)
 no_flag (x ∷ []) plain = go (x == 45) refl
   where
@@ -72,7 +72,7 @@ other_names = (
   λ a b pa pb c rest pc. not_taken (codes "build" ∷ a ∷ b ∷ c ∷ rest) (more_names a b c rest (no_flag a pa) (no_flag b pb) (no_flag c pc)),
 )
 
-number_in : (greatest : ℕ) (m : Text) → is_number_to greatest m ≡ true → number_to greatest m ≡ Some (digits_value 10 (without_leading_plus m))
+pub number_in : (greatest : ℕ) (m : Text) → is_number_to greatest m ≡ true → number_to greatest m ≡ Some (digits_value 10 (without_leading_plus m))
 number_in greatest m e = ap (λ b. cond b (Some (digits_value 10 (without_leading_plus m))) None) e
 
 -- `run`, `exec` and `means` of two names
@@ -113,12 +113,12 @@ unfolding asked_to
 means_two_names a b pa pb = rw (means_taken (codes "means") a b (no_flag a pa) (no_flag b pb)) (means_names (codes "means") a b (no_flag a pa) (no_flag b pb))
 
 -- a number in the words of a command
-or_nothing : (kinds : Kinds) → or_else kinds [] ≡ kinds
+pub or_nothing : (kinds : Kinds) → or_else kinds [] ≡ kinds
 or_nothing [] = refl
 or_nothing (k ∷ ks) = refl
 
 -- the kinds of fault of a text that the parser of the number refuses, as they come up through the walk
-abbrev number_fault : ValueParser → Text → Kinds
+abbrev pub number_fault : ValueParser → Text → Kinds
 number_fault p m = or_else (value_kinds false p m) []
 
 number_fault_by : (p : ValueParser) (m : Text) (t : Bool) → accepts false p m ≡ t → is_empty (number_fault p m) ≡ t
@@ -381,6 +381,23 @@ build_bounded rows = names (first_of (codes "source") rows) (first_of (codes "im
     names (Some s) None = tt
     names (Some s) (Some i) = tt
 
+layout_bounded : (rows : List Row) → IfSome (layout_of rows) IsWithinBounds
+layout_bounded rows = parts (first_of (codes "sequence") rows) (number_of (codes "registers") greatest_registers rows) (number_of (codes "budget") greatest_budget rows) refl refl
+  where
+    bounded : (greatest : ℕ) (o : Option Text) (n : ℕ) → option_and_then (number_to greatest) o ≡ Some n → (1 ≤ n) × (n ≤ greatest)
+    bounded greatest None n e = cc
+    bounded greatest (Some t) n e = number_bounded greatest t n e
+
+    parts : (s : Option Text) (m n : Option ℕ) → number_of (codes "registers") greatest_registers rows ≡ m → number_of (codes "budget") greatest_budget rows ≡ n
+        → IfSome (option_and_then (λ sequence. option_and_then (λ registers. option_map (ToLayOut sequence registers) n) m) s) IsWithinBounds
+    parts None m n e f = tt
+    parts (Some s) None n e f = tt
+    parts (Some s) (Some m) None e f = tt
+    parts (Some s) (Some m) (Some n) e f =
+        let first = bounded greatest_registers (one_of (codes "registers") rows) m e in
+        let second = bounded greatest_budget (one_of (codes "budget") rows) n f in
+        (first.0, first.1, second.0, second.1)
+
 -- what holds of what is asked for, where the words are taken
 taken_only : (t : Bool) (o : Option Asked) → IfSome o IsWithinBounds → IfSome (cond t o None) IsWithinBounds
 taken_only true o h = h
@@ -389,14 +406,15 @@ taken_only false o h = tt
 pub within_asked : AsksWithin
 unfolding asked_to
 within_asked [] = tt
-within_asked (name ∷ rest) = go (bytes_eq name (codes "build")) (bytes_eq name (codes "run")) (bytes_eq name (codes "means")) (bytes_eq name (codes "exec"))
+within_asked (name ∷ rest) = go (bytes_eq name (codes "build")) (bytes_eq name (codes "run")) (bytes_eq name (codes "means")) (bytes_eq name (codes "exec")) (bytes_eq name (codes "layout"))
   where
     words : List Text
     words = name ∷ rest
 
-    go : (b r m x : Bool) → IfSome (cond b (asked_to_build words) (cond r (asked_to_run words) (cond m (asked_to_evaluate words) (cond x (asked_to_execute words) None)))) IsWithinBounds
-    go true r m x = taken_only (is_taken build_app words) (build_of (matches_of build_app words)) (build_bounded (matches_of build_app words))
-    go false true m x = taken_only (is_taken run_app words) (run_of (matches_of run_app words)) (numbered_bounded _ _ _ greatest_steps ToRun (λ a b n h. h) (matches_of run_app words))
-    go false false true x = taken_only (is_taken means_app words) (means_of (matches_of means_app words)) (numbered_bounded _ _ _ greatest_turns ToEvaluate (λ a b n h. h) (matches_of means_app words))
-    go false false false true = taken_only (is_taken exec_app words) (exec_of (matches_of exec_app words)) (numbered_bounded _ _ _ greatest_steps ToExecute (λ a b n h. h) (matches_of exec_app words))
-    go false false false false = tt
+    go : (b r m x l : Bool) → IfSome (cond b (asked_to_build words) (cond r (asked_to_run words) (cond m (asked_to_evaluate words) (cond x (asked_to_execute words) (cond l (asked_to_lay_out words) None))))) IsWithinBounds
+    go true r m x l = taken_only (is_taken build_app words) (build_of (matches_of build_app words)) (build_bounded (matches_of build_app words))
+    go false true m x l = taken_only (is_taken run_app words) (run_of (matches_of run_app words)) (numbered_bounded _ _ _ greatest_steps ToRun (λ a b n h. h) (matches_of run_app words))
+    go false false true x l = taken_only (is_taken means_app words) (means_of (matches_of means_app words)) (numbered_bounded _ _ _ greatest_turns ToEvaluate (λ a b n h. h) (matches_of means_app words))
+    go false false false true l = taken_only (is_taken exec_app words) (exec_of (matches_of exec_app words)) (numbered_bounded _ _ _ greatest_steps ToExecute (λ a b n h. h) (matches_of exec_app words))
+    go false false false false true = taken_only (is_taken layout_app words) (layout_of (matches_of layout_app words)) (layout_bounded (matches_of layout_app words))
+    go false false false false false = tt

@@ -8,7 +8,8 @@ use Rattle.std.specs.declared.alloc.Global.{Global}
 use Rattle.clap.specs.ValueTests.{is_unsigned_in}
 use Rattle.clap.specs.Walk.{is_empty}
 use Rattle.clap.specs.Words.{App, Row, Text, fault_of, first_of, matches_of, one_of}
-use Rattle.cc_words.specs.Commands.{build_app, exec_app, greatest_steps, greatest_turns, means_app, run_app}
+use Rattle.cc_words.specs.Commands.{build_app, exec_app, greatest_budget, greatest_registers}
+use Rattle.cc_words.specs.Commands.{greatest_steps, greatest_turns, layout_app, means_app, run_app}
 use Rattle.cc_words.specs.declared.asked.Request.{Request}
 use Rattle.cc_words.specs.declared.asked.Request.TheVariants as request
 
@@ -17,12 +18,14 @@ abbrev pub texts_of : List (String Global) → List Text
 texts_of words = map string_bytes words
 
 -- what is asked for: to build an image of a source, to run an image on ports for at most so many
--- steps, to evaluate a source on ports with at most so many turns, or to compile a source and run it so
+-- steps, to evaluate a source on ports with at most so many turns, to compile a source and run it so,
+-- or to search a layout of a sequence for so many registers within so large a budget
 pub data Asked : Type 0 where
   ToBuild : Text → Text → Asked
   ToRun : Text → Text → ℕ → Asked
   ToEvaluate : Text → Text → ℕ → Asked
   ToExecute : Text → Text → ℕ → Asked
+  ToLayOut : Text → ℕ → ℕ → Asked
 
 -- a request, as what it asks for
 abbrev pub told : Request → Asked
@@ -30,6 +33,7 @@ told (request.Build asked) = ToBuild asked.source.now asked.image.now
 told (request.Run asked) = ToRun asked.image.now asked.ports.now asked.steps
 told (request.Means asked) = ToEvaluate asked.source.now asked.ports.now asked.turns
 told (request.Exec asked) = ToExecute asked.source.now asked.ports.now asked.steps
+told (request.Layout asked) = ToLayOut asked.sequence.now asked.registers asked.budget
 
 -- the text writes a number in decimal, from 1 to the greatest; a plus may stand first
 abbrev pub is_number_to : ℕ → Text → Bool
@@ -39,6 +43,10 @@ is_number_to greatest = is_unsigned_in 1 greatest
 abbrev pub number_to : ℕ → Text → Option ℕ
 number_to greatest text =
     if is_number_to greatest text then Some (digits_value 10 (without_leading_plus text)) else None
+
+-- the number from 1 to the greatest that the matches hold under its name
+abbrev pub number_of : Text → ℕ → List Row → Option ℕ
+number_of number greatest rows = option_and_then (number_to greatest) (one_of number rows)
 
 -- what the matches of `build` ask for
 abbrev pub build_of : List Row → Option Asked
@@ -50,7 +58,7 @@ build_of rows = option_and_then (λ source.
 abbrev pub numbered_of : Text → Text → Text → ℕ → (Text → Text → ℕ → Asked) → List Row → Option Asked
 numbered_of first second number greatest what rows = option_and_then (λ a. option_and_then (λ b.
     option_map (what a b)
-    (option_and_then (number_to greatest) (one_of number rows)))
+    (number_of number greatest rows))
     (first_of second rows))
     (first_of first rows)
 
@@ -65,6 +73,14 @@ means_of = numbered_of (codes "source") (codes "ports") (codes "turns") greatest
 -- what the matches of `exec` ask for
 abbrev pub exec_of : List Row → Option Asked
 exec_of = numbered_of (codes "source") (codes "ports") (codes "steps") greatest_steps ToExecute
+
+-- what the matches of `layout` ask for
+abbrev pub layout_of : List Row → Option Asked
+layout_of rows = option_and_then (λ sequence. option_and_then (λ registers.
+    option_map (ToLayOut sequence registers)
+    (number_of (codes "budget") greatest_budget rows))
+    (number_of (codes "registers") greatest_registers rows))
+    (first_of (codes "sequence") rows)
 
 -- `clap` takes the words as those of the command
 abbrev pub is_taken : App → List Text → Bool
@@ -86,11 +102,15 @@ asked_to_evaluate = asked_to means_app means_of
 abbrev pub asked_to_execute : List Text → Option Asked
 asked_to_execute = asked_to exec_app exec_of
 
+abbrev pub asked_to_lay_out : List Text → Option Asked
+asked_to_lay_out = asked_to layout_app layout_of
+
 abbrev pub asked_by : Text → List Text → Option Asked
 asked_by name words = if bytes_eq name (codes "build") then asked_to_build words
     else (if bytes_eq name (codes "run") then asked_to_run words
     else (if bytes_eq name (codes "means") then asked_to_evaluate words
-    else (if bytes_eq name (codes "exec") then asked_to_execute words else None)))
+    else (if bytes_eq name (codes "exec") then asked_to_execute words
+    else (if bytes_eq name (codes "layout") then asked_to_lay_out words else None))))
 
 -- what the words ask for, if anything: the first word chooses the command
 abbrev pub asked : List Text → Option Asked

@@ -11,6 +11,14 @@ greatest_steps = 100000000
 abbrev pub greatest_turns : ℕ
 greatest_turns = 1000000
 
+-- the greatest number of registers that a layout may have
+abbrev pub greatest_registers : ℕ
+greatest_registers = 4
+
+-- the greatest budget of nodes that a search for a layout may have
+abbrev pub greatest_budget : ℕ
+greatest_budget = 1000000
+
 -- a name that has to be there
 abbrev pub name_rule : Text → Rule
 name_rule id = record (new_rule id) { required = true }
@@ -23,6 +31,14 @@ number_rule id usual greatest = record (new_rule id) {
   parser = Some (parser.Unsigned 1 greatest);
 }
 
+-- the same, called by a letter and by no long name
+abbrev pub letter_rule : Text → ℕ → Text → ℕ → Rule
+letter_rule id letter usual greatest = record (new_rule id) {
+  short = Some letter;
+  defaults = usual ∷ [];
+  parser = Some (parser.Unsigned 1 greatest);
+}
+
 -- `--steps M`
 abbrev pub steps_rule : Rule
 steps_rule = number_rule (codes "steps") (codes "1000000") greatest_steps
@@ -30,6 +46,14 @@ steps_rule = number_rule (codes "steps") (codes "1000000") greatest_steps
 -- `--turns N`
 abbrev pub turns_rule : Rule
 turns_rule = number_rule (codes "turns") (codes "10000") greatest_turns
+
+-- `-r N`; 114 is the letter `r`
+abbrev pub registers_rule : Rule
+registers_rule = letter_rule (codes "registers") 114 (codes "1") greatest_registers
+
+-- `--budget B`
+abbrev pub budget_rule : Rule
+budget_rule = number_rule (codes "budget") (codes "200000") greatest_budget
 
 -- `build SRC IMG`
 abbrev pub build_app : App
@@ -56,3 +80,11 @@ means_app = numbered_app (codes "means") (codes "source") (codes "ports") turns_
 -- `exec SRC PORTS [--steps M]`
 abbrev pub exec_app : App
 exec_app = numbered_app (codes "exec") (codes "source") (codes "ports") steps_rule
+
+-- `layout SEQ [-r N] [--budget B]`
+abbrev pub layout_app : App
+layout_app = with_rule
+    (with_rule
+    (with_rule (new_app (codes "layout")) (name_rule (codes "sequence")))
+    registers_rule)
+    budget_rule

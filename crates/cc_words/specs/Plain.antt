@@ -1,10 +1,10 @@
 -- What the usual words ask for: what `clap`'s function of the words comes to there.
-use Rattle.std.specs.Prelude.{◌≡◌, ◌≤◌, ◌++◌, ℕ, ⊤, true, false, List, [], ◌∷◌, IfSome, codes}
+use Rattle.std.specs.Prelude.{◌≡◌, ◌≢◌, ◌≤◌, ◌++◌, ℕ, ⊤, true, false, List, [], ◌∷◌, IfSome, codes}
 use Rattle.std.specs.Str.Parse.{digits_value, without_leading_plus}
 use Rattle.clap.specs.Words.{Text}
-use Rattle.cc_words.specs.Asked.{Asked, ToBuild, ToRun, ToEvaluate, ToExecute, Asks, AsksNothing, asked}
-use Rattle.cc_words.specs.Asked.{is_number_to, is_plain_word}
-use Rattle.cc_words.specs.Commands.{greatest_steps, greatest_turns}
+use Rattle.cc_words.specs.Asked.{Asked, ToBuild, ToRun, ToEvaluate, ToExecute, ToLayOut}
+use Rattle.cc_words.specs.Asked.{Asks, AsksNothing, asked, is_number_to, is_plain_word}
+use Rattle.cc_words.specs.Commands.{greatest_budget, greatest_registers, greatest_steps, greatest_turns}
 
 -- a fact of any two words that look like no option
 abbrev pub OnPlain : (Text → Text → Type 0) → Type 0
@@ -98,12 +98,88 @@ abbrev pub ExecutesWithStepsAttached : Type 0
 ExecutesWithStepsAttached = OnPlain (λ a b. (text : Text)
     → ExecutesFor a b text (codes "exec" ∷ a ∷ b ∷ (codes "--steps=" ++ text) ∷ []))
 
--- a run is of 1 to 100,000,000 steps, and a loop of an evaluation has 1 to 1,000,000 turns
+-- `layout SEQ`
+abbrev pub LaysOutOneName : Type 0
+LaysOutOneName = (a : Text) → is_plain_word a ≡ true
+    → Asks (codes "layout" ∷ a ∷ []) (ToLayOut a 1 200000)
+
+-- `layout` with no name, or with more than one, whatever follows
+abbrev pub LaysOutNoOtherNames : Type 0
+LaysOutNoOtherNames = AsksNothing (codes "layout" ∷ [])
+    × OnPlain (λ a b. (rest : List Text) → AsksNothing (codes "layout" ∷ a ∷ b ∷ rest))
+
+-- the words ask for a layout for the registers that a text writes
+abbrev pub LaysOutOver : Text → Text → List Text → Type 0
+LaysOutOver a = AsksFor greatest_registers (λ registers. ToLayOut a registers 200000)
+
+-- `layout SEQ -r N`, where N looks like no option
+abbrev pub LaysOutWithRegisters : Type 0
+LaysOutWithRegisters = OnPlain (λ a text.
+    LaysOutOver a text (codes "layout" ∷ a ∷ codes "-r" ∷ text ∷ []))
+
+-- `layout -r N SEQ`
+abbrev pub LaysOutWithRegistersFirst : Type 0
+LaysOutWithRegistersFirst = OnPlain (λ a text.
+    LaysOutOver a text (codes "layout" ∷ codes "-r" ∷ text ∷ a ∷ []))
+
+-- `layout SEQ -rN`, where N isn't empty and begins with no `=` (61), and `layout SEQ -r=N`
+abbrev pub LaysOutWithRegistersAttached : Type 0
+LaysOutWithRegistersAttached = (a : Text) → is_plain_word a ≡ true
+    → ((x : ℕ) (text : Text) → x ≢ 61
+    → LaysOutOver a (x ∷ text) (codes "layout" ∷ a ∷ (codes "-r" ++ x ∷ text) ∷ []))
+    × ((text : Text) → LaysOutOver a text (codes "layout" ∷ a ∷ (codes "-r=" ++ text) ∷ []))
+
+-- the words ask for a layout within the budget that a text writes
+abbrev pub LaysOutWithin : Text → Text → List Text → Type 0
+LaysOutWithin a = AsksFor greatest_budget (ToLayOut a 1)
+
+-- `layout SEQ --budget B`, where B looks like no option
+abbrev pub LaysOutWithBudget : Type 0
+LaysOutWithBudget = OnPlain (λ a text.
+    LaysOutWithin a text (codes "layout" ∷ a ∷ codes "--budget" ∷ text ∷ []))
+
+-- `layout --budget B SEQ`
+abbrev pub LaysOutWithBudgetFirst : Type 0
+LaysOutWithBudgetFirst = OnPlain (λ a text.
+    LaysOutWithin a text (codes "layout" ∷ codes "--budget" ∷ text ∷ a ∷ []))
+
+-- `layout SEQ --budget=B`
+abbrev pub LaysOutWithBudgetAttached : Type 0
+LaysOutWithBudgetAttached = (a text : Text) → is_plain_word a ≡ true
+    → LaysOutWithin a text (codes "layout" ∷ a ∷ (codes "--budget=" ++ text) ∷ [])
+
+-- the words ask for a layout for the registers and within the budget that two texts write, and for
+-- nothing where one of them writes no number of its range
+abbrev pub LaysOutFor : Text → Text → Text → List Text → Type 0
+LaysOutFor a registers budget words = (is_number_to greatest_registers registers ≡ true
+    → AsksFor greatest_budget
+    (ToLayOut a (digits_value 10 (without_leading_plus registers))) budget words)
+    × (is_number_to greatest_registers registers ≡ false → AsksNothing words)
+
+-- `layout SEQ -r N --budget B`, where N and B look like no options
+abbrev pub LaysOutWithBoth : Type 0
+LaysOutWithBoth = OnPlain (λ n b. (a : Text) → is_plain_word a ≡ true
+    → LaysOutFor a n b (codes "layout" ∷ a ∷ codes "-r" ∷ n ∷ codes "--budget" ∷ b ∷ []))
+
+-- `layout -r N --budget B SEQ`
+abbrev pub LaysOutWithBothFirst : Type 0
+LaysOutWithBothFirst = OnPlain (λ n b. (a : Text) → is_plain_word a ≡ true
+    → LaysOutFor a n b (codes "layout" ∷ codes "-r" ∷ n ∷ codes "--budget" ∷ b ∷ a ∷ []))
+
+-- `layout SEQ --budget B -r N`
+abbrev pub LaysOutWithBothTurned : Type 0
+LaysOutWithBothTurned = OnPlain (λ n b. (a : Text) → is_plain_word a ≡ true
+    → LaysOutFor a n b (codes "layout" ∷ a ∷ codes "--budget" ∷ b ∷ codes "-r" ∷ n ∷ []))
+
+-- a run is of 1 to 100,000,000 steps, a loop of an evaluation has 1 to 1,000,000 turns, and a search
+-- for a layout is for 1 to 4 registers within a budget of 1 to 1,000,000 nodes
 abbrev pub IsWithinBounds : Asked → Type 0
 IsWithinBounds (ToBuild source image) = ⊤
 IsWithinBounds (ToRun image ports steps) = (1 ≤ steps) × (steps ≤ greatest_steps)
 IsWithinBounds (ToEvaluate source ports turns) = (1 ≤ turns) × (turns ≤ greatest_turns)
 IsWithinBounds (ToExecute source ports steps) = (1 ≤ steps) × (steps ≤ greatest_steps)
+IsWithinBounds (ToLayOut sequence registers budget) = (1 ≤ registers)
+    × (registers ≤ greatest_registers) × (1 ≤ budget) × (budget ≤ greatest_budget)
 
 -- and that holds of whatever is asked for
 abbrev pub AsksWithin : Type 0

@@ -4,6 +4,7 @@ ghost use Rattle.cc_words.specs.Asked.{asked, texts_of, told};
 
 use crate::build::{self, Build};
 use crate::exec::{self, Exec};
+use crate::layout::{self, Layout};
 use crate::means::{self, Means};
 use crate::run::{self, Run};
 use std::alloc::Global;
@@ -16,6 +17,7 @@ pub enum Request<'a> {
     Run(Run<'a>),
     Means(Means<'a>),
     Exec(Exec<'a>),
+    Layout(Layout<'a>),
 }
 
 /// What the words behind the program's name ask for, or `None` where they are refused. The first
@@ -31,6 +33,7 @@ pub fn requested<'a>(alloc: Global, words: &'a [String]) -> Result<Option<Reques
         "run" => run::request(alloc, words),
         "means" => means::request(alloc, words),
         "exec" => exec::request(alloc, words),
+        "layout" => layout::request(alloc, words),
         _ => Ok(None),
     }
 }

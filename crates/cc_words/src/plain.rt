@@ -3,10 +3,14 @@ ghost use Rattle.cc_words.specs.Plain.{AsksWithin, BuildsNoOtherNames, BuildsTwo
 ghost use Rattle.cc_words.specs.Plain.{RunsWithSteps, RunsWithStepsAttached, RunsWithStepsFirst};
 ghost use Rattle.cc_words.specs.Plain.{ExecutesTwoNames, ExecutesWithSteps, ExecutesWithStepsAttached, ExecutesWithStepsFirst};
 ghost use Rattle.cc_words.specs.Plain.{MeansWithTurns, MeansWithTurnsAttached, MeansWithTurnsFirst};
+ghost use Rattle.cc_words.specs.Plain.{LaysOutOneName, LaysOutNoOtherNames, LaysOutWithRegisters, LaysOutWithRegistersFirst};
+ghost use Rattle.cc_words.specs.Plain.{LaysOutWithRegistersAttached, LaysOutWithBudget, LaysOutWithBudgetFirst};
+ghost use Rattle.cc_words.specs.Plain.{LaysOutWithBudgetAttached, LaysOutWithBoth, LaysOutWithBothFirst, LaysOutWithBothTurned};
 
-/// The words that hold no option but `--steps` or `--turns` ask for what one would say, and no words
-/// ask for a run of other than 1 to 100,000,000 steps, or for an evaluation of other than 1 to
-/// 1,000,000 turns. It does nothing: its clauses are what callers cite.
+/// The words that hold no option but those of their command ask for what one would say, and no words
+/// ask for a run of other than 1 to 100,000,000 steps, for an evaluation of other than 1 to 1,000,000
+/// turns, or for a layout for other than 1 to 4 registers or within a budget of other than 1 to
+/// 1,000,000 nodes. It does nothing: its clauses are what callers cite.
 pub fn plain_words()
     ensures build { BuildsTwoNames }
     ensures build_other { BuildsNoOtherNames }
@@ -22,5 +26,16 @@ pub fn plain_words()
     ensures exec_steps { ExecutesWithSteps }
     ensures exec_steps_first { ExecutesWithStepsFirst }
     ensures exec_steps_attached { ExecutesWithStepsAttached }
+    ensures layout { LaysOutOneName }
+    ensures layout_other { LaysOutNoOtherNames }
+    ensures registers { LaysOutWithRegisters }
+    ensures registers_first { LaysOutWithRegistersFirst }
+    ensures registers_attached { LaysOutWithRegistersAttached }
+    ensures budget { LaysOutWithBudget }
+    ensures budget_first { LaysOutWithBudgetFirst }
+    ensures budget_attached { LaysOutWithBudgetAttached }
+    ensures registers_and_budget { LaysOutWithBoth }
+    ensures both_first { LaysOutWithBothFirst }
+    ensures budget_and_registers { LaysOutWithBothTurned }
     ensures range { AsksWithin }
 {}

@@ -1,3 +1,4 @@
+use Rattle.cc_words.proofs.LayoutLemmas.{budget_attached, budget_behind, budget_first, layout_both, layout_both_first, layout_both_turned, layout_one_name, layout_other_names, registers_attached, registers_behind, registers_first}
 use Rattle.cc_words.proofs.PlainLemmas.{exec_steps_attached, exec_steps_behind, exec_steps_first, exec_two_names, means_two_names, other_names, run_two_names, steps_attached, steps_behind, steps_first, turns_attached, turns_behind, turns_first, two_names, within_asked}
 use Rattle.cc_words.proofs.plain.plain_words.Goals as goal
 
@@ -17,5 +18,16 @@ returns c = record {
   exec_steps = exec_steps_behind;
   exec_steps_first = exec_steps_first;
   exec_steps_attached = exec_steps_attached;
+  layout = layout_one_name;
+  layout_other = layout_other_names;
+  registers = registers_behind;
+  registers_first = registers_first;
+  registers_attached = registers_attached;
+  budget = budget_behind;
+  budget_first = budget_first;
+  budget_attached = budget_attached;
+  registers_and_budget = layout_both;
+  both_first = layout_both_first;
+  budget_and_registers = layout_both_turned;
   range = within_asked;
 }
