@@ -16,4 +16,4 @@ pub use lay_greedy::greedy;
 pub use lay_tree::{Answer, Log, Mark, PieceEnd};
 pub use opening::{Opening, open_search};
 pub use pieces::run_piece;
-pub use rounds::search;
+pub use rounds::{Best, round_end, search};

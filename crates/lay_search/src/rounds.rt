@@ -15,9 +15,9 @@ use word_base::NoMemory;
 
 /// A layout and what it costs.
 #[derive(Drop)]
-pub(crate) struct Best {
-    arrangement: Arrangement,
-    cost: u64,
+pub struct Best {
+    pub arrangement: Arrangement,
+    pub cost: u64,
 }
 
 /// Searches an arrangement over so many registers, 1 to 4, that costs least, with so many nodes in all at most.
@@ -88,8 +88,8 @@ fn run_round(
     Ok(ends)
 }
 
-// The number behind the last piece of a round.
-fn round_end(first: u8, pieces: u8) -> u8
+/// The number behind the last piece of a round, with this first piece, of so many pieces in all.
+pub fn round_end(first: u8, pieces: u8) -> u8
     requires few { pieces ≤ 64 }
     requires first { first ≤ pieces }
     ensures { result ≡ first + round_length first pieces }
@@ -102,8 +102,8 @@ fn round_end(first: u8, pieces: u8) -> u8
 }
 
 impl Best {
-    // The best one behind the ends of a round.
-    fn take(&mut self, alloc: Global, ends: &[PieceEnd]) -> Result<(), NoMemory>
+    /// The best one behind the ends of a round, in order.
+    pub fn take(&mut self, alloc: Global, ends: &[PieceEnd]) -> Result<(), NoMemory>
         ensures { IfOk result (λ _. self.new ≡ fold offered self.old ends.now) }
     {
         for end in ends {

@@ -1,0 +1,2 @@
+-- Searches in threads.
+pub mod Jobs
