@@ -1,5 +1,5 @@
 -- What an arrangement is, of its lists.
-use Rattle.std.proofs.Common.{◌≡◌, ℕ, ◌+◌, ◌<◌, ◌≤◌, true, false, nat_lt, ◌==◌, List, [], ◌∷◌, ◌++◌, length, count_by, refl, ap, sym, ◌∙◌, ⊎_elim, arith, le_of_eq, lt_of_lt_of_le, length-append, ltb-true, ne_eqb, fold, Option, get_or, take, subst, ap₂}
+use Rattle.std.proofs.Common.{◌≡◌, ℕ, ◌+◌, ◌<◌, ◌≤◌, true, false, nat_lt, ◌==◌, List, [], ◌∷◌, ◌++◌, length, count_by, refl, ap, sym, ◌∙◌, ⊎_elim, arith, le_of_eq, lt_of_lt_of_le, length-append, ltb-true, ne_eqb, fold, get_or, take, subst, ap₂}
 use Rattle.std.proofs.lemmas.List.Sums.{fold_more}
 use Rattle.std.specs.Prelude.{All}
 use Rattle.std.specs.List.{concat}
@@ -17,7 +17,7 @@ use Rattle.lay_cost.specs.Memory.{AreNear, is_placed, placement_in, with_scalar,
 use Rattle.lay_cost.proofs.Counts.{count_below, all_counted, is_there, count_first}
 use Rattle.lay_cost.proofs.Restrictions.{Passes, restricted_to_all}
 use Rattle.lay_cost.proofs.Tables.{placed_open}
-use Rattle.lay_cost.proofs.PlaceLemmas.{Once, IsTable, lists_places, none_placed, table_near, table_cost, few_lists}
+use Rattle.lay_cost.proofs.PlaceLemmas.{Once, IsTable, Fit, lists_fit, lists_places, none_placed, table_near, table_cost, few_lists}
 
 -- each of its numbers is a scalar
 pub all_scalars : (n : ℕ) (lists : List (List ℕ)) → Arranges n lists → All (λ s. nat_lt s n ≡ true) (concat lists)
@@ -57,7 +57,7 @@ each_short [] n le = All-nil (λ l. length l ≤ n)
 each_short (l ∷ ls) n le = All-cons (λ k. length k ≤ n) l ls (omega (arith, length-append l (concat ls))) (each_short ls n (omega (arith, length-append l (concat ls))))
 
 -- the table that is made of an arrangement
-abbrev pub table_of : List (List ℕ) → List (Option Place)
+abbrev pub table_of : List (List ℕ) → List Place
 table_of lists = (fold with_list no_places lists).places
 
 pub small_lists : (n : ℕ) (lists : List (List ℕ)) → Arranges n lists → All (λ l. All (λ s. s < 64) l) lists
@@ -72,8 +72,11 @@ short_lists n lists h = each_short lists 64 (omega (arith, h.all, h.few))
 arranged_table : (n : ℕ) (lists : List (List ℕ)) → Arranges n lists → IsTable lists (table_of lists)
 arranged_table n lists h s = (lists_places [] no_places lists none_placed (small_lists n lists h) (once_at_most n lists h)).places s ∙ placed_open lists s
 
+arranged_fit : (n : ℕ) (lists : List (List ℕ)) → Arranges n lists → Fit lists
+arranged_fit n lists h = lists_fit lists (few_of n lists h) (omega (arith, h.all, h.few))
+
 pub arranged_near : (n : ℕ) (lists : List (List ℕ)) → Arranges n lists → AreNear (table_of lists)
-arranged_near n lists h = table_near lists (table_of lists) (arranged_table n lists h) (few_of n lists h)
+arranged_near n lists h = table_near lists (table_of lists) (arranged_table n lists h) (arranged_fit n lists h)
 
 -- all accesses are of scalars of the arrangement
 all_there : (n : ℕ) (lists : List (List ℕ)) (bs : List Block) → Arranges n lists → All (λ b. All (λ s. s < n) b.accesses) bs → All (λ b. All (Passes (has (concat lists))) b.accesses) bs
@@ -84,7 +87,7 @@ pub part_of_all : (seq : Sequence) (lists : List (List ℕ)) → IsSequence seq 
 part_of_all seq lists is h = ap (λ r. cost_of r (placement_of lists)) (restricted_to_all seq (has (concat lists)) (all_there seq.scalars lists seq.blocks h is.scalars))
 
 pub arranged_table_cost : (seq : Sequence) (lists : List (List ℕ)) → IsSequence seq → Arranges seq.scalars lists → cost_of (restricted seq (is_placed (table_of lists))) (placement_in (table_of lists)) ≡ arranged_cost seq lists
-arranged_table_cost seq lists is h = table_cost seq lists (table_of lists) (arranged_table seq.scalars lists h) ∙ part_of_all seq lists is h
+arranged_table_cost seq lists is h = table_cost seq lists (table_of lists) (arranged_table seq.scalars lists h) (arranged_fit seq.scalars lists h) ∙ part_of_all seq lists is h
 
 -- one list of an arrangement
 pub item_small : (n : ℕ) (lists : List (List ℕ)) (i : ℕ) (item xs : List ℕ) → Arranges n lists → i < length lists → item ≡ get_or lists i item → xs ≡ item → All (λ s. s < 64) xs

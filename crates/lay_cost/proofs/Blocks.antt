@@ -1,12 +1,10 @@
 -- What is kept along a block.
-use Rattle.std.proofs.Common.{◌≡◌, ℕ, ◌+◌, ◌<◌, ◌≤◌, Bool, true, false, cond, ◌||◌, nat_le, ℤ, pos, List, [], ◌∷◌, length, get_or, take, replicate, Option, Some, None, option_map, fold, filter, refl, ap, ◌∙◌, ⊎_elim, arith, if◌then◌else◌, lit≤}
-use Rattle.std.proofs.Math.Path.{fun_ext}
+use Rattle.std.proofs.Common.{◌≡◌, ℕ, ◌+◌, ◌<◌, ◌≤◌, Bool, true, false, cond, ◌||◌, nat_le, ℤ, List, [], ◌∷◌, length, get_or, take, replicate, Option, Some, None, fold, filter, refl, ap, ◌∙◌, ⊎_elim, arith, if◌then◌else◌, lit≤}
 use Rattle.std.proofs.lemmas.List.{get_or-replicate, get_or_past, length-replicate}
 use Rattle.std.proofs.lemmas.List.Elements.{filter_more}
 use Rattle.std.proofs.lemmas.List.Sums.{fold-append}
 use Rattle.std.proofs.lemmas.Bool.{cases_lt}
-use Rattle.lay_cost.specs.Cost.{access_cost, is_by_step, distance, no_access}
-use Rattle.lay_cost.specs.Memory.{last_in}
+use Rattle.lay_cost.specs.Cost.{access_cost, is_by_step, distance}
 
 -- a fold over what a filter keeps, with one more element
 pub fold_filter_more : {X B : Type 0} (f : B → X → B) (a : B) (p : X → Bool) (xs : List X) (i : ℕ) (d : X) → i < length xs → fold f a (filter p (take (i + 1) xs)) ≡ (if p (get_or xs i d) then f (fold f a (filter p (take i xs))) (get_or xs i d) else fold f a (filter p (take i xs)))
@@ -30,7 +28,3 @@ access_cost_le step (Some last) offset = zero_or_one (nat_le (distance last offs
 -- a list of one value alone, read anywhere
 pub get_or_same : {A : Type 0} (d : A) (n r : ℕ) → get_or (replicate n d) r d ≡ d
 get_or_same d n r = ⊎_elim (λ lt. get_or-replicate n r d d lt) (λ le. get_or_past (replicate n d) r d (omega (arith, length-replicate n d))) (cases_lt r n)
-
--- no register has a last offset at first
-pub none_last : (n : ℕ) → (λ r. option_map pos (last_in (replicate n None) r)) ≡ no_access.last
-none_last n = fun_ext (λ r. ap (option_map pos) (get_or_same None n r))

@@ -1,5 +1,6 @@
 mod Examples
 pub mod Blocks
+pub mod Tallies
 pub mod Bounds
 pub mod Follows
 pub mod Counts

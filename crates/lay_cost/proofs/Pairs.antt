@@ -1,17 +1,19 @@
 -- Pairs of neighbours, access by access.
-use Rattle.std.proofs.Common.{◌≡◌, ℕ, ◌+◌, ◌*◌, ◌^◌, ◌<◌, ◌≤◌, Bool, true, false, cond, List, [], ◌∷◌, ◌++◌, length, take, get_or, filter, sum_by, Option, Some, None, refl, ap, sym, ◌∙◌, arith, if◌then◌else◌, lit≤, zero-le, append-nil, true≢false, length-take, replicate}
+use Rattle.std.proofs.Common.{◌≡◌, ℕ, ◌+◌, ◌-◌, ◌*◌, ◌^◌, ◌<◌, ◌≤◌, Bool, true, false, cond, List, [], ◌∷◌, ◌++◌, length, take, drop, get_or, filter, sum_by, Option, Some, None, refl, ap, sym, ◌∙◌, arith, if◌then◌else◌, lit≤, zero-le, append-nil, true≢false, length-take, length-append, replicate, ⊎_elim}
 use Rattle.std.specs.Prelude.{All}
 use Rattle.std.specs.List.{last_or, list_any}
 use Rattle.std.proofs.Math.Nat.{mul-le-mul_left}
 use Rattle.std.proofs.Common.{ap₂, ne_eqb, ◌==◌}
 use Rattle.std.proofs.Math.Path.{fun_ext}
 use Rattle.std.proofs.lemmas.Bool.Decides.{nat_tests}
-use Rattle.std.proofs.lemmas.List.Elements.{filter_more, filter_passes, All-head, All-tail, All-weaker}
+use Rattle.std.proofs.lemmas.Bool.{cases_lt}
+use Rattle.std.proofs.lemmas.List.{get_or_append_left, get_or-append-add, get_or-drop, get_or-replicate, length-replicate, length-drop}
+use Rattle.std.proofs.lemmas.List.Elements.{filter_more, filter_passes, All-head, All-tail, All-weaker, All-filter, All-take}
 use Rattle.std.proofs.lemmas.List.Sums.{length-filter, count_by-le-length, sum_by_more, sum_by-le-sum_by, sum_by-cons}
-use Rattle.lay_model.specs.Sequences.{Sequence, Block, counted}
+use Rattle.lay_model.specs.Sequences.{Sequence, Block, IsSequence, counted}
 use Rattle.lay_cost.specs.Weights.{is_pair, times_beside, weight_at, weight_between}
 use Rattle.lay_cost.proofs.Blocks.{get_or_same}
-use Rattle.lay_cost.specs.Memory.{pairs_with_last, HasNext, HasBlock, AreSmall}
+use Rattle.lay_cost.specs.Memory.{pairs_with_last, HasNext, HasBlock, HasRows, AreSmall}
 
 pub times_push : (x y : ℕ) (l : List ℕ) (c : ℕ) → times_beside x y (l ++ (c ∷ [])) ≡ times_beside x y l + pairs_with_last x y (last_or None l) c
 times_push x y [] c = refl
@@ -79,11 +81,8 @@ pub record AreSoFar (set : ℕ → Bool) (bs : List Block) (table : List ℕ) : 
   pub size : length table ≡ 4096
   pub weights : (x y : ℕ) → x < 64 → y < 64 → weight_at table x y ≡ sum_by (λ b. b.weight * times_beside x y (filter set b.accesses)) bs
 
-pub zero_at : (table : List ℕ) (x y : ℕ) → table ≡ replicate 4096 0 → weight_at table x y ≡ 0
-zero_at table x y e = ap (λ t. weight_at t x y) e ∙ get_or_same 0 4096 (x * 64 + y)
-
-pub none_so_far : (set : ℕ → Bool) (table : List ℕ) → length table ≡ 4096 → table ≡ replicate 4096 0 → AreSoFar set [] table
-none_so_far set table size e = record { size = size; weights = λ x y a b. zero_at table x y e }
+pub none_so_far : (set : ℕ → Bool) (table : List ℕ) → HasRows 0 table → AreSoFar set [] table
+none_so_far set table h = record { size = h.size; weights = λ x y a b. h.others x y a b zero-le }
 
 pub more_blocks : (set : ℕ → Bool) (bs : List Block) (i : ℕ) (d : Block) (old new : List ℕ) → i < length bs → AreSoFar set (take i bs) old → length new ≡ length old → HasBlock old new (filter set (get_or bs i d).accesses) (get_or bs i d).weight → AreSoFar set (take (i + 1) bs) new
 more_blocks set bs i d old new lt h same block = record {
@@ -143,3 +142,46 @@ absent set x xs e = All-weaker (λ a. set a ≡ true) (λ a. (a == x) ≡ false)
 -- nor that of one that isn't of the set
 pub weight_outside : (seq : Sequence) (set : ℕ → Bool) (x y : ℕ) → set x ≡ false → weight_between seq set x y ≡ 0
 weight_outside seq set x y e = weights_same (λ b. b.weight * times_beside x y (filter set b.accesses)) (λ b. b.weight * 0) seq.blocks (λ b. ap (λ n. b.weight * n) (times_absent x y (filter set b.accesses) (absent set x b.accesses e))) ∙ no_weight seq.blocks
+
+-- a scalar that no block accesses has no weight
+unknown : (x n : ℕ) (xs : List ℕ) → n ≤ x → All (λ s. s < n) xs → All (λ a. (a == x) ≡ false) xs
+unknown x n xs le all = All-weaker (λ s. s < n) (λ a. (a == x) ≡ false) (λ a lt. ne_eqb a x (λ is. absurd (omega (arith, is, lt, le)))) xs all
+
+unknown_weight : (set : ℕ → Bool) (x y n : ℕ) (bs : List Block) → n ≤ x → All (λ b. All (λ s. s < n) b.accesses) bs → sum_by (λ b. b.weight * times_beside x y (filter set b.accesses)) bs ≡ 0
+unknown_weight set x y n [] le all = refl
+unknown_weight set x y n (b ∷ bs) le all =
+    let Below = λ (c : Block). All (λ s. s < n) c.accesses in
+    let kept = All-filter set (λ a. (a == x) ≡ false) b.accesses (unknown x n b.accesses le (All-head Below b bs all)) in
+    omega (arith, sum_by-cons (λ c. c.weight * times_beside x y (filter set c.accesses)) b bs, ap (λ t. b.weight * t) (times_absent x y (filter set b.accesses) kept), unknown_weight set x y n bs le (All-tail Below b bs all))
+
+pub rows_so_far : (seq : Sequence) (set : ℕ → Bool) (i : ℕ) (table : List ℕ) → IsSequence seq → AreSoFar set (take i seq.blocks) table → HasRows seq.scalars table
+rows_so_far seq set i table is h = record {
+  size = h.size;
+  few = is.few;
+  others = λ x y a b le. h.weights x y a b ∙ unknown_weight set x y seq.scalars (take i seq.blocks) le (All-take (λ b. All (λ s. s < seq.scalars) b.accesses) i seq.blocks is.scalars);
+}
+
+pub zero_rows : (table : List ℕ) → table ≡ replicate 4096 0 → HasRows 0 table
+zero_rows table is = record { size = ap length is ∙ length-replicate {A = ℕ} 4096 0; few = zero-le; others = λ x y a b le. ap (λ t. weight_at t x y) is ∙ get_or_same 0 4096 (x * 64 + y) }
+
+-- what stands in the first rows is replaced by 0
+pub cleared : (rows : ℕ) (table : List ℕ) → HasRows rows table → HasRows 0 (replicate (rows * 64) 0 ++ drop (rows * 64) table)
+cleared rows table h = record {
+  size = omega (arith, length-append (replicate (rows * 64) 0) (drop (rows * 64) table), length-replicate {A = ℕ} (rows * 64) 0, length-drop (rows * 64) table, h.size, h.few);
+  few = zero-le;
+  others = λ x y a b le. ⊎_elim (front x y b) (back x y a b) (cases_lt x rows);
+}
+  where
+    now : List ℕ
+    now = replicate (rows * 64) 0 ++ drop (rows * 64) table
+
+    front : (x y : ℕ) → y < 64 → x < rows → weight_at now x y ≡ 0
+    front x y b lt =
+        let within : x * 64 + y < rows * 64 = omega (arith, b, lt) in
+        get_or_append_left (replicate (rows * 64) 0) (drop (rows * 64) table) 0 (x * 64 + y) (omega (arith, within, length-replicate {A = ℕ} (rows * 64) 0)) ∙ get_or-replicate (rows * 64) (x * 64 + y) 0 0 within
+
+    back : (x y : ℕ) → x < 64 → y < 64 → rows ≤ x → weight_at now x y ≡ 0
+    back x y a b le =
+        let behind : x * 64 + y ≡ length (replicate {A = ℕ} (rows * 64) 0) + ((x - rows) * 64 + y) = omega (arith, le, length-replicate {A = ℕ} (rows * 64) 0) in
+        let there : rows * 64 + ((x - rows) * 64 + y) ≡ x * 64 + y = omega (arith, le) in
+        ap (λ i. get_or now i 0) behind ∙ get_or-append-add (replicate (rows * 64) 0) (drop (rows * 64) table) ((x - rows) * 64 + y) 0 ∙ get_or-drop (rows * 64) table ((x - rows) * 64 + y) 0 ∙ ap (λ i. get_or table i 0) there ∙ h.others x y a b le

@@ -11,8 +11,7 @@ use Rattle.lay_cost.specs.Placements.{has}
 use Rattle.lay_cost.specs.Parts.{close, lists_of, IsString}
 use Rattle.lay_cost.specs.Memory.{with_scalar, with_close, no_places, ArePlaces, AreNear, placed}
 use Rattle.lay_cost.proofs.Counts.{count_below_le, count_all}
-use Rattle.lay_cost.proofs.PlaceLemmas.{Once, IsTable, push_places, close_places, none_placed, table_near, few_lists, front_lacks, apart_of, concat_push}
-use Rattle.lay_cost.proofs.Tables.{placed_open}
+use Rattle.lay_cost.proofs.PlaceLemmas.{Once, IsTable, Fit, lists_fit, open_fits, push_places, close_places, none_placed, table_near, few_lists, front_lacks, apart_of, concat_push}
 use Rattle.lay_cost.proofs.Arranged.{back_of}
 
 -- one more element at the end of the last list
@@ -169,9 +168,15 @@ close_state node i p h st lt e = record {
 pub state_table : (node : List ℕ) (i : ℕ) (p : Places) → State node i p → length node ≤ i → IsTable (lists_of node) p.places
 state_table node i p st le s = st.are.places s ∙ ap (λ ls. placed ls s) (sym st.is ∙ ap lists_of (take_all i node le))
 
-near_of : (closed : List (List ℕ)) (l : List ℕ) (p : Places) → ArePlaces closed l p → length closed + length l ≤ 64 → AreNear p.places
-near_of closed [] p h le = table_near closed p.places (λ s. h.places s ∙ placed_open closed s) (omega (arith, le))
-near_of closed (x ∷ xs) p h le = table_near (closed ++ ((x ∷ xs) ∷ [])) p.places h.places (omega (arith, le, length-append closed ((x ∷ xs) ∷ [])))
+fit_of : (closed : List (List ℕ)) (l : List ℕ) → length closed + length l ≤ 64 → length (concat closed) + length l ≤ 64 → Fit (closed ++ (l ∷ []))
+fit_of closed [] few small = open_fits closed (lists_fit closed (omega (arith, few)) (omega (arith, small)))
+fit_of closed (x ∷ xs) few small = lists_fit (closed ++ ((x ∷ xs) ∷ [])) (omega (arith, few, length-append closed ((x ∷ xs) ∷ []))) (omega (arith, small, ap length (concat_push closed (x ∷ xs)), length-append (concat closed) (x ∷ xs)))
+
+state_fit : (node : List ℕ) (i : ℕ) (p : Places) → IsSmall node → (st : State node i p) → Fit (st.closed ++ (st.open_list ∷ []))
+state_fit node i p h st = fit_of st.closed st.open_list (omega (arith, few_lists st.closed st.some, state_length node i p st, prefix_length node i h)) (omega (arith, state_length node i p st, prefix_length node i h))
 
 pub state_near : (node : List ℕ) (i : ℕ) (p : Places) → IsSmall node → State node i p → AreNear p.places
-state_near node i p h st = near_of st.closed st.open_list p st.are (omega (arith, few_lists st.closed st.some, state_length node i p st, prefix_length node i h))
+state_near node i p h st = table_near (st.closed ++ (st.open_list ∷ [])) p.places st.are.places (state_fit node i p h st)
+
+pub node_fits : (node : List ℕ) (i : ℕ) (p : Places) → IsSmall node → State node i p → length node ≤ i → Fit (lists_of node)
+node_fits node i p h st le = subst Fit (sym st.is ∙ ap lists_of (take_all i node le)) (state_fit node i p h st)

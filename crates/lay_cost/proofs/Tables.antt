@@ -1,5 +1,5 @@
 -- Tables of places: where scalars stand in lists, as they are put there one behind another.
-use Rattle.std.proofs.Common.{◌≡◌, ℕ, suc, ◌+◌, Bool, true, false, ◌||◌, ◌==◌, List, [], ◌∷◌, ◌++◌, length, Option, Some, None, refl, ap, ap₂, sym, ◌∙◌, arith, if◌then◌else◌, eqb-true, true≢false}
+use Rattle.std.proofs.Common.{◌≡◌, ℕ, suc, ◌+◌, Bool, true, false, ◌||◌, ◌==◌, List, [], ◌∷◌, ◌++◌, length, refl, ap, ap₂, sym, ◌∙◌, arith, if◌then◌else◌, eqb-true, true≢false}
 use Rattle.std.specs.List.{concat}
 use Rattle.std.proofs.Math.Bool.{or-false, or-true}
 use Rattle.std.proofs.lemmas.Bool.{or_parts}
@@ -7,45 +7,45 @@ use Rattle.std.proofs.lemmas.Bool.Decides.{nat_tests}
 use Rattle.std.proofs.lemmas.List.Folds.{list_any-append}
 use Rattle.lay_cost.specs.declared.places.Place.{Place}
 use Rattle.lay_cost.specs.Placements.{has, list_of, place_in, position_in}
-use Rattle.lay_cost.specs.Memory.{placed}
+use Rattle.lay_cost.specs.Memory.{placed, nowhere}
 
-abbrev place : ℕ → ℕ → Option Place
-place r i = Some (record { register = r; offset = i })
+abbrev place : ℕ → ℕ → Place
+place r i = record { register = r; offset = i }
 
 -- in a list on a register, from an offset on
-abbrev pub find_in : ℕ → ℕ → List ℕ → ℕ → Option Place
-find_in r i [] s = None
+abbrev pub find_in : ℕ → ℕ → List ℕ → ℕ → Place
+find_in r i [] s = nowhere
 find_in r i (x ∷ xs) s = if x == s then place r i else find_in r (suc i) xs s
 
 -- in lists, from a register on
-abbrev pub find_from : ℕ → List (List ℕ) → ℕ → Option Place
-find_from r [] s = None
+abbrev pub find_from : ℕ → List (List ℕ) → ℕ → Place
+find_from r [] s = nowhere
 find_from r (l ∷ ls) s = if has l s then find_in r 0 l s else find_from (suc r) ls s
 
-find_in_is : (r i : ℕ) (l : List ℕ) (s : ℕ) → find_in r i l s ≡ (if has l s then place r (i + position_in l s) else None)
+find_in_is : (r i : ℕ) (l : List ℕ) (s : ℕ) → find_in r i l s ≡ (if has l s then place r (i + position_in l s) else nowhere)
 find_in_is r i [] s = refl
 find_in_is r i (x ∷ xs) s = by (x == s) (find_in_is r (suc i) xs s ∙ at (has xs s))
   where
-    at : (b : Bool) → (if b then place r (suc i + position_in xs s) else None) ≡ (if b then place r (i + suc (position_in xs s)) else None)
-    at b = ap (λ n. if b then place r n else None) (omega arith)
+    at : (b : Bool) → (if b then place r (suc i + position_in xs s) else nowhere) ≡ (if b then place r (i + suc (position_in xs s)) else nowhere)
+    at b = ap (λ n. if b then place r n else nowhere) (omega arith)
 
-    by : (t : Bool) → find_in r (suc i) xs s ≡ (if has xs s then place r (i + suc (position_in xs s)) else None) → (if t then place r i else find_in r (suc i) xs s) ≡ (if t || has xs s then place r (i + (if t then 0 else suc (position_in xs s))) else None)
+    by : (t : Bool) → find_in r (suc i) xs s ≡ (if has xs s then place r (i + suc (position_in xs s)) else nowhere) → (if t then place r i else find_in r (suc i) xs s) ≡ (if t || has xs s then place r (i + (if t then 0 else suc (position_in xs s))) else nowhere)
     by true rest = ap (place r) (omega arith)
     by false rest = rest
 
-find_from_is : (r : ℕ) (ls : List (List ℕ)) (s : ℕ) → find_from r ls s ≡ (if has (concat ls) s then place (r + list_of ls s) (place_in ls s) else None)
+find_from_is : (r : ℕ) (ls : List (List ℕ)) (s : ℕ) → find_from r ls s ≡ (if has (concat ls) s then place (r + list_of ls s) (place_in ls s) else nowhere)
 find_from_is r [] s = refl
 find_from_is r (l ∷ ls) s = rw (list_any-append (λ x. x == s) l (concat ls)) (by (has l s) refl (find_from_is (suc r) ls s ∙ at (has (concat ls) s)))
   where
-    at : (b : Bool) → (if b then place (suc r + list_of ls s) (place_in ls s) else None) ≡ (if b then place (r + suc (list_of ls s)) (place_in ls s) else None)
-    at b = ap (λ n. if b then place n (place_in ls s) else None) (omega arith)
+    at : (b : Bool) → (if b then place (suc r + list_of ls s) (place_in ls s) else nowhere) ≡ (if b then place (r + suc (list_of ls s)) (place_in ls s) else nowhere)
+    at b = ap (λ n. if b then place n (place_in ls s) else nowhere) (omega arith)
 
-    by : (t : Bool) → has l s ≡ t → find_from (suc r) ls s ≡ (if has (concat ls) s then place (r + suc (list_of ls s)) (place_in ls s) else None) → (if t then find_in r 0 l s else find_from (suc r) ls s) ≡ (if t || has (concat ls) s then place (r + (if t then 0 else suc (list_of ls s))) (if t then position_in l s else place_in ls s) else None)
+    by : (t : Bool) → has l s ≡ t → find_from (suc r) ls s ≡ (if has (concat ls) s then place (r + suc (list_of ls s)) (place_in ls s) else nowhere) → (if t then find_in r 0 l s else find_from (suc r) ls s) ≡ (if t || has (concat ls) s then place (r + (if t then 0 else suc (list_of ls s))) (if t then position_in l s else place_in ls s) else nowhere)
     by true e rest = find_in_is r 0 l s ∙ rw e (ap₂ place (omega arith) (omega arith))
     by false e rest = rest
 
 pub placed_is : (ls : List (List ℕ)) (s : ℕ) → placed ls s ≡ find_from 0 ls s
-placed_is ls s = ap (λ n. if has (concat ls) s then place n (place_in ls s) else None) (omega arith) ∙ sym (find_from_is 0 ls s)
+placed_is ls s = ap (λ n. if has (concat ls) s then place n (place_in ls s) else nowhere) (omega arith) ∙ sym (find_from_is 0 ls s)
 
 eqb_comm : (a b : ℕ) → (a == b) ≡ (b == a)
 eqb_comm a b = grind (arith, nat_tests)
@@ -55,7 +55,7 @@ other_than x c s e n = rw (eqb-true s c e) n
 
 -- one more scalar at the end of a list that hasn't it
 find_in_push : (r i : ℕ) (l : List ℕ) (c s : ℕ) → has l c ≡ false → find_in r i (l ++ (c ∷ [])) s ≡ (if s == c then place r (i + length l) else find_in r i l s)
-find_in_push r i [] c s new = rw (eqb_comm c s) (ap (λ n. if s == c then place r n else None) (omega arith))
+find_in_push r i [] c s new = rw (eqb_comm c s) (ap (λ n. if s == c then place r n else nowhere) (omega arith))
 find_in_push r i (x ∷ xs) c s new = by (x == s) (s == c) refl refl (find_in_push r (suc i) xs c s (or_parts (x == c) (has xs c) new).1 ∙ at (s == c))
   where
     at : (b : Bool) → (if b then place r (suc i + length xs) else find_in r (suc i) xs s) ≡ (if b then place r (i + suc (length xs)) else find_in r (suc i) xs s)
@@ -72,14 +72,14 @@ has_push l c s e = list_any-append (λ x. x == s) l (c ∷ []) ∙ rw (eqb_comm 
 has_pushed : (l : List ℕ) (c s : ℕ) → (s == c) ≡ true → has (l ++ (c ∷ [])) s ≡ true
 has_pushed l c s e = list_any-append (λ x. x == s) l (c ∷ []) ∙ rw (eqb_comm c s, e) (or-true (has l s))
 
-find_in_none : (r i : ℕ) (l : List ℕ) (s : ℕ) → has l s ≡ false → find_in r i l s ≡ None
+find_in_none : (r i : ℕ) (l : List ℕ) (s : ℕ) → has l s ≡ false → find_in r i l s ≡ nowhere
 find_in_none r i l s e = find_in_is r i l s ∙ rw e refl
 
 -- one more scalar at the end of the last list
 find_from_push : (r : ℕ) (ls : List (List ℕ)) (l : List ℕ) (c s : ℕ) → has (concat ls) c ≡ false → has l c ≡ false → find_from r (ls ++ ((l ++ (c ∷ [])) ∷ [])) s ≡ (if s == c then place (r + length ls) (length l) else find_from r (ls ++ (l ∷ [])) s)
 find_from_push r [] l c s new last = by (s == c) refl
   where
-    by : (t : Bool) → (s == c) ≡ t → (if has (l ++ (c ∷ [])) s then find_in r 0 (l ++ (c ∷ [])) s else None) ≡ (if t then place (r + 0) (length l) else (if has l s then find_in r 0 l s else None))
+    by : (t : Bool) → (s == c) ≡ t → (if has (l ++ (c ∷ [])) s then find_in r 0 (l ++ (c ∷ [])) s else nowhere) ≡ (if t then place (r + 0) (length l) else (if has l s then find_in r 0 l s else nowhere))
     by true e = rw (has_pushed l c s e, find_in_push r 0 l c s last, e) (ap₂ place (omega arith) (omega arith))
     by false e = rw (has_push l c s e, find_in_push r 0 l c s last, e) refl
 find_from_push r (k ∷ ks) l c s new last =

@@ -1,48 +1,79 @@
 -- Places and tallies as they stand in memory.
-use Rattle.std.specs.Prelude.{◌≡◌, ℕ, ◌+◌, ◌*◌, ◌<◌, ◌≤◌, pos, Bool, List, ◌++◌, [], ◌∷◌, length, fold, replicate, Option, Some, None, is_some, option_map, slice_index_or, slice_set, if◌then◌else◌}
+use Rattle.std.specs.Prelude.{◌≡◌, ℕ, ◌+◌, ◌-◌, ◌*◌, ◌<◌, ◌≤◌, ◌==◌, nat_lt, pos, Bool, not, List, ◌++◌, [], ◌∷◌, length, fold, replicate, Option, Some, None, option_map, slice_index_or, slice_set, if◌then◌else◌}
 use Rattle.std.specs.List.{concat}
 use Rattle.lay_cost.specs.declared.places.Place.{Place}
 use Rattle.lay_cost.specs.declared.places.Places.{Places}
 use Rattle.lay_cost.specs.declared.tally.Tally as memory
 use Rattle.lay_cost.specs.Placements.{Placement, has, list_of, place_in}
-use Rattle.lay_cost.specs.Cost.{Tally}
+use Rattle.lay_cost.specs.Cost.{Tally, tally_behind}
 use Rattle.lay_cost.specs.Weights.{weight_at, is_pair, times_beside}
 
--- where a scalar stands in lists, if it does
-abbrev pub placed : List (List ℕ) → ℕ → Option Place
-placed lists s = if has (concat lists) s then Some (record { register = list_of lists s; offset = place_in lists s }) else None
+-- the register on which no list lies
+abbrev pub spare : ℕ
+spare = 64
 
-abbrev pub place_at : List (Option Place) → ℕ → Option Place
-place_at table s = slice_index_or table s None
+-- where scalars stand that have no place
+abbrev pub nowhere : Place
+nowhere = record { register = spare; offset = 0 }
 
-abbrev pub is_placed : List (Option Place) → ℕ → Bool
-is_placed table s = is_some (place_at table s)
+-- where a scalar stands, in lists or nowhere
+abbrev pub placed : List (List ℕ) → ℕ → Place
+placed lists s = if has (concat lists) s then record { register = list_of lists s; offset = place_in lists s } else nowhere
 
-abbrev pub register_of : Option Place → ℕ
-register_of None = 0
-register_of (Some p) = p.register
+abbrev pub place_at : List Place → ℕ → Place
+place_at table s = slice_index_or table s nowhere
 
-abbrev pub offset_of : Option Place → ℕ
-offset_of None = 0
-offset_of (Some p) = p.offset
+abbrev pub is_somewhere : Place → Bool
+is_somewhere p = not (p.register == spare)
+
+abbrev pub is_placed : List Place → ℕ → Bool
+is_placed table s = is_somewhere (place_at table s)
 
 -- what a table of places says of each scalar
-abbrev pub placement_in : List (Option Place) → Placement
-placement_in table = record { register = λ s. register_of (place_at table s); offset = λ s. pos (offset_of (place_at table s)) }
+abbrev pub placement_in : List Place → Placement
+placement_in table = record { register = λ s. (place_at table s).register; offset = λ s. pos (place_at table s).offset }
 
-abbrev pub last_in : List (Option ℕ) → ℕ → Option ℕ
-last_in last r = slice_index_or last r None
+-- one of 64 offsets of one of 64 registers, or nowhere
+pub record IsNear (p : Place) : Type 0 where
+  pub register : p.register ≤ spare
+  pub offset : p.offset < 64
+  pub spare_offset : p.register ≡ spare → p.offset ≡ 0
 
-abbrev pub tally_of : memory.Tally → Tally
-tally_of t = record { last = λ r. option_map pos (last_in t.last r); stepped = t.stepped; paid = t.paid }
+abbrev pub AreNear : List Place → Type 0
+AreNear table = (s : ℕ) → IsNear (place_at table s)
 
--- each place is on one of 64 registers
-abbrev pub AreNear : List (Option Place) → Type 0
-AreNear table = (s : ℕ) → register_of (place_at table s) < 64
+-- stands for the last offset of a register that isn't loaded
+abbrev pub not_loaded : ℕ
+not_loaded = 255
+
+abbrev pub not_loaded_anywhere : List ℕ
+not_loaded_anywhere = slice_set (replicate 65 not_loaded) spare 0
+
+abbrev pub last_of : List ℕ → ℕ → ℕ
+last_of last r = slice_index_or last r not_loaded
+
+abbrev pub loaded : ℕ → Option ℕ
+loaded offset = if offset == not_loaded then None else Some offset
+
+-- the last offset of a register that lists lie on
+abbrev pub last_in : List ℕ → ℕ → Option ℕ
+last_in last r = if r == spare then None else loaded (last_of last r)
+
+-- the spare register stays where scalars stand that have no place
+pub record IsSpareKept (last : List ℕ) : Type 0 where
+  pub size : length last ≡ 65
+  pub offset : last_of last spare ≡ 0
+
+-- moves by the step aren't paid
+abbrev pub tally_of : List ℕ → memory.Tally → Tally
+tally_of last t = record { last = λ r. option_map pos (last_in last r); stepped = nat_lt 0 t.by_step; paid = t.far - t.by_step }
+
+abbrev pub tally_behind_place : ℕ → Tally → Place → Tally
+tally_behind_place step t p = if is_somewhere p then tally_behind step t p.register (pos p.offset) else t
 
 -- one more scalar in the open list
 abbrev pub with_scalar : Places → ℕ → Places
-with_scalar p s = record { places = slice_set p.places s (Some (record { register = p.register; offset = p.length })); register = p.register; length = p.length + 1 }
+with_scalar p s = record { places = slice_set p.places s (record { register = p.register; offset = p.length }); register = p.register; length = p.length + 1 }
 
 -- the open list is closed
 abbrev pub with_close : Places → Places
@@ -53,7 +84,7 @@ abbrev pub with_list : Places → List ℕ → Places
 with_list p list = with_close (fold with_scalar p list)
 
 abbrev pub no_places : Places
-no_places = record { places = replicate 64 None; register = 0; length = 0 }
+no_places = record { places = replicate 64 nowhere; register = 0; length = 0 }
 
 -- the places of closed lists and of an open one
 pub record ArePlaces (closed : List (List ℕ)) (open_list : List ℕ) (p : Places) : Type 0 where
@@ -61,6 +92,12 @@ pub record ArePlaces (closed : List (List ℕ)) (open_list : List ℕ) (p : Plac
   pub places : (s : ℕ) → place_at p.places s ≡ placed (closed ++ (open_list ∷ [])) s
   pub register : p.register ≡ length closed
   pub length : p.length ≡ length open_list
+
+-- a table of weights, of which only so many rows may have numbers above 0
+pub record HasRows (rows : ℕ) (table : List ℕ) : Type 0 where
+  pub size : length table ≡ 4096
+  pub few : rows ≤ 64
+  pub others : (x y : ℕ) → x < 64 → y < 64 → rows ≤ x → weight_at table x y ≡ 0
 
 -- a table of weights with more for one pair
 abbrev pub HasPair : List ℕ → List ℕ → ℕ → ℕ → ℕ → Type 0

@@ -9,7 +9,7 @@ ghost use Rattle.lay_cost.specs.Parts.{IsString, lists_of, part_cost_of};
 ghost use Rattle.lay_cost.specs.Restricted.{restricted};
 
 use crate::places::Places;
-use crate::tally::Tally;
+use crate::tally::{LastOffsets, Tally};
 use lay_model::{Arrangement, MOST_SCALARS, Sequence};
 
 /// What closes a list in a string of scalars.
@@ -63,16 +63,46 @@ fn cost_over(seq: &Sequence, places: &Places) -> u64
 
 // What they cost in one block.
 fn block_cost(step: u8, places: &Places, accesses: &[u8]) -> u64
+    requires step { 1 ≤ step }
+    requires short { step ≤ 8 }
     requires near { AreNear places.now.places }
     requires scalars { All (λ s. s < 64) accesses.now }
     ensures cost { result ≡ costs.block_cost step (placement_in places.now.places) (filter (is_placed places.now.places) accesses.now) }
     ensures few { result ≤ length accesses.now }
 {
+    if step > 1 {
+        cost_at_step(step, places, accesses)
+    } else {
+        cost_at_one(places, accesses)
+    }
+}
+
+// At a step of 1: a loop of its own, since no move has to be held against the step.
+fn cost_at_one(places: &Places, accesses: &[u8]) -> u64
+    requires near { AreNear places.now.places }
+    requires scalars { All (λ s. s < 64) accesses.now }
+    ensures { result ≡ costs.block_cost 1 (placement_in places.now.places) (filter (is_placed places.now.places) accesses.now) }
+{
+    let mut last = LastOffsets::none();
     let mut tally = Tally::no_access();
     for scalar in accesses {
-        if let Some(place) = places.get(*scalar) {
-            tally.add(step, place);
-        }
+        tally.add_at_one(&mut last, places.get(*scalar));
+    }
+    tally.cost()
+}
+
+// At a step above 1.
+fn cost_at_step(step: u8, places: &Places, accesses: &[u8]) -> u64
+    requires step { 1 < step }
+    requires short { step ≤ 8 }
+    requires near { AreNear places.now.places }
+    requires scalars { All (λ s. s < 64) accesses.now }
+    ensures { result ≡ costs.block_cost step (placement_in places.now.places) (filter (is_placed places.now.places) accesses.now) }
+{
+    let mut last = LastOffsets::none();
+    let mut tally = Tally::no_access();
+    for scalar in accesses {
+        tally.add_at_step(&mut last, step, places.get(*scalar));
     }
     tally.cost()
 }

@@ -4,7 +4,7 @@ ghost use Rattle.std.specs.List.{list_any};
 ghost use Rattle.lay_cost.specs.Restricted as sets;
 ghost use Rattle.lay_cost.specs.Restricted.{in_bits};
 ghost use Rattle.lay_cost.specs.Weights.{AreWeights, weight_at};
-ghost use Rattle.lay_cost.specs.Memory.{HasPair, HasNext, HasBlock, AreSmall};
+ghost use Rattle.lay_cost.specs.Memory.{HasPair, HasNext, HasBlock, HasRows, AreSmall};
 
 use lay_model::{Block, MOST_SCALARS, Sequence};
 use std::alloc::Global;
@@ -17,16 +17,19 @@ const TABLE: usize = 4096;
 #[derive(Drop)]
 pub struct WeightTable {
     weights: Vec<u64>,
+    /// How many rows may have numbers above 0. The others needn't be cleared.
+    rows: u8,
 }
 
 impl Model for WeightTable {
-    ghost use Rattle.std.specs.Prelude.{◌≡◌, List, ℕ, length};
+    ghost use Rattle.std.specs.Prelude.{List, ℕ};
+    ghost use Rattle.lay_cost.specs.Memory.{HasRows};
 
     ghost Value = { List ℕ };
 
     ghost view = { λ t. t.weights.items };
 
-    ghost invariant = { λ t. length t.weights.items ≡ 4096 };
+    ghost invariant = { λ t. HasRows t.rows t.weights.items };
 }
 
 /// The table of a sequence and of a set of its scalars, given by their bits.
@@ -35,6 +38,7 @@ pub fn weights(alloc: Global, seq: &Sequence, set: u64) -> Result<WeightTable, N
 {
     let mut table = WeightTable {
         weights: vec![in alloc; 0; TABLE]?,
+        rows: 0,
     };
     table.refill(seq, set);
     Ok(table)
@@ -54,7 +58,9 @@ impl WeightTable {
     pub fn refill(&mut self, seq: &Sequence, set: u64)
         ensures { AreWeights seq.now (in_bits set) self.new }
     {
-        fill_table(&mut self.weights, seq, set);
+        clear(&mut self.weights, self.rows);
+        add_blocks(&mut self.weights, seq, set);
+        self.rows = seq.scalars();
     }
 }
 
@@ -105,14 +111,22 @@ fn place(a: u8, b: u8) -> usize
     usize::from(a) * 64 + usize::from(b)
 }
 
-// The table from the beginning.
-fn fill_table(weights: &mut [u64], seq: &Sequence, set: u64)
-    requires { length weights.old ≡ 4096 }
-    ensures { AreWeights seq.now (in_bits set) weights.new }
+// No row has a number above 0 then, of which so many may have had some.
+fn clear(weights: &mut [u64], rows: u8)
+    requires { HasRows rows weights.old }
+    ensures { HasRows 0 weights.new }
+{
+    weights[..place(rows, 0)].fill(0);
+}
+
+// The neighbours of all blocks.
+fn add_blocks(weights: &mut [u64], seq: &Sequence, set: u64)
+    requires { HasRows 0 weights.old }
+    ensures weights { AreWeights seq.now (in_bits set) weights.new }
+    ensures rows { HasRows seq.now.scalars weights.new }
 {
     let few = seq.scalars() <= MOST_SCALARS;
     prove!(few);
-    weights.fill(0);
     for block in seq.blocks() {
         add_block(weights, u64::from(block.weight()), block.accesses(), set);
     }

@@ -2,6 +2,10 @@
 ghost use Rattle.std.specs.Prelude.{◌≡◌, ◌<◌, ◌≤◌, ◌+◌, length, All};
 ghost use Rattle.lay_cost.specs.Memory.{place_at, no_places, with_scalar, with_close, with_list};
 
+/// A register on which no list lies. Scalars without a place stand there at one offset, where this register is before a block begins:
+/// so their accesses cost nothing.
+pub(crate) const SPARE: u8 = 64;
+
 /// A register, and an offset from where it begins.
 #[derive(Clone, Copy)]
 pub(crate) struct Place {
@@ -13,7 +17,7 @@ pub(crate) struct Place {
 #[derive(Drop)]
 pub(crate) struct Places {
     /// By the scalars' numbers.
-    pub(crate) places: [Option<Place>; 64],
+    pub(crate) places: [Place; 64],
     /// The register of the open list, and how many scalars it has.
     pub(crate) register: u8,
     pub(crate) length: u8,
@@ -24,13 +28,16 @@ impl Places {
         ensures { result ≡ no_places }
     {
         Places {
-            places: [None; 64],
+            places: [Place {
+                register: SPARE,
+                offset: 0,
+            }; 64],
             register: 0,
             length: 0,
         }
     }
 
-    pub(crate) fn get(&self, scalar: u8) -> Option<Place>
+    pub(crate) fn get(&self, scalar: u8) -> Place
         requires { scalar < 64 }
         ensures { result ≡ place_at self.now.places scalar }
     {
@@ -43,10 +50,10 @@ impl Places {
         requires room { self.old.length < 64 }
         ensures { self.new ≡ with_scalar self.old scalar }
     {
-        self.places[usize::from(scalar)] = Some(Place {
+        self.places[usize::from(scalar)] = Place {
             register: self.register,
             offset: self.length,
-        });
+        };
         self.length += 1;
     }
 

@@ -43,6 +43,13 @@ impl Job {
         &self.sequence
     }
 
+    /// The sequence again. It takes no memory.
+    pub fn into_sequence(self) -> Sequence
+        ensures { result ≡ self.sequence }
+    {
+        self.sequence
+    }
+
     /// How many registers, 1 at least.
     pub fn registers(&self) -> u8
         ensures registers { result ≡ self.now.registers }

@@ -1,19 +1,17 @@
 -- The lists of an arrangement as a string, and back.
-use Rattle.std.proofs.Common.{◌≡◌, ℕ, zero, suc, ◌+◌, ◌<◌, ◌≤◌, false, List, [], ◌∷◌, ◌++◌, length, take, get_or, refl, ap, ap₂, sym, subst, ◌∙◌, arith, append_assoc, length-append, ne_eqb}
+use Rattle.std.proofs.Common.{◌≡◌, ℕ, zero, suc, ◌+◌, ◌<◌, ◌≤◌, List, [], ◌∷◌, ◌++◌, length, take, get_or, refl, ap, ap₂, sym, subst, ◌∙◌, arith, append_assoc, length-append}
 use Rattle.std.specs.Prelude.{◌==◌, All}
 use Rattle.std.specs.List.{concat, join_with_byte}
 use Rattle.std.proofs.lemmas.List.{take_more, length-take-le}
 use Rattle.std.proofs.lemmas.List.Splits.{slice_split_none, slice_split_at}
-use Rattle.std.proofs.lemmas.List.Elements.{All-head, All-tail, All-weaker, All-take}
+use Rattle.std.proofs.lemmas.List.Elements.{All-head, All-tail, All-take}
 use Rattle.lay_model.specs.Arrangements.{Arranges}
 use Rattle.lay_cost.specs.Parts.{lists_of, close}
 use Rattle.lay_cost.proofs.Arranged.{small_lists}
+use Rattle.lay_node.proofs.Strung.{no_close}
 
 abbrev pub joined_lists : List (List ℕ) → List ℕ
 joined_lists ls = join_with_byte 255 ls
-
-pub no_close : (l : List ℕ) → All (λ s. s < 64) l → All (λ s. (s == close) ≡ false) l
-no_close l all = All-weaker (λ s. s < 64) (λ s. (s == close) ≡ false) (λ s lt. ne_eqb s close (λ e. absurd (omega (arith, e, lt)))) l all
 
 pub lists_joined : (ls : List (List ℕ)) → All (λ l. All (λ s. s < 64) l) ls → 1 ≤ length ls → lists_of (joined_lists ls) ≡ ls
 lists_joined [] all some = absurd (omega (arith, some))

@@ -14,12 +14,12 @@ use Rattle.lay_tree.specs.Tree.{root, with_scalar, is_complete, is_empty, childr
 use Rattle.lay_tree.specs.Bound.{bound}
 use Rattle.lay_tree.specs.Greedy.{starting_lists}
 use Rattle.lay_tree.specs.Search.{reaches, search_from, search_answer, search_pieces, quota_of}
-use Rattle.lay_search.specs.declared.kept.Kept.{Kept}
-use Rattle.lay_search.specs.declared.descent.Descent.{Descent}
-use Rattle.lay_search.specs.Numbers.{kept_in, kept_reaches}
-use Rattle.lay_search.specs.Descents.{IsNew, Knows}
-use Rattle.lay_search.proofs.Children.{empty_kept, bound_reaches}
-use Rattle.lay_search.proofs.Rooting.{root_unplaced}
+use Rattle.lay_node.specs.declared.kept.Kept.{Kept}
+use Rattle.lay_node.specs.declared.position.Position.{Position}
+use Rattle.lay_node.specs.Numbers.{kept_in, kept_reaches}
+use Rattle.lay_node.specs.Positions.{Knows}
+use Rattle.lay_node.proofs.Children.{empty_kept, bound_reaches}
+use Rattle.lay_node.proofs.Rooting.{root_unplaced}
 
 pub root_incomplete : (seq : Sequence) → (seq.scalars ≡ 0 → ⊥) → is_complete seq root ≡ false
 root_incomplete seq some = ap is_empty (root_unplaced seq) ∙ by seq.scalars some
@@ -42,11 +42,11 @@ or_false false = refl
 pub settled_none : (k : ℕ) (seq : Sequence) (cost : ℕ) → seq.scalars ≡ 0 → true ≡ (reaches (bound k seq root) cost || is_complete seq root)
 settled_none k seq cost none = sym (ap (λ b. reaches (bound k seq root) cost || b) (root_complete seq none) ∙ or_true (reaches (bound k seq root) cost))
 
-pub settled_some : (k : ℕ) (seq : Sequence) (quota cost : ℕ) (string : List ℕ) (old new : Descent) (kept : Kept) (result : Bool) → (seq.scalars ≡ 0 → ⊥) → IsNew seq k quota string cost old → Knows seq old new kept → result ≡ kept_reaches new.registers seq.step kept new.cost → result ≡ (reaches (bound k seq root) cost || is_complete seq root)
-settled_some k seq quota cost string old new kept result some is_new knows is =
+pub settled_some : (k : ℕ) (seq : Sequence) (cost : ℕ) (old new : Position) (kept : Kept) (result : Bool) → (seq.scalars ≡ 0 → ⊥) → old.registers ≡ k → Knows seq old new kept → result ≡ kept_reaches new.registers seq.step kept cost → result ≡ (reaches (bound k seq root) cost || is_complete seq root)
+settled_some k seq cost old new kept result some over knows is =
     is
-    ∙ ap₂ (λ r c. kept_reaches r seq.step kept c) (knows.limits.registers ∙ is_new.registers) (knows.answer.cost ∙ is_new.cost)
-    ∙ ap (λ j. kept_reaches k seq.step j cost) (knows.numbers ∙ ap (λ r. kept_in r seq root) (knows.limits.registers ∙ is_new.registers) ∙ empty_kept k seq root refl)
+    ∙ ap (λ r. kept_reaches r seq.step kept cost) (knows.registers ∙ over)
+    ∙ ap (λ j. kept_reaches k seq.step j cost) (knows.numbers ∙ ap (λ r. kept_in r seq root) (knows.registers ∙ over) ∙ empty_kept k seq root refl)
     ∙ bound_reaches k seq root cost (root_incomplete seq some)
     ∙ sym (ap (λ b. reaches (bound k seq root) cost || b) (root_incomplete seq some) ∙ or_false (reaches (bound k seq root) cost))
 

@@ -7,36 +7,38 @@ use Rattle.lay_cost.specs.Parts.{lists_of}
 use Rattle.lay_tree.specs.declared.answer.PieceEnd.{PieceEnd}
 use Rattle.lay_tree.specs.Tree.{root, with_scalar}
 use Rattle.lay_tree.specs.Search.{Visited, visit, piece_end}
-use Rattle.lay_search.specs.declared.kept.Kept.{Kept}
+use Rattle.lay_node.specs.declared.kept.Kept.{Kept}
 use Rattle.lay_search.specs.declared.descent.Descent.{Descent}
 use Rattle.lay_search.specs.declared.descent.Ending.{Ending}
-use Rattle.lay_search.specs.Descents.{here, HasBest, Visits, visit_of, IsNew, Knows, is_finished}
+use Rattle.lay_node.specs.declared.position.Position.{Position}
+use Rattle.lay_node.specs.Positions.{here, Knows}
+use Rattle.lay_search.specs.Descents.{HasBest, Visits, visit_of, IsNew, is_finished}
 use Rattle.lay_search.specs.Ends.{IsEnd}
+use Rattle.lay_search.proofs.Visiting.{at_position}
 use Rattle.lay_search.proofs.Joining.{joined_lists, lists_of_arrangement}
 
-pub new_best : (seq : Sequence) (k quota : ℕ) (string : List ℕ) (lists : List (List ℕ)) (cost : ℕ) (old new : Descent) (kept : Kept) → IsNew seq k quota string cost old → Knows seq old new kept → string ≡ joined_lists lists → Arranges seq.scalars lists → 1 ≤ seq.scalars → cost ≡ arranged_cost seq lists → HasBest seq new
-new_best seq k quota string lists cost old new kept is_new knows joined arranges some costs =
-    let best : lists_of new.best.items ≡ lists = ap lists_of (knows.answer.best ∙ is_new.best ∙ joined) ∙ lists_of_arrangement seq.scalars lists arranges some in
+pub new_best : (seq : Sequence) (k quota : ℕ) (string : List ℕ) (lists : List (List ℕ)) (cost : ℕ) (d : Descent) (p : Position) → IsNew k quota string cost d → string ≡ joined_lists lists → Arranges seq.scalars lists → 1 ≤ seq.scalars → cost ≡ arranged_cost seq lists → HasBest seq (at_position d p)
+new_best seq k quota string lists cost d p is_new joined arranges some costs =
+    let best : lists_of d.best.items ≡ lists = ap lists_of (is_new.best ∙ joined) ∙ lists_of_arrangement seq.scalars lists arranges some in
     record {
       arranges = subst (λ ls. Arranges seq.scalars ls) (sym best) arranges;
-      cost = knows.answer.cost ∙ is_new.cost ∙ costs ∙ ap (arranged_cost seq) (sym best);
-      room = omega (arith, ap length (knows.marks ∙ is_new.marks));
+      cost = is_new.cost ∙ costs ∙ ap (arranged_cost seq) (sym best);
+      room = omega (arith, ap length is_new.marks);
     }
 
-pub piece_ends : (seq : Sequence) (k quota number : ℕ) (string : List ℕ) (lists : List (List ℕ)) (cost : ℕ) (old new last : Descent) (kept : Kept) (ending : Ending) (end : PieceEnd) → IsNew seq k quota string cost old → Knows seq old new kept → string ≡ joined_lists lists → Arranges seq.scalars lists → 1 ≤ seq.scalars
-    → Visits seq (with_scalar (here new) number ∷ []) new last ending → end ≡ record { arrangement = lists_of last.best.items; cost = last.cost; finished = is_finished ending; log = last.marks.items } → IsEnd seq (piece_end k seq quota lists (with_scalar root number)) end
-piece_ends seq k quota number string lists cost old new last kept ending end is_new knows joined arranges some visits is =
-    let best : lists_of new.best.items ≡ lists = ap lists_of (knows.answer.best ∙ is_new.best ∙ joined) ∙ lists_of_arrangement seq.scalars lists arranges some in
-    let none : new.marks.items ≡ [] = knows.marks ∙ is_new.marks in
-    let whole : new.quota - length new.marks.items ≡ quota = omega (arith, knows.limits.quota, is_new.quota, ap length none) in
-    let v : visit_of seq new (with_scalar (here new) number ∷ []) ≡ piece_end k seq quota lists (with_scalar root number) =
-    ap (λ r. visit r seq (new.quota - length new.marks.items) (with_scalar (here new) number ∷ []) (lists_of new.best.items)) (knows.limits.registers ∙ is_new.registers)
-    ∙ ap₂ (λ m b. visit k seq m (with_scalar (here new) number ∷ []) b) whole best
+pub piece_ends : (seq : Sequence) (k quota number : ℕ) (string : List ℕ) (lists : List (List ℕ)) (cost : ℕ) (d : Descent) (p : Position) (last : Descent) (kept : Kept) (ending : Ending) (end : PieceEnd) → IsNew k quota string cost d → Knows seq d.position p kept → string ≡ joined_lists lists → Arranges seq.scalars lists → 1 ≤ seq.scalars
+    → Visits seq (with_scalar (here p) number ∷ []) (at_position d p) last ending → end ≡ record { arrangement = lists_of last.best.items; cost = last.cost; finished = is_finished ending; log = last.marks.items } → IsEnd seq (piece_end k seq quota lists (with_scalar root number)) end
+piece_ends seq k quota number string lists cost d p last kept ending end is_new knows joined arranges some visits is =
+    let best : lists_of d.best.items ≡ lists = ap lists_of (is_new.best ∙ joined) ∙ lists_of_arrangement seq.scalars lists arranges some in
+    let whole : d.quota - length d.marks.items ≡ quota = omega (arith, is_new.quota, ap length is_new.marks) in
+    let v : visit_of seq (at_position d p) (with_scalar (here p) number ∷ []) ≡ piece_end k seq quota lists (with_scalar root number) =
+    ap (λ r. visit r seq (d.quota - length d.marks.items) (with_scalar (here p) number ∷ []) (lists_of d.best.items)) (knows.registers ∙ is_new.registers)
+    ∙ ap₂ (λ m b. visit k seq m (with_scalar (here p) number ∷ []) b) whole best
     ∙ ap (λ n. visit k seq quota (with_scalar n number ∷ []) lists) knows.nothing in
     record {
       arrangement = ap (λ (e : PieceEnd). e.arrangement) is ∙ visits.best ∙ ap (λ (u : Visited). u.best) v;
       arranges = subst (λ ls. Arranges seq.scalars ls) (visits.best ∙ ap (λ (u : Visited). u.best) v) visits.has_best.arranges;
       cost = ap (λ (e : PieceEnd). e.cost) is ∙ visits.has_best.cost ∙ ap (arranged_cost seq) (visits.best ∙ ap (λ (u : Visited). u.best) v);
       finished = ap (λ (e : PieceEnd). e.finished) is ∙ visits.finished ∙ ap (λ (u : Visited). u.finished) v;
-      marks = ap (λ (e : PieceEnd). e.log) is ∙ visits.marks ∙ ap₂ (λ a (u : Visited). a ++ u.marks) none v;
+      marks = ap (λ (e : PieceEnd). e.log) is ∙ visits.marks ∙ ap₂ (λ a (u : Visited). a ++ u.marks) is_new.marks v;
     }

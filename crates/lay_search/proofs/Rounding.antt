@@ -20,7 +20,7 @@ use Rattle.lay_search.specs.declared.closing.Outcome.{Outcome}
 use Rattle.lay_search.specs.Ends.{IsEnd}
 use Rattle.lay_search.specs.Openings.{outcome_of, answer_by}
 use Rattle.lay_search.specs.Rounds.{visited_of, EndsWell, IsBest, pieces_from, offered, Ran, round_length}
-use Rattle.lay_search.proofs.Ranges.{range_from}
+use Rattle.lay_node.proofs.Ranges.{range_from}
 use Rattle.lay_search.proofs.Opened.{children_of_root}
 
 abbrev make_visited : List (List ℕ) → Bool → List Mark → Visited

@@ -1,7 +1,4 @@
--- What is kept while a search goes over its tree.
-pub mod Levels
-pub mod Numbers
-pub mod Strings
+-- What a search has done.
 pub mod Descents
 pub mod Ends
 pub mod Openings

@@ -1,12 +1,9 @@
 //! The search for an arrangement that costs least: a starting layout, and a tree of which each part is gone through or ruled out by a
-//! bound. What a node's bound needs is kept up to date while the search goes down and up. It knows neither the language nor the machine.
+//! bound. It knows neither the language nor the machine.
 #![tactic(auto)]
 
 mod closing;
 mod descent;
-mod kept;
-mod level;
-mod open_list;
 mod opening;
 mod pieces;
 mod rounds;

@@ -36,7 +36,7 @@ pub fn run_piece(
 {
     let best = string_of(alloc, arrangement.lists())?;
     let mut descent = Descent::new(alloc, seq, registers, quota, best, cost)?;
-    let kept = descent.root(seq);
+    let kept = descent.position.begin(seq);
     let ending = descent.visit_scalar(seq, kept, number)?;
     end_of(alloc, descent, ending)
 }

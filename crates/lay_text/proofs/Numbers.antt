@@ -24,7 +24,7 @@ decimal_lacks mark n below = decimal_by_steps (λ m ds. Lacks mark ds)
     n
 
 -- what has no space ends where the space is
-same_front : (one two x y : List ℕ) → Lacks 32 one → Lacks 32 two → IsSpacedOff x → IsSpacedOff y → one ++ x ≡ two ++ y → (one ≡ two) × (x ≡ y)
+pub same_front : (one two x y : List ℕ) → Lacks 32 one → Lacks 32 two → IsSpacedOff x → IsSpacedOff y → one ++ x ≡ two ++ y → (one ≡ two) × (x ≡ y)
 same_front [] [] x y g h p q e = (refl, e)
 same_front [] (c ∷ two) [] y g h p q e = absurd cc
 same_front [] (c ∷ two) (a ∷ x) y g h p q e = absurd (h.0 (let same : c ≡ a = cc in same ∙ p))
@@ -44,7 +44,7 @@ same_number m n x y lt less p q e =
 pub field_is : (digits rest other : List ℕ) (n : ℕ) → n < 2 ^ 64 → Lacks 32 digits → IsSpacedOff rest → IsSpacedOff other → digits ++ rest ≡ decimal n ++ other → digits ≡ decimal n
 field_is digits rest other n lt h p q e = (same_front digits (decimal n) rest other h (decimal_lacks 32 n (omega arith) lt) p q e).0
 
-same_behind : (front x y : List ℕ) → front ++ x ≡ front ++ y → x ≡ y
+pub same_behind : (front x y : List ℕ) → front ++ x ≡ front ++ y → x ≡ y
 same_behind [] x y e = e
 same_behind (f ∷ front) x y e = same_behind front x y cc
 

@@ -39,8 +39,8 @@ fn is_room(weight: u32, accesses: usize, room: u64) -> bool
     }
 }
 
-// The block that the line is of, where it counts so much at most.
-pub(crate) fn read_block(
+/// The block that the line is of, where it counts so much at most.
+pub fn read_block(
     alloc: Global,
     line: &[u8],
     scalars: u8,

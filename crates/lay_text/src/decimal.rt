@@ -5,8 +5,8 @@ use itoa::{Buffer, Integer};
 use std::str;
 use word_base::NoMemory;
 
-// Puts a number in decimal behind a text.
-pub(crate) fn push_decimal(text: &mut Vec<u8>, number: u64) -> Result<(), NoMemory>
+/// Puts a number in decimal behind a text.
+pub fn push_decimal(text: &mut Vec<u8>, number: u64) -> Result<(), NoMemory>
     ensures { OnOk result (text.new.items ≡ text.old.items ++ decimal number) }
 {
     let mut buffer = Buffer::new();
@@ -14,8 +14,8 @@ pub(crate) fn push_decimal(text: &mut Vec<u8>, number: u64) -> Result<(), NoMemo
     Ok(())
 }
 
-// The number that the digits spell, without a leading zero.
-pub(crate) fn read_decimal(digits: &[u8]) -> Option<u64>
+/// The number that the digits spell, without a leading zero.
+pub fn read_decimal(digits: &[u8]) -> Option<u64>
     ensures { MatchOption result ((n : ℕ) → n < 2 ^ 64 → digits.now ≢ decimal n) (λ n. digits.now ≡ decimal n) }
 {
     let Ok(text) = str::from_utf8(digits) else {

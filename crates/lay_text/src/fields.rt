@@ -7,8 +7,8 @@ ghost use Rattle.lay_text.specs.SequenceText.{scalars_line, step_line};
 use crate::decimal::read_decimal;
 use lay_model::MOST_STEP;
 
-// What stands before the first space, and the rest from there on.
-fn front_field(bytes: &[u8]) -> (&[u8], &[u8])
+/// What stands before the first space, and the rest from there on.
+pub fn front_field(bytes: &[u8]) -> (&[u8], &[u8])
     ensures { Lacks 32 result.0.now × IsSpacedOff result.1.now × (bytes.now ≡ result.0.now ++ result.1.now) }
 {
     match bytes.iter().position(|byte| *byte == b' ') {

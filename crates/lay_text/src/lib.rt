@@ -10,7 +10,10 @@ mod lines;
 mod reading;
 mod writing;
 
+pub use block_lines::read_block;
+pub use decimal::{push_decimal, read_decimal};
 pub use fault::SeqFault;
+pub use fields::front_field;
 pub use laws::written_sequences_are_read;
 pub use reading::read_sequence;
-pub use writing::write_sequence;
+pub use writing::{push_blocks, push_number, push_spaced, write_sequence};

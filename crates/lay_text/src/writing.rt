@@ -9,21 +9,21 @@ use lay_model::{Block, Sequence};
 use std::alloc::Global;
 use word_base::NoMemory;
 
-// The line of a word, which ends with a space, and a number.
-fn push_number(text: &mut Vec<u8>, word: &[u8], number: u8) -> Result<(), NoMemory>
+/// The line of a word, which ends with a space, and a number.
+pub fn push_number(text: &mut Vec<u8>, word: &[u8], number: u64) -> Result<(), NoMemory>
     ensures { OnOk result (text.new.items ≡ text.old.items ++ with_feed (word.now ++ decimal number)) }
 {
     text.extend_from_slice(word)?;
-    push_decimal(text, u64::from(number))?;
+    push_decimal(text, number)?;
     text.push(b'\n')?;
     Ok(())
 }
 
-// The accesses of a block, each behind one space.
-fn push_accesses(text: &mut Vec<u8>, accesses: &[u8]) -> Result<(), NoMemory>
-    ensures { OnOk result (text.new.items ≡ text.old.items ++ spaced accesses.now) }
+/// Scalars, each behind one space.
+pub fn push_spaced(text: &mut Vec<u8>, scalars: &[u8]) -> Result<(), NoMemory>
+    ensures { OnOk result (text.new.items ≡ text.old.items ++ spaced scalars.now) }
 {
-    for scalar in accesses {
+    for scalar in scalars {
         text.push(b' ')?;
         push_decimal(text, u64::from(*scalar))?;
     }
@@ -37,13 +37,13 @@ fn push_block(text: &mut Vec<u8>, block: &Block) -> Result<(), NoMemory>
 {
     text.extend_from_slice(b"block ")?;
     push_decimal(text, u64::from(block.weight()))?;
-    push_accesses(text, block.accesses())?;
+    push_spaced(text, block.accesses())?;
     text.push(b'\n')?;
     Ok(())
 }
 
-// The lines of all blocks.
-fn push_blocks(text: &mut Vec<u8>, blocks: &[Block]) -> Result<(), NoMemory>
+/// The lines of all blocks.
+pub fn push_blocks(text: &mut Vec<u8>, blocks: &[Block]) -> Result<(), NoMemory>
     ensures text { OnOk result (text.new.items ≡ text.old.items ++ lines_text (map block_line blocks.now)) }
     ensures weights { OnOk result (All (λ b. b.weight < 2 ^ 32) blocks.now) }
 {
@@ -61,9 +61,9 @@ pub fn write_sequence(alloc: Global, sequence: &Sequence) -> Result<Vec<u8>, NoM
     ensures read_back { IfOk result (λ text. Reads text.items sequence.now) }
 {
     let mut text = Vec::new(alloc);
-    push_number(&mut text, b"scalars ", sequence.scalars())?;
+    push_number(&mut text, b"scalars ", u64::from(sequence.scalars()))?;
     if sequence.step() != 1 {
-        push_number(&mut text, b"step ", sequence.step())?;
+        push_number(&mut text, b"step ", u64::from(sequence.step()))?;
     }
     push_blocks(&mut text, sequence.blocks())?;
     text.extend_from_slice(b"end\n")?;

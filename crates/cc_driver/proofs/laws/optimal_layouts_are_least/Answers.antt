@@ -1,6 +1,6 @@
 use Rattle.std.proofs.Common.{◌≡◌, ◌<◌, ◌^◌, ◌∙◌, sym, ap, arith}
 use Rattle.lay_tree.specs.Search.{search_answer, answer_lists, answer_cost}
-use Rattle.lay_search.proofs.Proper.{cost_small}
+use Rattle.lay_node.proofs.Proper.{cost_small}
 use Rattle.cc_driver.proofs.OptimalLines.{optimal_is_certified}
 use Rattle.cc_driver.proofs.laws.optimal_layouts_are_least.Goals as goal
 

@@ -4,7 +4,7 @@ use Rattle.std.specs.Prelude.{slice_index}
 use Rattle.lay_cost.specs.declared.places.Places.{Places}
 use Rattle.lay_cost.specs.Parts.{close, lists_of}
 use Rattle.lay_cost.proofs.PlaceLemmas.{table_cost}
-use Rattle.lay_cost.proofs.Strings.{State, string_small, first_state, scalar_small, scalar_fits, close_fits, scalar_state, close_state, state_table, state_near}
+use Rattle.lay_cost.proofs.Strings.{State, string_small, first_state, scalar_small, scalar_fits, close_fits, scalar_state, close_state, state_table, state_near, node_fits}
 use Rattle.lay_cost.proofs.counting.part_cost.Goals as goal
 use Rattle.lay_cost.proofs.counting.part_cost.Goals.{then-sign, else-sign}
 
@@ -43,4 +43,6 @@ cost_over-requires c =
     state_near c.args.node.now c.loop-sign.sign-index c.loop-sign.places small c.loop-sign.invariant
 
 pub returns : goal.returns
-returns c = c.cost_over.ensures.cost ∙ table_cost c.args.seq.now (lists_of c.args.node.now) c.loop-sign.places.places (state_table c.args.node.now c.loop-sign.sign-index c.loop-sign.places c.loop-sign.invariant c.loop-sign-test.false)
+returns c =
+    let small = string_small c.args.seq.now.scalars c.args.node.now c.scalars-few.ensures.sequence.few c.requires in
+    c.cost_over.ensures.cost ∙ table_cost c.args.seq.now (lists_of c.args.node.now) c.loop-sign.places.places (state_table c.args.node.now c.loop-sign.sign-index c.loop-sign.places c.loop-sign.invariant c.loop-sign-test.false) (node_fits c.args.node.now c.loop-sign.sign-index c.loop-sign.places small c.loop-sign.invariant c.loop-sign-test.false)

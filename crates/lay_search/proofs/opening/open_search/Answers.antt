@@ -1,6 +1,6 @@
 -- The starting layout is the answer, or the pieces make it.
 use Rattle.std.proofs.Common.{◌++◌, ◌∷◌, [], ap, ◌∙◌, arith}
-use Rattle.lay_search.proofs.Proper.{cost_small}
+use Rattle.lay_node.proofs.Proper.{cost_small}
 use Rattle.lay_tree.specs.declared.answer.Mark.TheVariants.{Closed}
 use Rattle.lay_tree.specs.Search.{quota_of}
 use Rattle.lay_search.proofs.Opened.{settled_answer, open_answer}

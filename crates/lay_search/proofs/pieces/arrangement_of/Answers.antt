@@ -4,8 +4,8 @@ use Rattle.std.specs.List.{concat}
 use Rattle.std.proofs.lemmas.List.{take_all}
 use Rattle.lay_model.specs.Arrangements.{Arranges}
 use Rattle.lay_cost.specs.Parts.{node_lists, lists_of}
-use Rattle.lay_search.specs.Strings.{node_of}
-use Rattle.lay_search.proofs.Strung.{lists_are}
+use Rattle.lay_node.specs.Strings.{node_of}
+use Rattle.lay_node.proofs.Strung.{lists_are}
 use Rattle.lay_search.proofs.pieces.arrangement_of.Goals as goal
 
 made : (string : List ℕ) (i : ℕ) (lists : List (List ℕ)) (list : List ℕ) (new : List (List ℕ)) (last : List ℕ) → length string ≤ i → lists ≡ (node_of (take i string)).closed → list ≡ (node_of (take i string)).open_list → last ≡ list → new ≡ lists ++ (last ∷ []) → new ≡ lists_of string

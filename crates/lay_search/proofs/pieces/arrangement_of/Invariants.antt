@@ -1,6 +1,6 @@
 -- The lists of the signs so far.
 use Rattle.std.proofs.Common.{◌≡◌, take}
-use Rattle.lay_search.specs.Strings.{node_of}
+use Rattle.lay_node.specs.Strings.{node_of}
 use Rattle.lay_search.proofs.pieces.arrangement_of.Given as goal
 
 abbrev pub invariant-loop-sign : goal.invariant-loop-sign

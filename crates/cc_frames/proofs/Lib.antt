@@ -1,0 +1,3 @@
+mod Certifying
+pub mod Framing
+mod Loops

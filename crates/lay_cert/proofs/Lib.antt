@@ -1,0 +1,13 @@
+pub mod Numbers
+pub mod Turns
+pub mod Places
+pub mod Exact
+pub mod Written
+pub mod MarkLines
+pub mod Steps
+pub mod Layouts
+pub mod Lists
+pub mod FrameEnds
+pub mod ArrangedLists
+pub mod Examples
+pub mod Verdicts

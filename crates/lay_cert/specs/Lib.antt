@@ -1,0 +1,7 @@
+pub mod Hex
+pub mod Frames
+pub mod Verdicts
+pub mod CertText
+pub mod Marks
+pub mod CertReading
+pub mod LineReading

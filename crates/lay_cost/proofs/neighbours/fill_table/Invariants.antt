@@ -1,8 +1,0 @@
--- The weights of the blocks so far.
-use Rattle.std.proofs.Common.{take}
-use Rattle.lay_cost.specs.Restricted.{in_bits}
-use Rattle.lay_cost.proofs.Pairs.{AreSoFar}
-use Rattle.lay_cost.proofs.neighbours.fill_table.Given as goal
-
-abbrev pub invariant-loop-block : goal.invariant-loop-block
-invariant-loop-block l = AreSoFar (in_bits l.set) (take l.block-index l.seq.blocks) l.weights

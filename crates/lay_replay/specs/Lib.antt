@@ -1,0 +1,2 @@
+pub mod LogVerdicts
+pub mod Walks
