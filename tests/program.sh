@@ -6,6 +6,9 @@ top=$(cd "$(dirname "${BASH_SOURCE[0]}")/.." && pwd)
 room=$(mktemp -d) || exit 1
 trap 'rm -rf "$room"' EXIT
 cd "$room" || exit 1
+program=$top/crates/c25cc/out/c25cc
+# What a build of a function without a scalar reports.
+report='main: 0 scalars, 1 registers, 0 accesses, 0 address instructions, optimal'
 failed=0
 
 fail() { echo "program: $*"; failed=1; }
@@ -17,6 +20,15 @@ wants() {
     got=$("$top/c25cc" "$@"; echo "status $?")
     [ "$got" = "${line:+$line
 }status $status" ] || fail "'$*' gave: $got"
+}
+
+# builds WORD..: a build ends with 0 and puts a line for each function, and a check of what it stored says the same of each.
+builds() {
+    local got checked
+    got=$("$program" "$@") || { fail "'$*' gave: $got"; return; }
+    checked=$("$program" check "$3" "$3.crt") || fail "'check $3' gave: $checked"
+    got=$(sed -E 's/^([A-Za-z_0-9]+): [0-9]+ scalars, [1-4] registers, [0-9]+ accesses, ([0-9]+) address instructions, (optimal|best)$/\1: \3 \2/' <<< "$got")
+    [ "$got" = "$checked" ] || fail "'$*' reports $got, and its check says $checked"
 }
 
 # puts LINES WORD..: a command puts the lines of a file, and ends with the status that the last of them tells.
@@ -55,16 +67,16 @@ image() {
 [ $? -eq 2 ] || { fail 'the program is not there'; exit 1; }
 
 for built in "$top"/examples/*.img; do
-    wants 0 '' build "${built%.img}.c" made.img
+    builds build "${built%.img}.c" made.img
     cmp -s made.img "$built" || fail "${built%.img}.c has another image"
 done
 
 printf 'int main(void){__out(1,5); return 7;}' > a.c
-wants 0 '' build a.c a.img
+builds build a.c a.img
 cmp -s a.img "$top/examples/first.img" || fail 'the image of a source without a line feed'
 printf 'int main(void){return 7;}' > b.c
 { image ce02 ce08 ce07 fe80 0006 ce1f ca07 ce26; printf 'func main 0006 0007\nend\n'; } > wanted.img
-wants 0 '' build b.c made.img
+builds build b.c made.img
 cmp -s made.img wanted.img || fail 'the image of a source without an output'
 wants 2 'words refused'
 wants 2 'words refused' build a.c
@@ -98,7 +110,7 @@ while IFS= read -r row; do
         shift
         [ -n "$ranges" ] || ranges=$(printf 'main 0006 %04x' $(($# - 1)))
         { image "$@"; printf 'func %s %s %s\n' $ranges; echo end; } > wanted.img
-        wants 0 '' build a.c a.img
+        builds build a.c a.img
         cmp -s a.img wanted.img || fail "another image: $row"
     else
         wants 1 "source refused: $answer" build a.c a.img
@@ -120,22 +132,21 @@ nested() {
     }' > nested.c
 }
 nested 195 '1-(' ')'
-wants 0 '' build nested.c made.img
+builds build nested.c made.img
 nested 196 '1-(' ')'
 wants 1 'source refused: syntax at byte 608' build nested.c b.img
 nested 195 '1?(' '):1'
-wants 0 '' build nested.c made.img
+builds build nested.c made.img
 nested 195 'f(' ')'
 wants 1 'source refused: undeclared at byte 410' build nested.c b.img
 nested 195 '((int)' ')'
-wants 0 '' build nested.c made.img
+builds build nested.c made.img
 nested 99000 '(' ')'
-wants 0 '' build nested.c made.img
+builds build nested.c made.img
 awk 'BEGIN { printf "int main(void){"; for (i = 0; i < 197; i++) printf "{"; for (i = 0; i < 198; i++) printf "}" }' > nested.c
-wants 0 '' build nested.c made.img
+builds build nested.c made.img
 
 # The sources of types.txt, each with its fault. A source lies in N.c, and in N.wants is its line, or nothing where it has no fault.
-program=$top/crates/c25cc/out/c25cc
 mkdir sources
 sources=$(LC_ALL=C awk '
     /^#/ || !/ [|] / { next }
@@ -159,13 +170,13 @@ sources=$(LC_ALL=C awk '
 [ "$sources" -ge 465 ] || fail "types.txt has $sources sources"
 # answers_types LINE SOURCE: builds a source without a fault, where LINE is empty, or one with this line.
 answers_types() {
-    local line=$1 got wanted
-    rm -f made.img
+    local line=$1 got
+    rm -f made.img made.img.crt
+    [ -n "$line" ] || { builds build "$2" made.img; return; }
     got=$("$program" build "$2" made.img; echo "status $?")
-    wanted="${line:+$line
-}status $((${#line} > 0))"
-    [ "$got" = "$wanted" ] || fail "$2 gave '$got', and wanted '$line': $(head -c 200 "$2")"
-    [ "${#line}" -gt 0 ] && [ -e made.img ] && fail "an image of a refused source: $(head -c 200 "$2")"
+    [ "$got" = "$line
+status 1" ] || fail "$2 gave '$got', and wanted '$line': $(head -c 200 "$2")"
+    [ -e made.img ] && fail "an image of a refused source: $(head -c 200 "$2")"
 }
 for source in $(seq 1 "$sources"); do
     read -r line < "sources/$source.wants"
@@ -229,7 +240,7 @@ head -c 200000 /dev/zero | tr '\0' ';' > tokens.c
 wants 1 'source refused: syntax at byte 0' build tokens.c b.img
 printf ';' >> tokens.c
 wants 1 'source refused: too many tokens 200001' build tokens.c b.img
-wants 0 '' build a.c a.c
+wants 0 "$report" build a.c a.c
 cmp -s a.c "$top/examples/first.img" || fail 'an image over its own source'
 
 # A line of refusal that can't be put changes no status; an answer that can't be put has status 4.
@@ -325,9 +336,10 @@ asks() {
             ;;
         build)
             cp "$top/examples/first.c" "./${request[1]}"
-            wants 0 '' "$@"
+            wants 0 "${report/1 registers/${request[3]} registers}" "$@"
             cmp -s "./${request[2]}" "$top/examples/first.img" || fail "no image under ${request[2]}: $*"
-            rm -f -- "./${request[1]}" "./${request[2]}"
+            grep -qx "registers ${request[3]}" "./${request[2]}.crt" && grep -qx "step ${request[5]}" "./${request[2]}.crt" || fail "another certificate under ${request[2]}: $*"
+            rm -f -- "./${request[1]}" "./${request[2]}" "./${request[2]}.crt"
             ;;
         run)
             cp ../loop.img "./${request[1]}"
@@ -341,6 +353,12 @@ asks() {
             counted=turns
             [ "${request[0]}" = means ] || counted=steps
             wants 6 "running after ${request[3]} $counted" "$@"
+            rm -f -- "./${request[1]}" "./${request[2]}"
+            ;;
+        check)
+            cp "$top/examples/first.img" "./${request[1]}"
+            printf 'C25 CERTIFICATE 2\nend\n' > "./${request[2]}"
+            wants 0 'main: no frame' "$@"
             rm -f -- "./${request[1]}" "./${request[2]}"
             ;;
         layout)
@@ -360,14 +378,14 @@ while IFS= read -r row; do
     words=()
     [ -n "$line" ] && mapfile -t -d ' ' words < <(printf '%s' "$line")
     # No file can have an empty name.
-    if [ "${row#* | }" = 'build  b' ]; then
+    if [ "${row#* | }" = 'build  b 1 200000 1' ]; then
         wants 3 'read fault: ' "${words[@]}"
     else
         asks "${row#* | }" "${words[@]}"
     fi
 done < <(rows words.txt)
 cd ..
-[ "$lists" -ge 184 ] || fail "words.txt has $lists lists"
+[ "$lists" -ge 217 ] || fail "words.txt has $lists lists"
 wants 2 'words refused' ''
 
 # Files as long as they may be, and one byte longer.
@@ -473,7 +491,7 @@ done
 for ports in "$top"/examples/*.in; do
     example=${ports%.in}
     puts "$example.out" means "$example.c" "$ports"
-    wants 0 '' build "$example.c" made.img
+    builds build "$example.c" made.img
     puts "$example.out" run made.img "$ports"
     puts "$example.out" exec "$example.c" "$ports"
 done
@@ -533,7 +551,7 @@ wants 1 'source refused: limit scalars 99990' exec names.c none
 echo 'int main(void){int *p; p = 0; __out(4, 4); return *p;}' > trap.c
 got=$("$program" exec trap.c none)
 [ $? -eq 7 ] || fail "a trap of exec gave: $got"
-wants 0 '' build trap.c trap.img
+builds build trap.c trap.img
 wants 7 "$got" run trap.img none
 case $got in
     '4 0004
@@ -665,6 +683,13 @@ printf 'scalars 2\nstep 9\nend\n' > sequence
 wants 9 'file refused: sequence bad line 2' layout sequence
 wants 3 'read fault: absent' layout absent
 
+# A sequence of 64 scalars, as long as it may be, is read and searched within two seconds.
+awk 'BEGIN { seed = 12345; for (line = 0; line < 200; line++) { printf "block 1"; for (access = 0; access < 100; access++) { seed = seed * 16807 % 2147483647; printf " %d", int(seed / 65536) % 64 } printf "\n" } }' > part
+{ echo 'scalars 64'; for ((i = (16777216 - 20) / $(wc -c < part); i > 0; i--)); do cat part; done; echo end; } > sequence
+searched() { got=$("$program" layout sequence | head -n 1); }
+within 2000 searched
+[[ $got =~ ^'cost '[0-9]+' ' ]] || fail "a sequence of $(wc -c < sequence) bytes gave: $got"
+
 # Programs whose answers are by hand or by arithmetic here.
 
 # Quotients, remainders and shifts of both kinds.
@@ -676,7 +701,7 @@ puts edges.wants means edges.c edges.ports
 called() { echo "int f$1(void){return 0;}$(awk -v n="$1" 'BEGIN { for (i = n - 1; i > 0; i--) printf "int f%d(void){return f%d() + 1;}", i, i + 1 }')int main(void){return f1();}" > called.c; }
 for row in '200 00c7' '8 0007' '7 0006' '1 0000'; do
     called "${row% *}"
-    wants 0 '' build called.c made.img
+    builds build called.c made.img
     wants 0 "returned ${row#* }" run made.img none
     both 0 "returned ${row#* }" called.c none
 done
@@ -724,7 +749,7 @@ echo 'int main(void){int a; int b; a = __in(0); b = a + 1; __out(1, a + b); retu
 echo '0 0004' > kept.ports
 both 0 '1 0009
 returned 0005' kept.c kept.ports
-wants 0 '' build kept.c kept.img
+builds build kept.c kept.img
 without_stores main < kept.img > changed.img
 wants 0 '1 0009
 returned 0005' run kept.img kept.ports
@@ -745,12 +770,12 @@ int main(void) { for (;;) __out(1, fir(__in(0))); return 0; }
 SOURCE
 printf '0 0008\n0 fffc\n0 0000\n' > filter.ports
 printf '1 0002\n1 0003\n1 0004\ninput 0 ended\n' > filter.wants
-wants 0 '' build filter.c filter.img
+builds build filter.c filter.img
 puts filter.wants run filter.img filter.ports
 puts filter.wants exec filter.c filter.ports
 puts filter.wants means filter.c filter.ports
 length=$(sed -n 's/^words //p' filter.img)
-[ "$length" -le 180 ] || fail "the filter has $length words"
+[ "$length" -le 170 ] || fail "the filter has $length words"
 without_stores fir < filter.img > changed.img
 "$program" run changed.img filter.ports > got
 cmp -s got filter.wants && fail 'the filter does without its stores'

@@ -2,6 +2,7 @@
 use Rattle.std.proofs.Common.{◌≡◌, ◌≢◌, ℕ, List, Ok, Err, refl, sym, subst}
 use Rattle.std.specs.Prelude.{Result, IfErr, IsErrAnd}
 use Rattle.c_tree.specs.TypedTree.{ProgramTree}
+use Rattle.cc_frames.specs.declared.options.Options.{Options}
 use Rattle.cc_image.specs.Faults.{Says}
 use Rattle.cc_image.specs.declared.fault.TranslationFault.{TranslationFault}
 use Rattle.cc_image.specs.declared.fault.TranslationFault.TheVariants as translation
@@ -16,8 +17,8 @@ passed_on (Ok a) given P is h = absurd is
 passed_on (Err e) given P is h = subst P (sym is) h
 
 -- what the image of a program is refused for is a fault of its source
-pub no_image : (bytes : List ℕ) (program : ProgramTree) (fault : TranslationFault) → HasProgram bytes program → Says program fault → of_translation_fault fault ≢ faults.NoMemory
-    → HasFault bytes (of_translation_fault fault)
-no_image bytes program (translation.Plan why) h says some = (h.0, h.1, h.2, h.3, (program, h.4, says))
-no_image bytes program (translation.Link why) h says some = (h.0, h.1, h.2, h.3, (program, h.4, says))
-no_image bytes program translation.NoMemory h says some = absurd (some refl)
+pub no_image : (o : Options) (bytes : List ℕ) (program : ProgramTree) (fault : TranslationFault) → HasProgram bytes program → Says o program fault → of_translation_fault fault ≢ faults.NoMemory
+    → HasFault o bytes (of_translation_fault fault)
+no_image o bytes program (translation.Plan why) h says some = (h.0, h.1, h.2, h.3, (program, h.4, says))
+no_image o bytes program (translation.Link why) h says some = (h.0, h.1, h.2, h.3, (program, h.4, says))
+no_image o bytes program translation.NoMemory h says some = absurd (some refl)

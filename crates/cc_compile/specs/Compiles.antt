@@ -9,16 +9,20 @@ use Rattle.c_tree.specs.TypedTree.{ProgramTree}
 use Rattle.c_rules.specs.Checked.{IsTyped}
 use Rattle.c25_isa.specs.Agrees.{Agrees}
 use Rattle.c25_isa.specs.Image.{Contents}
-use Rattle.cc_image.specs.Images.{HasImage}
+use Rattle.lay_cert.specs.Frames.{Frame}
+use Rattle.cc_frames.specs.declared.options.Options.{Options}
+use Rattle.cc_image.specs.Images.{HasFrames, HasImage}
 use Rattle.cc_thin.specs.Thin.{IsThinProgram}
 
--- the bytes have a tree, this a typed program, and that has the image. Where the program is a thin one, the words do what it does
-pub record IsBuilt (bytes : List ℕ) (image : Contents) : Type 0 where
+-- the bytes have a tree, this a typed program, and that has the image and the frames, which are laid out as is chosen. Where the program is a thin
+-- one, the words do what it does
+pub record IsBuilt (o : Options) (bytes : List ℕ) (image : Contents) (frames : List Frame) : Type 0 where
   pub tokens : List Token
   pub source : UnitTree
   pub program : ProgramTree
   pub lexes : Lexes bytes tokens
   pub is_source : IsSource tokens source
   pub typed : IsTyped source program
-  pub has : HasImage program image
+  pub has : HasImage o program image
+  pub framed : HasFrames o program frames
   pub agrees : IsThinProgram program → Agrees (source_run program) image.words

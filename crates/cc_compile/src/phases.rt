@@ -1,31 +1,69 @@
 //! The compilation of one source.
-ghost use Rattle.std.specs.Prelude.{◌≢◌, ◌<◌, ◌^◌, length, IfOk, IfErr};
+ghost use Rattle.std.specs.Prelude.{◌≡◌, ◌≢◌, ◌<◌, ◌^◌, length, map, All, IfOk, IfErr};
 ghost use Rattle.cc_fault.specs.declared.fault.BuildFault.TheVariants as faults;
 ghost use Rattle.cc_fault.specs.SourceFaults.{HasFault};
 ghost use Rattle.cc_compile.specs.Compiles.{IsBuilt};
+ghost use Rattle.cc_frames.specs.Frames.{AreOptions, ClaimsHold};
+ghost use Rattle.cc_frames.specs.Rows.{row_of};
 
 use crate::front::typed_program;
 use c25_isa::Image;
 use cc_fault::BuildFault;
-use cc_image::translate;
+use cc_frames::{Options, report_rows};
+use cc_image::{Translated, translate};
+use cc_report::ReportRow;
+use lay_cert::Certificate;
 use std::alloc::Global;
+use std::thread::Threads;
+use word_base::{Gate, NoMemory};
 
 /// What a source is compiled to.
 #[derive(Debug, Drop)]
 pub struct Built {
     /// The words, and the range of each function.
     pub image: Image,
+    /// A frame for each function, in order: its accesses, its layout, and what shows that no layout costs less.
+    pub certificate: Certificate,
+    /// What a report tells of each function, in order.
+    pub rows: Vec<ReportRow>,
 }
 
-/// Compiles a source of less than 2^32 bytes. It is refused for its first fault, in the order of `BuildFault`.
-pub fn compile(alloc: Global, source: &[u8]) -> Result<Built, BuildFault>
-    requires short { length source.now < 2 ^ 32 }
-    // The image is that of the source's program.
-    ensures built { IfOk result (λ built. IsBuilt source.now built.image) }
-    // A refusal has its cause, unless memory is wanting.
-    ensures refused { IfErr result (λ why. why ≢ faults.NoMemory → HasFault source.now why) }
+// With what a report tells.
+fn with_rows(alloc: Global, translated: Translated) -> Result<Built, NoMemory>
+    ensures image { IfOk result (λ built. built.image ≡ translated.image) }
+    ensures certificate { IfOk result (λ built. built.certificate ≡ translated.certificate) }
+    ensures rows { IfOk result (λ built. built.rows.items ≡ map row_of built.certificate) }
 {
+    let rows = report_rows(alloc, &translated.certificate.frames)?;
+    Ok(Built {
+        image: translated.image,
+        certificate: translated.certificate,
+        rows,
+    })
+}
+
+/// Compiles a source of less than 2^32 bytes, with frames laid out as is chosen. It is refused for its first fault, in the order of
+/// `BuildFault`. The pieces of a search run in threads where these can be made, and the gate sees each of them begin and end; what the
+/// source is compiled to is the same whatever the threads do.
+pub fn compile<R: Threads + Sync, G: Gate + Sync>(
+    rt: &R,
+    alloc: Global,
+    gate: &G,
+    source: &[u8],
+    options: Options,
+) -> Result<Built, BuildFault>
+    requires short { length source.now < 2 ^ 32 }
+    requires options { AreOptions options }
+    // The image is that of the source's program, and the certificate has its frames.
+    ensures built { IfOk result (λ built. IsBuilt options source.now built.image built.certificate) }
+    // A frame costs what it says, and where it is claimed to be optimal no layout costs less.
+    ensures claims { IfOk result (λ built. All ClaimsHold built.certificate) }
+    ensures rows { IfOk result (λ built. built.rows.items ≡ map row_of built.certificate) }
+    // A refusal has its cause, unless memory is wanting.
+    ensures refused { IfErr result (λ why. why ≢ faults.NoMemory → HasFault options source.now why) }
+{
+    cc_thin::thin_images_agree();
     let program = typed_program(alloc, source)?;
-    let image = translate(alloc, &program)?;
-    Ok(Built { image })
+    let translated = translate(rt, alloc, gate, options, &program)?;
+    Ok(with_rows(alloc, translated)?)
 }

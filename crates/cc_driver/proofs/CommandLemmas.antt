@@ -1,7 +1,7 @@
 -- The told files come to one thing or are refused for one, for each command.
-use Rattle.std.proofs.Common.{◌≡◌, ◌≢◌, ◌∙◌, ℕ, List, Option, refl, sym, ap, subst, lit<, IsTrue}
+use Rattle.std.proofs.Common.{◌≡◌, ◌≢◌, ◌∙◌, ◌++◌, ℕ, List, [], ◌∷◌, refl, sym, ap, subst, lit<, IsTrue}
 use Rattle.std.specs.Str.Lines.{lines}
-use Rattle.cc_words.specs.Asked.{Asked, ToBuild, ToRun, ToEvaluate, ToExecute, ToLayOut}
+use Rattle.cc_words.specs.Asked.{Asked, ToBuild, ToRun, ToEvaluate, ToExecute, ToLayOut, ToCheck}
 use Rattle.word_base.specs.Ports.{Outputs, input_of}
 use Rattle.c_tree.specs.SourceRun.{source_run}
 use Rattle.c25_isa.specs.Image.{Contents}
@@ -20,8 +20,11 @@ use Rattle.c25_image.proofs.PortLines.{bad_no_text, one_port_text}
 use Rattle.lay_text.specs.Lines.{filled}
 use Rattle.lay_text.proofs.Exact.{sequences_same, says_not_read}
 use Rattle.lay_tree.specs.Search.{search_answer}
-use Rattle.cc_image.specs.Images.{HasImage}
-use Rattle.cc_image.proofs.OneImage.{one as one_image}
+use Rattle.cc_image.specs.Images.{HasImage, HasFrames}
+use Rattle.lay_cert.specs.Frames.{Frame}
+use Rattle.lay_cert.proofs.Exact.{reads_same as certificates_same, says_not_read as no_certificate}
+use Rattle.cc_frames.specs.declared.options.Options.{Options}
+use Rattle.cc_image.proofs.OneImage.{one as one_image, frames_same}
 use Rattle.cc_fault.specs.SourceFaults.{HasProgram, IsAccepted}
 use Rattle.cc_fault.proofs.OneFault.{accepted_no_fault, program_no_fault, same_program}
 use Rattle.cc_compile.specs.Compiles.{IsBuilt}
@@ -32,32 +35,55 @@ use Rattle.cc_text.specs.MeansText.{means_answer}
 use Rattle.cc_text.specs.LayoutText.{layout_answer}
 use Rattle.cc_driver.specs.World.{Shelves}
 use Rattle.cc_driver.specs.Fetches.{AreFetched}
-use Rattle.cc_driver.specs.Build.{BuildsTo, IsRefusedFor}
-use Rattle.cc_driver.specs.Run.{ImageRuns, RunsTo, RunRefused, BadImage, BadPorts, ArePortsRefused}
+use Rattle.cc_driver.specs.Stores.{Stored, FailsAtOne}
+use Rattle.cc_driver.specs.Build.{plain_options, chosen_options, report_of, BuildsTo, IsRefusedFor}
+use Rattle.cc_driver.specs.Run.{IsImageOf, IsImageRefused, ImageRuns, RunsTo, RunRefused, BadImage, BadPorts, ArePortsRefused}
 use Rattle.cc_driver.specs.Means.{MeansTo, MeansRefused, PortsFirst, SourceThen}
 use Rattle.cc_driver.specs.Exec.{ExecutesTo, ExecuteRefused}
 use Rattle.cc_driver.specs.Exec as exec
 use Rattle.cc_driver.specs.Layout.{LaysOutTo, LayoutRefused}
-use Rattle.cc_driver.specs.Commands.{files_of, Comes, Rejects}
+use Rattle.cc_driver.specs.Check.{ChecksTo, CheckRefused, IsCertificateRefused, check_answer}
+use Rattle.cc_driver.specs.Check as check
+use Rattle.cc_driver.specs.Commands.{files_of, stores_under, Comes, Rejects}
 use Rattle.cc_driver.specs.Puts.{IsStatus}
-use Rattle.cc_driver.proofs.StatusLemmas.{quiet_is, of_stop, of_outcome}
+use Rattle.cc_driver.proofs.StatusLemmas.{of_report, of_stop, of_outcome, of_check}
 use Rattle.cc_driver.proofs.FileLemmas.{one_file, two_files}
 
 -- ---- what is refused or done was told
 
-pub comes_told : (what : Asked) (shelf : Shelves) (answer : Answered) (stored : Option (List ℕ)) → Comes what shelf answer stored → AreFetched shelf (files_of what)
-comes_told (ToBuild source image) shelf answer stored c = ((c.bytes, c.fetched), tt {0})
-comes_told (ToRun image ports steps) shelf answer stored c = ((c.0.bytes, c.0.fetched), ((c.0.more, c.0.also), tt {0}))
-comes_told (ToEvaluate source ports turns) shelf answer stored c = ((c.0.bytes, c.0.fetched), ((c.0.more, c.0.also), tt {0}))
-comes_told (ToExecute source ports steps) shelf answer stored c = ((c.0.bytes, c.0.fetched), ((c.0.more, c.0.also), tt {0}))
-comes_told (ToLayOut sequence registers budget) shelf answer stored c = ((c.0.bytes, c.0.fetched), tt {0})
+pub comes_told : (what : Asked) (shelf : Shelves) (answer : Answered) (texts : List Stored) → Comes what shelf answer texts → AreFetched shelf (files_of what)
+comes_told (ToBuild source image registers budget step) shelf answer texts c = ((c.bytes, c.fetched), tt {0})
+comes_told (ToRun image ports steps) shelf answer texts c = ((c.0.bytes, c.0.fetched), ((c.0.more, c.0.also), tt {0}))
+comes_told (ToEvaluate source ports turns) shelf answer texts c = ((c.0.bytes, c.0.fetched), ((c.0.more, c.0.also), tt {0}))
+comes_told (ToExecute source ports steps) shelf answer texts c = ((c.0.bytes, c.0.fetched), ((c.0.more, c.0.also), tt {0}))
+comes_told (ToLayOut sequence registers budget) shelf answer texts c = ((c.0.bytes, c.0.fetched), tt {0})
+comes_told (ToCheck image certificate) shelf answer texts c = ((c.0.bytes, c.0.fetched), ((c.0.more, c.0.also), tt {0}))
 
 pub refuses_told : (what : Asked) (shelf : Shelves) (why : Why) → Rejects what shelf why → AreFetched shelf (files_of what)
-refuses_told (ToBuild source image) shelf why r = ((r.bytes, r.fetched), tt {0})
+refuses_told (ToBuild source image registers budget step) shelf why r = ((r.bytes, r.fetched), tt {0})
 refuses_told (ToRun image ports steps) shelf why r = ((r.bytes, r.fetched), ((r.more, r.also), tt {0}))
 refuses_told (ToEvaluate source ports turns) shelf why r = ((r.bytes, r.fetched), ((r.more, r.also), tt {0}))
 refuses_told (ToExecute source ports steps) shelf why r = ((r.bytes, r.fetched), ((r.more, r.also), tt {0}))
 refuses_told (ToLayOut sequence registers budget) shelf why r = ((r.bytes, r.fetched), tt {0})
+refuses_told (ToCheck image certificate) shelf why r = ((r.bytes, r.fetched), ((r.more, r.also), tt {0}))
+
+-- ---- stores
+
+no_parts : (done : List Stored) (next : Stored) (left : List Stored) → [] ≡ done ++ next ∷ left → ⊥
+no_parts [] next left e = cc
+no_parts (x ∷ xs) next left e = cc
+
+none_fails : (what : Asked) (shelf : Shelves) (texts : List Stored) → texts ≡ [] → FailsAtOne texts shelf → stores_under what ≢ []
+none_fails what shelf texts none h = absurd (no_parts h.done h.next h.left (sym none ∙ h.parts))
+
+-- a command at whose store something failed stores
+pub some_store : (what : Asked) (shelf : Shelves) (answer : Answered) (texts : List Stored) → Comes what shelf answer texts → FailsAtOne texts shelf → stores_under what ≢ []
+some_store (ToBuild source image registers budget step) shelf answer texts c h = λ e. cc
+some_store (ToRun image ports steps) shelf answer texts c h = none_fails (ToRun image ports steps) shelf texts c.1 h
+some_store (ToEvaluate source ports turns) shelf answer texts c h = none_fails (ToEvaluate source ports turns) shelf texts c.1 h
+some_store (ToExecute source ports steps) shelf answer texts c h = none_fails (ToExecute source ports steps) shelf texts c.1 h
+some_store (ToLayOut sequence registers budget) shelf answer texts c h = none_fails (ToLayOut sequence registers budget) shelf texts c.1 h
+some_store (ToCheck image certificate) shelf answer texts c h = none_fails (ToCheck image certificate) shelf texts c.1 h
 
 -- ---- ports
 
@@ -70,17 +96,37 @@ ports_refused name bytes why lines r text = not_ports bytes r.fault lines r.some
 
 -- ---- build
 
-accepted : (bytes : List ℕ) (image : Contents) → IsBuilt bytes image → IsAccepted bytes
-accepted bytes image b = (b.tokens, b.source, b.lexes, b.is_source, (b.program, b.typed, (image, b.has)))
+accepted : (o : Options) (bytes : List ℕ) (image : Contents) (frames : List Frame) → IsBuilt o bytes image frames → IsAccepted o bytes
+accepted o bytes image frames b = (b.tokens, b.source, b.lexes, b.is_source, (b.program, b.typed, (image, b.has)))
 
-build_one : (bytes : List ℕ) (a b : Answered) (s t : Option (List ℕ)) → BuildsTo bytes a s → BuildsTo bytes b t → a ≡ b
-build_one bytes a b s t c d = c.quiet_is ∙ sym d.quiet_is
+typed_of : (o : Options) (bytes : List ℕ) (image : Contents) (frames : List Frame) (b : IsBuilt o bytes image frames) → HasProgram bytes b.program
+typed_of o bytes image frames b = (b.tokens, b.source, b.lexes, b.is_source, b.typed)
 
-build_not : (bytes : List ℕ) (a : Answered) (s : Option (List ℕ)) (why : Why) → BuildsTo bytes a s → IsRefusedFor why bytes → ⊥
-build_not bytes a s why c r = accepted_no_fault bytes r.fault (accepted bytes c.image c.built) r.has
+one_program : (o : Options) (bytes : List ℕ) (a b : Contents) (fs gs : List Frame) (h : IsBuilt o bytes a fs) (k : IsBuilt o bytes b gs) → h.program ≡ k.program
+one_program o bytes a b fs gs h k = same_program bytes h.program k.program (typed_of o bytes a fs h) (typed_of o bytes b gs k)
 
-build_refused_one : (bytes : List ℕ) (v w : Why) → IsRefusedFor v bytes → IsRefusedFor w bytes → refusal_status v ≡ refusal_status w
-build_refused_one bytes v w r s = ap refusal_status r.is ∙ sym (ap refusal_status s.is)
+one_built : (o : Options) (bytes : List ℕ) (a b : Contents) (fs gs : List Frame) → IsBuilt o bytes a fs → IsBuilt o bytes b gs → a ≡ b
+one_built o bytes a b fs gs h k = one_image o k.program a b (subst (λ p. HasImage o p a) (one_program o bytes a b fs gs h k) h.has) k.has
+
+one_framed : (o : Options) (bytes : List ℕ) (a b : Contents) (fs gs : List Frame) → IsBuilt o bytes a fs → IsBuilt o bytes b gs → fs ≡ gs
+one_framed o bytes a b fs gs h k = frames_same o k.program fs gs (subst (λ p. HasFrames o p fs) (one_program o bytes a b fs gs h k) h.framed) k.framed
+
+build_one : (o : Options) (name bytes : List ℕ) (a b : Answered) (s t : List Stored) → BuildsTo o name bytes a s → BuildsTo o name bytes b t → a ≡ b
+build_one o name bytes a b s t c d = c.reported ∙ ap report_of (one_framed o bytes c.image d.image c.frames d.frames c.built d.built) ∙ sym d.reported
+
+build_not : (o : Options) (name bytes : List ℕ) (a : Answered) (s : List Stored) (why : Why) → BuildsTo o name bytes a s → IsRefusedFor o why bytes → ⊥
+build_not o name bytes a s why c r = accepted_no_fault o bytes r.fault (accepted o bytes c.image c.frames c.built) r.has
+
+build_refused_one : (o : Options) (bytes : List ℕ) (v w : Why) → IsRefusedFor o v bytes → IsRefusedFor o w bytes → refusal_status v ≡ refusal_status w
+build_refused_one o bytes v w r s = ap refusal_status r.is ∙ sym (ap refusal_status s.is)
+
+-- ---- images and certificates
+
+one_contents : (bytes : List ℕ) (a b : Contents) → IsImageOf a bytes → IsImageOf b bytes → a ≡ b
+one_contents bytes a b h k = text_injective a b h.whole k.whole (sym h.text ∙ k.text)
+
+not_image : (name bytes : List ℕ) (why : Why) (contents : Contents) → IsImageRefused name bytes why → IsImageOf contents bytes → ⊥
+not_image name bytes why contents r is = says_no_text bytes r.fault r.some r.says contents is.whole is.text
 
 -- ---- run
 
@@ -106,15 +152,15 @@ image_run_one words others lines more steps a b same_words same_lines r s =
 
 run_one : (i p : List ℕ) (steps : ℕ) (a b : Answered) → RunsTo i p steps a → RunsTo i p steps b → a ≡ b
 run_one i p steps a b r s =
-    let contents = text_injective r.contents s.contents r.image.whole s.image.whole (sym r.image.text ∙ s.image.text) in
+    let contents = one_contents i r.contents s.contents r.image s.image in
     image_run_one _ _ _ _ steps a b (ap (λ (c : Contents). c.words) contents) (one_port_text p r.lines s.lines r.ports s.ports) r.runs s.runs
 
 run_not : (image ports i p : List ℕ) (steps : ℕ) (a : Answered) (why : Why) → RunsTo i p steps a → RunRefused image ports i p why → ⊥
-run_not image ports i p steps a why r (BadImage fault some says is) = says_no_text i fault some says r.contents r.image.whole r.image.text
+run_not image ports i p steps a why r (BadImage bad) = not_image image i why r.contents bad r.image
 run_not image ports i p steps a why r (BadPorts contents is bad) = ports_refused ports p why r.lines bad r.ports
 
 run_status_nine : (image ports i p : List ℕ) (why : Why) → RunRefused image ports i p why → refusal_status why ≡ 9
-run_status_nine image ports i p why (BadImage fault some says is) = ap refusal_status is
+run_status_nine image ports i p why (BadImage bad) = ap refusal_status bad.is
 run_status_nine image ports i p why (BadPorts contents is bad) = ap refusal_status bad.is
 
 -- ---- means
@@ -130,7 +176,7 @@ means_one s p turns a b m n =
 
 means_not : (ports s p : List ℕ) (turns : ℕ) (a : Answered) (why : Why) → MeansTo s p turns a → MeansRefused ports s p why → ⊥
 means_not ports s p turns a why m (PortsFirst bad) = ports_refused ports p why m.lines bad m.ports
-means_not ports s p turns a why m (SourceThen lines text fault none is) = program_no_fault s m.program fault m.typed none
+means_not ports s p turns a why m (SourceThen lines text fault none is) = program_no_fault plain_options s m.program fault m.typed none
 
 means_refused_one : (ports s p : List ℕ) (v w : Why) → MeansRefused ports s p v → MeansRefused ports s p w → refusal_status v ≡ refusal_status w
 means_refused_one ports s p v w (PortsFirst bad) (PortsFirst worse) = ap refusal_status bad.is ∙ sym (ap refusal_status worse.is)
@@ -141,22 +187,14 @@ means_refused_one ports s p v w (SourceThen lines text fault none is) (SourceThe
 
 -- ---- exec
 
-typed_of : (bytes : List ℕ) (image : Contents) (b : IsBuilt bytes image) → HasProgram bytes b.program
-typed_of bytes image b = (b.tokens, b.source, b.lexes, b.is_source, b.typed)
-
-one_built : (bytes : List ℕ) (a b : Contents) → IsBuilt bytes a → IsBuilt bytes b → a ≡ b
-one_built bytes a b h k =
-    let program = same_program bytes h.program k.program (typed_of bytes a h) (typed_of bytes b k) in
-    one_image k.program a b (subst (λ p. HasImage p a) program h.has) k.has
-
 exec_one : (s p : List ℕ) (steps : ℕ) (a b : Answered) → ExecutesTo s p steps a → ExecutesTo s p steps b → a ≡ b
 exec_one s p steps a b r q =
-    let contents = one_built s r.image q.image r.built q.built in
+    let contents = one_built plain_options s r.image q.image r.frames q.frames r.built q.built in
     image_run_one _ _ _ _ steps a b (ap (λ (c : Contents). c.words) contents) (one_port_text p r.lines q.lines r.ports q.ports) r.runs q.runs
 
 exec_not : (ports s p : List ℕ) (steps : ℕ) (a : Answered) (why : Why) → ExecutesTo s p steps a → ExecuteRefused ports s p why → ⊥
 exec_not ports s p steps a why r (exec.PortsFirst bad) = ports_refused ports p why r.lines bad r.ports
-exec_not ports s p steps a why r (exec.SourceThen lines text fault has is) = accepted_no_fault s fault (accepted s r.image r.built) has
+exec_not ports s p steps a why r (exec.SourceThen lines text fault has is) = accepted_no_fault plain_options s fault (accepted plain_options s r.image r.frames r.built) has
 
 exec_refused_one : (ports s p : List ℕ) (v w : Why) → ExecuteRefused ports s p v → ExecuteRefused ports s p w → refusal_status v ≡ refusal_status w
 exec_refused_one ports s p v w (exec.PortsFirst bad) (exec.PortsFirst worse) = ap refusal_status bad.is ∙ sym (ap refusal_status worse.is)
@@ -178,12 +216,28 @@ layout_not name bytes registers budget a why c r = r.some (says_not_read bytes c
 layout_status_nine : (name bytes : List ℕ) (why : Why) → LayoutRefused name bytes why → refusal_status why ≡ 9
 layout_status_nine name bytes why r = ap refusal_status r.is
 
+-- ---- check
+
+check_one : (i c : List ℕ) (a b : Answered) → ChecksTo i c a → ChecksTo i c b → a ≡ b
+check_one i c a b r q =
+    let contents = one_contents i r.contents q.contents r.image q.image in
+    let frames = certificates_same c r.frames q.frames r.reads q.reads in
+    r.is ∙ ap (λ x. check_answer x r.frames) contents ∙ ap (check_answer q.contents) frames ∙ sym q.is
+
+check_not : (image certificate i c : List ℕ) (a : Answered) (why : Why) → ChecksTo i c a → CheckRefused image certificate i c why → ⊥
+check_not image certificate i c a why r (check.BadImage bad) = not_image image i why r.contents bad r.image
+check_not image certificate i c a why r (check.BadCertificate contents is bad) = bad.some (no_certificate c r.frames r.reads bad.fault bad.says)
+
+check_status_nine : (image certificate i c : List ℕ) (why : Why) → CheckRefused image certificate i c why → refusal_status why ≡ 9
+check_status_nine image certificate i c why (check.BadImage bad) = ap refusal_status bad.is
+check_status_nine image certificate i c why (check.BadCertificate contents is bad) = ap refusal_status bad.is
+
 -- ---- all commands
 
-pub comes_one : (what : Asked) (shelf : Shelves) (tells : IsTrue shelf.tells) (a b : Answered) (s t : Option (List ℕ)) → Comes what shelf a s → Comes what shelf b t → a ≡ b
-comes_one (ToBuild source image) shelf tells a b s t c d =
+pub comes_one : (what : Asked) (shelf : Shelves) (tells : IsTrue shelf.tells) (a b : Answered) (s t : List Stored) → Comes what shelf a s → Comes what shelf b t → a ≡ b
+comes_one (ToBuild source image registers budget step) shelf tells a b s t c d =
     let h = one_file shelf tells _ _ _ c d in
-    build_one h.0 a b s t h.1 h.2
+    build_one (chosen_options registers budget step) image h.0 a b s t h.1 h.2
 comes_one (ToRun image ports steps) shelf tells a b s t c d =
     let h = two_files shelf tells _ _ _ _ c.0 d.0 in
     run_one h.0 h.1.0 steps a b h.1.1 h.1.2
@@ -196,11 +250,14 @@ comes_one (ToExecute source ports steps) shelf tells a b s t c d =
 comes_one (ToLayOut sequence registers budget) shelf tells a b s t c d =
     let h = one_file shelf tells _ _ _ c.0 d.0 in
     layout_one h.0 registers budget a b h.1 h.2
+comes_one (ToCheck image certificate) shelf tells a b s t c d =
+    let h = two_files shelf tells _ _ _ _ c.0 d.0 in
+    check_one h.0 h.1.0 a b h.1.1 h.1.2
 
-pub comes_not : (what : Asked) (shelf : Shelves) (tells : IsTrue shelf.tells) (a : Answered) (s : Option (List ℕ)) (why : Why) → Comes what shelf a s → Rejects what shelf why → ⊥
-comes_not (ToBuild source image) shelf tells a s why c r =
+pub comes_not : (what : Asked) (shelf : Shelves) (tells : IsTrue shelf.tells) (a : Answered) (s : List Stored) (why : Why) → Comes what shelf a s → Rejects what shelf why → ⊥
+comes_not (ToBuild source image registers budget step) shelf tells a s why c r =
     let h = one_file shelf tells _ _ _ c r in
-    build_not h.0 a s why h.1 h.2
+    build_not (chosen_options registers budget step) image h.0 a s why h.1 h.2
 comes_not (ToRun image ports steps) shelf tells a s why c r =
     let h = two_files shelf tells _ _ _ _ c.0 r in
     run_not image ports h.0 h.1.0 steps a why h.1.1 h.1.2
@@ -213,11 +270,14 @@ comes_not (ToExecute source ports steps) shelf tells a s why c r =
 comes_not (ToLayOut sequence registers budget) shelf tells a s why c r =
     let h = one_file shelf tells _ _ _ c.0 r in
     layout_not sequence h.0 registers budget a why h.1 h.2
+comes_not (ToCheck image certificate) shelf tells a s why c r =
+    let h = two_files shelf tells _ _ _ _ c.0 r in
+    check_not image certificate h.0 h.1.0 a why h.1.1 h.1.2
 
 pub refuses_one : (what : Asked) (shelf : Shelves) (tells : IsTrue shelf.tells) (v w : Why) → Rejects what shelf v → Rejects what shelf w → refusal_status v ≡ refusal_status w
-refuses_one (ToBuild source image) shelf tells v w r s =
+refuses_one (ToBuild source image registers budget step) shelf tells v w r s =
     let h = one_file shelf tells _ _ _ r s in
-    build_refused_one h.0 v w h.1 h.2
+    build_refused_one (chosen_options registers budget step) h.0 v w h.1 h.2
 refuses_one (ToRun image ports steps) shelf tells v w r s =
     let h = two_files shelf tells _ _ _ _ r s in
     run_status_nine image ports h.0 h.1.0 v h.1.1 ∙ sym (run_status_nine image ports h.0 h.1.0 w h.1.2)
@@ -230,15 +290,19 @@ refuses_one (ToExecute source ports steps) shelf tells v w r s =
 refuses_one (ToLayOut sequence registers budget) shelf tells v w r s =
     let h = one_file shelf tells _ _ _ r s in
     layout_status_nine sequence h.0 v h.1 ∙ sym (layout_status_nine sequence h.0 w h.2)
+refuses_one (ToCheck image certificate) shelf tells v w r s =
+    let h = two_files shelf tells _ _ _ _ r s in
+    check_status_nine image certificate h.0 h.1.0 v h.1.1 ∙ sym (check_status_nine image certificate h.0 h.1.0 w h.1.2)
 
 image_run_status : (words : List ℕ) (lines : List (ℕ × ℕ)) (steps : ℕ) (answer : Answered) → ImageRuns words lines steps answer → IsStatus answer.status
 image_run_status words lines steps answer r = subst (λ a. IsStatus a.status) (sym r.is) (of_stop r.stands)
 
 -- what a command comes to has a status that there is
-pub comes_status : (what : Asked) (shelf : Shelves) (answer : Answered) (stored : Option (List ℕ)) → Comes what shelf answer stored → IsStatus answer.status
-comes_status (ToBuild source image) shelf answer stored c = quiet_is answer c.holds.quiet_is
-comes_status (ToRun image ports steps) shelf answer stored c = image_run_status c.0.holds.contents.words c.0.holds.lines steps answer c.0.holds.runs
-comes_status (ToEvaluate source ports turns) shelf answer stored c =
+pub comes_status : (what : Asked) (shelf : Shelves) (answer : Answered) (texts : List Stored) → Comes what shelf answer texts → IsStatus answer.status
+comes_status (ToBuild source image registers budget step) shelf answer texts c = of_report answer c.holds.frames c.holds.reported
+comes_status (ToRun image ports steps) shelf answer texts c = image_run_status c.0.holds.contents.words c.0.holds.lines steps answer c.0.holds.runs
+comes_status (ToEvaluate source ports turns) shelf answer texts c =
     subst (λ a. IsStatus a.status) (sym c.0.holds.is) (of_outcome (source_run c.0.holds.program (input_of c.0.holds.lines) turns))
-comes_status (ToExecute source ports steps) shelf answer stored c = image_run_status c.0.holds.image.words c.0.holds.lines steps answer c.0.holds.runs
-comes_status (ToLayOut sequence registers budget) shelf answer stored c = subst (λ a. IsStatus a.status) (sym c.0.holds.is) (0, lit< tt, refl)
+comes_status (ToExecute source ports steps) shelf answer texts c = image_run_status c.0.holds.image.words c.0.holds.lines steps answer c.0.holds.runs
+comes_status (ToLayOut sequence registers budget) shelf answer texts c = subst (λ a. IsStatus a.status) (sym c.0.holds.is) (0, lit< tt, refl)
+comes_status (ToCheck image certificate) shelf answer texts c = subst (λ a. IsStatus a.status) (sym c.0.holds.is) (of_check c.0.holds.contents c.0.holds.frames)

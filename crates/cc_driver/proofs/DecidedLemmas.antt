@@ -1,20 +1,21 @@
 -- What is told decides the status, where no call failed and memory was there.
-use Rattle.std.proofs.Common.{◌≡◌, ◌∙◌, ◌++◌, ℕ, Bool, true, false, List, ◌∷◌, Option, Some, None, refl, sym, ap, subst, inl, inr, IsTrue}
+use Rattle.std.proofs.Common.{◌≡◌, ◌≢◌, ◌∙◌, ◌++◌, ℕ, Bool, true, false, List, [], ◌∷◌, Option, Some, None, refl, sym, ap, subst, inl, inr, IsTrue}
 use Rattle.std.specs.Prelude.{◌⊎◌, IsSome}
 use Rattle.cc_shelf.specs.Counts.{FetchFailed, StoreFailed, Rose}
 use Rattle.cc_words.specs.Asked.{Asked}
 use Rattle.cc_text.specs.Answers.{Answered}
 use Rattle.cc_text.specs.declared.refusal.FileFault.{FileFault}
-use Rattle.cc_text.specs.declared.refusal.FileFault.TheVariants.{Read, TooLong, Image, Ports, Sequence}
+use Rattle.cc_text.specs.declared.refusal.FileFault.TheVariants.{Read, TooLong, Image, Ports, Sequence, Certificate}
 use Rattle.cc_text.specs.Refusals.{Why, file_status, refusal_status}
 use Rattle.cc_driver.specs.World.{Shelves, Sinks}
 use Rattle.cc_driver.specs.Puts.{PutsText, PutWhole, PutPart, PutNothing}
 use Rattle.cc_driver.specs.Fetches.{Wanted, AreFetched, FetchCause, NotFetched, AtFile, ForMemory}
+use Rattle.cc_driver.specs.Stores.{Stored}
 use Rattle.cc_driver.specs.Commands.{files_of, stores_under, Comes, Rejects}
-use Rattle.cc_driver.specs.Work.{WorkRefused, AtFetch, AtFiles, AtStore, AtMemory}
+use Rattle.cc_driver.specs.Work.{WorkRefused, AtFetch, AtFiles, AtStore, AtMemory, AtStoreForMemory}
 use Rattle.cc_driver.specs.Answers.{Answers, IsDone, IsRefused, Decided, IsWrong, ToFile, ToRefusal, IsUnfetchable, NoFile, LongFile}
 use Rattle.cc_driver.proofs.FileLemmas.{all_told, first_one}
-use Rattle.cc_driver.proofs.CommandLemmas.{comes_told, refuses_told, comes_one, comes_not, refuses_one}
+use Rattle.cc_driver.proofs.CommandLemmas.{comes_told, refuses_told, comes_one, comes_not, refuses_one, some_store}
 
 -- an answer that no put failed at has its status
 text_decides : (text : Option (List ℕ)) (ends : ℕ) (sink : Sinks) (status : ℕ) → PutsText text ends sink status → (IsSome text → ¬ Rose sink.before.faults sink.now.faults)
@@ -34,10 +35,10 @@ then_either a b s (inr e) f = inr e
 
 module _ (what : Asked) (shelf : Shelves) (tells : IsTrue shelf.tells) where
   -- where files come to something, nothing is wrong with them
-  nothing_wrong : (answer : Answered) (stored : Option (List ℕ)) (s : ℕ) → Comes what shelf answer stored → IsWrong what shelf s → ⊥
-  nothing_wrong answer stored s c (ToFile before w behind e told m) =
-      all_told shelf tells before w behind s (subst (AreFetched shelf) e (comes_told what shelf answer stored c)) m
-  nothing_wrong answer stored s c (ToRefusal why r e) = comes_not what shelf tells answer stored why c r
+  nothing_wrong : (answer : Answered) (texts : List Stored) (s : ℕ) → Comes what shelf answer texts → IsWrong what shelf s → ⊥
+  nothing_wrong answer texts s c (ToFile before w behind e told m) =
+      all_told shelf tells before w behind s (subst (AreFetched shelf) e (comes_told what shelf answer texts c)) m
+  nothing_wrong answer texts s c (ToRefusal why r e) = comes_not what shelf tells answer texts why c r
 
   -- what is refused is the first that is wrong
   refuses_first : (why : Why) (s : ℕ) → Rejects what shelf why → IsWrong what shelf s → refusal_status why ≡ s
@@ -52,10 +53,10 @@ module _ (what : Asked) (shelf : Shelves) (tells : IsTrue shelf.tells) where
   missing_first before w behind a s e told m (ToRefusal why r f) =
       absurd (all_told shelf tells before w behind a (subst (AreFetched shelf) e (refuses_told what shelf why r)) m)
 
-  missing_comes : (before : List Wanted) (w : Wanted) (behind : List Wanted) (a : ℕ) (answer : Answered) (stored : Option (List ℕ)) → files_of what ≡ before ++ w ∷ behind → IsUnfetchable shelf.before.files w a
-      → Comes what shelf answer stored → ⊥
-  missing_comes before w behind a answer stored e m c =
-      all_told shelf tells before w behind a (subst (AreFetched shelf) e (comes_told what shelf answer stored c)) m
+  missing_comes : (before : List Wanted) (w : Wanted) (behind : List Wanted) (a : ℕ) (answer : Answered) (texts : List Stored) → files_of what ≡ before ++ w ∷ behind → IsUnfetchable shelf.before.files w a
+      → Comes what shelf answer texts → ⊥
+  missing_comes before w behind a answer texts e m c =
+      all_told shelf tells before w behind a (subst (AreFetched shelf) e (comes_told what shelf answer texts c)) m
 
   module _ (none_failed : ¬ FetchFailed shelf.before.counts shelf.now.counts) where
     missing : (w : Wanted) (failed : Bool) (fault : FileFault) → FetchCause shelf w failed fault → IsUnfetchable shelf.before.files w (file_status fault)
@@ -64,11 +65,13 @@ module _ (what : Asked) (shelf : Shelves) (tells : IsTrue shelf.tells) where
     missing w true (Image why) c = absurd c
     missing w true (Ports why) c = absurd c
     missing w true (Sequence why) c = absurd c
+    missing w true (Certificate why) c = absurd c
     missing w false Read c = NoFile c.1 refl
     missing w false TooLong c = let l = c.0.told tells in LongFile l.0 l.1 l.2 refl
     missing w false (Image why) c = absurd c
     missing w false (Ports why) c = absurd c
     missing w false (Sequence why) c = absurd c
+    missing w false (Certificate why) c = absurd c
 
     -- a refusal has the status of the first thing that is wrong
     fetch_wrong : (why : Why) (s : ℕ) → NotFetched shelf (files_of what) why → IsWrong what shelf s → (refusal_status why ≡ s) ⊎ (refusal_status why ≡ 5)
@@ -79,32 +82,34 @@ module _ (what : Asked) (shelf : Shelves) (tells : IsTrue shelf.tells) where
     work_wrong : (why : Why) (s : ℕ) → WorkRefused what shelf why → IsWrong what shelf s → (refusal_status why ≡ s) ⊎ (refusal_status why ≡ 5)
     work_wrong why s (AtFetch n kept) l = fetch_wrong why s n l
     work_wrong why s (AtFiles fetched r kept) l = inl (refuses_first why s r l)
-    work_wrong why s (AtStore e r) l = absurd (nothing_wrong r.answer r.stored s r.comes l)
+    work_wrong why s (AtStore e r) l = absurd (nothing_wrong r.answer r.texts s r.comes l)
     work_wrong why s (AtMemory e asked fetched kept) l = inr (ap refusal_status e)
+    work_wrong why s (AtStoreForMemory e r) l = inr (ap refusal_status e)
 
     -- where the files come to something, it's refused at its store alone
-    fetch_right : (why : Why) (answer : Answered) (stored : Option (List ℕ)) → NotFetched shelf (files_of what) why → Comes what shelf answer stored → refusal_status why ≡ 5
-    fetch_right why answer stored (AtFile r) c =
-        absurd (missing_comes r.before r.last r.behind (file_status r.fault) answer stored r.parts (missing r.last r.failed r.fault r.cause) c)
-    fetch_right why answer stored (ForMemory e stopped) c = ap refusal_status e
+    fetch_right : (why : Why) (answer : Answered) (texts : List Stored) → NotFetched shelf (files_of what) why → Comes what shelf answer texts → refusal_status why ≡ 5
+    fetch_right why answer texts (AtFile r) c =
+        absurd (missing_comes r.before r.last r.behind (file_status r.fault) answer texts r.parts (missing r.last r.failed r.fault r.cause) c)
+    fetch_right why answer texts (ForMemory e stopped) c = ap refusal_status e
 
-    work_right : (why : Why) (answer : Answered) (stored : Option (List ℕ)) → (IsSome (stores_under what) → ¬ StoreFailed shelf.before.counts shelf.now.counts) → WorkRefused what shelf why
-        → Comes what shelf answer stored → refusal_status why ≡ 5
-    work_right why answer stored store (AtFetch n kept) c = fetch_right why answer stored n c
-    work_right why answer stored store (AtFiles fetched r kept) c = absurd (comes_not what shelf tells answer stored why c r)
-    work_right why answer stored store (AtStore e r) c = absurd (store (subst IsSome (sym r.stores) refl) r.failed)
-    work_right why answer stored store (AtMemory e asked fetched kept) c = ap refusal_status e
+    work_right : (why : Why) (answer : Answered) (texts : List Stored) → (stores_under what ≢ [] → ¬ StoreFailed shelf.before.counts shelf.now.counts) → WorkRefused what shelf why
+        → Comes what shelf answer texts → refusal_status why ≡ 5
+    work_right why answer texts store (AtFetch n kept) c = fetch_right why answer texts n c
+    work_right why answer texts store (AtFiles fetched r kept) c = absurd (comes_not what shelf tells answer texts why c r)
+    work_right why answer texts store (AtStore e r) c = absurd (store (some_store what shelf r.answer r.texts r.comes r.ends) r.ends.failed)
+    work_right why answer texts store (AtMemory e asked fetched kept) c = ap refusal_status e
+    work_right why answer texts store (AtStoreForMemory e r) c = ap refusal_status e
 
 pub answers_decide : (what : Asked) (shelf : Shelves) (sink : Sinks) (status : ℕ) → Answers what shelf sink status → Decided what shelf sink status
 answers_decide what shelf sink status (IsDone answer work put) = record {
-  wrong = λ due tells none_failed l. absurd (nothing_wrong what shelf tells answer work.stored due work.comes l);
-  right = λ other stored tells none_failed store whole c.
-      let same = comes_one what shelf tells answer other work.stored stored work.comes c in
+  wrong = λ due tells none_failed l. absurd (nothing_wrong what shelf tells answer work.texts due work.comes l);
+  right = λ other texts tells none_failed store whole c.
+      let same = comes_one what shelf tells answer other work.texts texts work.comes c in
       then_either status answer.status other.status
       (text_decides answer.text answer.status sink status put (subst (λ a. IsSome a.text → ¬ Rose sink.before.faults sink.now.faults) (sym same) whole))
       (ap (λ a. a.status) same);
 }
 answers_decide what shelf sink status (IsRefused why work refused) = record {
   wrong = λ due tells none_failed l. same_either status (refusal_status why) due refused.status_is (work_wrong what shelf tells none_failed why due work l);
-  right = λ other stored tells none_failed store whole c. inr (refused.status_is ∙ work_right what shelf tells none_failed why other stored store work c);
+  right = λ other texts tells none_failed store whole c. inr (refused.status_is ∙ work_right what shelf tells none_failed why other texts store work c);
 }

@@ -19,7 +19,7 @@ abbrev empty : List Fetch → ℕ → Stock
 empty fetched faults = record { files = λ n. None; fetched = fetched; counts = record { fetch_faults = faults; store_faults = 0; bytes_read = 0 } }
 
 -- a build of a source that isn't there is to end with 3
-absent_source : IsWrong (ToBuild (codes "a.c") (codes "a.img")) (shelves true (empty [] 0) (empty [] 0)) 3
+absent_source : IsWrong (ToBuild (codes "a.c") (codes "a.img") 1 200000 1) (shelves true (empty [] 0) (empty [] 0)) 3
 absent_source = ToFile [] (source_file (codes "a.c")) [] refl (tt {0}) (NoFile refl refl)
 
 name_same : (a b : List ℕ) (f g : FileFault) → OfFile a f ≡ OfFile b g → a ≡ b

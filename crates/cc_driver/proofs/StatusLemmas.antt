@@ -1,7 +1,10 @@
 -- The statuses that there are.
-use Rattle.std.proofs.Common.{◌≡◌, ℕ, List, Option, Some, None, refl, sym, subst, lit<}
+use Rattle.std.proofs.Common.{◌≡◌, ℕ, Bool, true, false, List, Option, Some, None, refl, sym, subst, lit<}
+use Rattle.std.specs.Prelude.{if◌then◌else◌}
+use Rattle.c25_isa.specs.Image.{Contents}
+use Rattle.cc_check.specs.CheckText.{all_pass}
 use Rattle.cc_text.specs.declared.refusal.FileFault.{FileFault}
-use Rattle.cc_text.specs.declared.refusal.FileFault.TheVariants.{Read, TooLong, Image, Ports, Sequence}
+use Rattle.cc_text.specs.declared.refusal.FileFault.TheVariants.{Read, TooLong, Image, Ports, Sequence, Certificate}
 use Rattle.cc_text.specs.Refusals.{Why, OfFile, OfSource, OfStore, OfMemory, file_status, refusal_status}
 use Rattle.c25_isa.specs.declared.event.Stop.{Stop}
 use Rattle.c25_isa.specs.declared.event.Stop.TheVariants as stop
@@ -11,15 +14,18 @@ use Rattle.cc_text.specs.Answers.{Answered}
 use Rattle.cc_text.specs.RunText.{stop_status}
 use Rattle.cc_text.specs.MeansText.{outcome_status}
 use Rattle.cc_driver.specs.World.{Sinks}
-use Rattle.cc_driver.specs.Build.{quiet}
+use Rattle.lay_cert.specs.Frames.{Frame}
+use Rattle.cc_driver.specs.Build.{report_of}
+use Rattle.cc_driver.specs.Check.{check_answer}
 use Rattle.cc_driver.specs.Puts.{IsStatus, PutsText, PutWhole, PutPart, PutNothing}
 
 of_file : (f : FileFault) → IsStatus (file_status f)
 of_file Read = (3, lit< tt, refl)
-of_file TooLong = (8, lit< tt, refl)
-of_file (Image why) = (8, lit< tt, refl)
-of_file (Ports why) = (8, lit< tt, refl)
-of_file (Sequence why) = (8, lit< tt, refl)
+of_file TooLong = (9, lit< tt, refl)
+of_file (Image why) = (9, lit< tt, refl)
+of_file (Ports why) = (9, lit< tt, refl)
+of_file (Sequence why) = (9, lit< tt, refl)
+of_file (Certificate why) = (9, lit< tt, refl)
 
 of_why : (why : Why) → IsStatus (refusal_status why)
 of_why (OfFile name why) = of_file why
@@ -46,7 +52,14 @@ of_stop stop.Running = (6, lit< tt, refl)
 pub of_outcome : (o : Outcome) → IsStatus (outcome_status o)
 of_outcome (outcome.Ended outs ending) = (0, lit< tt, refl)
 of_outcome (outcome.More outs) = (6, lit< tt, refl)
-of_outcome (outcome.Undefined outs kind at) = (9, lit< tt, refl)
+of_outcome (outcome.Undefined outs kind at) = (10, lit< tt, refl)
 
-pub quiet_is : (a : Answered) → a ≡ quiet → IsStatus a.status
-quiet_is a e = subst (λ b. IsStatus b.status) (sym e) (0, lit< tt, refl)
+pub of_check : (image : Contents) (frames : List Frame) → IsStatus (check_answer image frames).status
+of_check image frames = go (all_pass image frames)
+  where
+    go : (passes : Bool) → IsStatus (if passes then 0 else 8)
+    go true = (0, lit< tt, refl)
+    go false = (8, lit< tt, refl)
+
+pub of_report : (a : Answered) (frames : List Frame) → a ≡ report_of frames → IsStatus a.status
+of_report a frames e = subst (λ b. IsStatus b.status) (sym e) (0, lit< tt, refl)

@@ -1,14 +1,11 @@
 -- The work of commands from their parts.
-use Rattle.std.proofs.Common.{arith, inl, inr, ◌≡◌, ◌≢◌, ◌∙◌, ℕ, Bool, List, [], ◌∷◌, Option, Some, None, Ok, Err, IfOk, refl, sym, ap, subst, append-nil}
+use Rattle.std.proofs.Common.{arith, inl, inr, ◌≡◌, ◌≢◌, ◌∙◌, ℕ, Bool, List, [], Option, Some, None, Ok, Err, IfOk, refl, sym, subst, append-nil}
 use Rattle.std.specs.Prelude.{Result, IfErr, IfSome, IsErrAnd}
-use Rattle.cc_shelf.specs.Counts.{Rose}
 use Rattle.cc_shelf.specs.Stock.{Stock}
-use Rattle.cc_words.specs.Asked.{Asked, ToBuild, asked}
+use Rattle.cc_words.specs.Asked.{Asked, asked}
 use Rattle.cc_words.specs.Plain.{IsWithinBounds}
 use Rattle.cc_words.proofs.PlainLemmas.{within_asked}
-use Rattle.c25_isa.specs.Image.{Contents}
-use Rattle.c25_image.specs.ImageText.{image_text}
-use Rattle.c25_image.specs.ImageFaults.{IsWhole, Says}
+use Rattle.c25_image.specs.ImageFaults.{Says}
 use Rattle.c25_image.specs.PortText.{PortSays}
 use Rattle.c25_image.specs.declared.fault.ImageFault.{ImageFault}
 use Rattle.c25_image.specs.declared.fault.ImageFault.TheVariants as image_faults
@@ -17,20 +14,24 @@ use Rattle.c25_image.specs.declared.fault.PortFault.TheVariants as port_faults
 use Rattle.lay_text.specs.SequenceReading.{Says as SequenceSays}
 use Rattle.lay_text.specs.declared.fault.SeqFault.{SeqFault}
 use Rattle.lay_text.specs.declared.fault.SeqFault.TheVariants as sequence_faults
+use Rattle.lay_cert.specs.CertReading.{Says as CertificateSays}
+use Rattle.lay_cert.specs.declared.fault.CertFault.{CertFault}
+use Rattle.lay_cert.specs.declared.fault.CertFault.TheVariants as certificate_faults
 use Rattle.cc_fault.specs.declared.fault.BuildFault.{BuildFault}
 use Rattle.cc_fault.specs.declared.fault.BuildFault.TheVariants as build_faults
-use Rattle.cc_compile.specs.Compiles.{IsBuilt}
 use Rattle.cc_text.specs.declared.answer.Answer.{Answer}
 use Rattle.cc_text.specs.declared.refusal.Refusal.{Refusal}
-use Rattle.cc_text.specs.Answers.{answered}
-use Rattle.cc_text.specs.Refusals.{Why, OfFile, OfSource, OfStore, OfMemory, why_of, of_build_fault, of_image_fault, of_port_fault, of_sequence_fault}
+use Rattle.cc_text.specs.Answers.{Answered, answered}
+use Rattle.cc_text.specs.Refusals.{Why, OfFile, OfSource, OfStore, OfMemory, why_of, of_build_fault, of_image_fault, of_port_fault, of_sequence_fault, of_certificate_fault}
 use Rattle.cc_driver.specs.World.{Shelves, shelves}
 use Rattle.cc_driver.specs.Fetches.{Wanted, IsFetched, AreFetched, NoneFailed, ForMemory}
-use Rattle.cc_driver.specs.Build.{source_file, quiet}
-use Rattle.cc_driver.specs.Run.{RunRefused, BadImage, ArePortsRefused}
+use Rattle.cc_driver.specs.Run.{IsImageRefused, ArePortsRefused}
 use Rattle.cc_driver.specs.Layout.{LayoutRefused}
-use Rattle.cc_driver.specs.Commands.{files_of, stores_under, Rejects}
-use Rattle.cc_driver.specs.Work.{NothingStored, WorkRefused, WorkLeaves, StoreStopped, AtFetch, AtFiles, AtStore, AtMemory}
+use Rattle.cc_driver.specs.Check.{IsCertificateRefused}
+use Rattle.cc_driver.specs.Stores.{Stored, NothingStored, OnlyUnder, StoresStopped}
+use Rattle.cc_driver.specs.Commands.{files_of, stores_under, Comes, Rejects}
+use Rattle.cc_driver.specs.Work.{WorkRefused, WorkLeaves, AtFetch, AtFiles, AtStore, AtMemory, AtStoreForMemory}
+use Rattle.cc_driver.proofs.StoreLemmas.{still_fails, still_stops}
 
 -- ---- refusals that are passed on
 
@@ -46,11 +47,11 @@ passed_for (Err e) why P is h = subst P (sym is) h
 
 -- ---- faults of the parts
 
-pub image_fault_of : (image ports i p : List ℕ) (fault : ImageFault) (why : Why) → Says i fault → why ≡ of_image_fault image fault → why ≢ OfMemory → RunRefused image ports i p why
-image_fault_of image ports i p (image_faults.BadLine line) why says e some = BadImage (image_faults.BadLine line) (λ f. cc) says e
-image_fault_of image ports i p (image_faults.TooLong count) why says e some = BadImage (image_faults.TooLong count) (λ f. cc) says e
-image_fault_of image ports i p (image_faults.BadRange line) why says e some = BadImage (image_faults.BadRange line) (λ f. cc) says e
-image_fault_of image ports i p image_faults.NoMemory why says e some = absurd (some e)
+pub image_fault_of : (name bytes : List ℕ) (fault : ImageFault) (why : Why) → Says bytes fault → why ≡ of_image_fault name fault → why ≢ OfMemory → IsImageRefused name bytes why
+image_fault_of name bytes (image_faults.BadLine line) why says e some = record { fault = image_faults.BadLine line; some = λ f. cc; says = says; is = e }
+image_fault_of name bytes (image_faults.TooLong count) why says e some = record { fault = image_faults.TooLong count; some = λ f. cc; says = says; is = e }
+image_fault_of name bytes (image_faults.BadRange line) why says e some = record { fault = image_faults.BadRange line; some = λ f. cc; says = says; is = e }
+image_fault_of name bytes image_faults.NoMemory why says e some = absurd (some e)
 
 pub port_fault_of : (ports p : List ℕ) (fault : PortFault) (why : Why) → PortSays p fault → why ≡ of_port_fault ports fault → why ≢ OfMemory → ArePortsRefused ports p why
 port_fault_of ports p (port_faults.BadLine line) why says e some = record { fault = port_faults.BadLine line; some = λ f. cc; says = says; is = e }
@@ -60,6 +61,12 @@ pub sequence_fault_of : (name bytes : List ℕ) (fault : SeqFault) (why : Why) �
 sequence_fault_of name bytes (sequence_faults.BadLine line) why says e some = record { fault = sequence_faults.BadLine line; some = λ f. cc; says = says; is = e }
 sequence_fault_of name bytes (sequence_faults.TooManyScalars count) why says e some = record { fault = sequence_faults.TooManyScalars count; some = λ f. cc; says = says; is = e }
 sequence_fault_of name bytes sequence_faults.NoMemory why says e some = absurd (some e)
+
+pub certificate_fault_of : (name bytes : List ℕ) (fault : CertFault) (why : Why) → CertificateSays bytes fault → why ≡ of_certificate_fault name fault → why ≢ OfMemory → IsCertificateRefused name bytes why
+certificate_fault_of name bytes (certificate_faults.BadLine line) why says e some = record { fault = certificate_faults.BadLine line; some = λ f. cc; says = says; is = e }
+certificate_fault_of name bytes (certificate_faults.Short frame) why says e some = record { fault = certificate_faults.Short frame; some = λ f. cc; says = says; is = e }
+certificate_fault_of name bytes (certificate_faults.Version found) why says e some = record { fault = certificate_faults.Version found; some = λ f. cc; says = says; is = e }
+certificate_fault_of name bytes certificate_faults.NoMemory why says e some = absurd (some e)
 
 pub build_fault_of : (fault : BuildFault) (why : Why) → why ≡ of_build_fault fault → why ≢ OfMemory → (fault ≢ build_faults.NoMemory) × (why ≡ OfSource fault)
 build_fault_of (build_faults.Lex l) why e some = (λ f. cc, e)
@@ -90,25 +97,23 @@ module _ (tells : Bool) (first between last : Stock) where
   pub nothing_both : NothingStored (shelves tells first between) → NothingStored (shelves tells between last) → NothingStored (shelves tells first last)
   nothing_both one two = record { files = λ n. two.files n ∙ one.files n; faults = two.faults ∙ one.faults }
 
-  -- a store is refused behind the fetch
-  pub store_refused : (source image bytes : List ℕ) (contents : Contents) (why : Why) → IsFetched (shelves tells first between) (source_file source) bytes → IsBuilt bytes contents → IsWhole contents
-      → NoneFailed (shelves tells first between) (source_file source ∷ []) → NothingStored (shelves tells first between)
-      → NoneFailed (shelves tells between last) [] → StoreStopped (shelves tells between last) why → WorkRefused (ToBuild source image) (shelves tells first last) why
-  store_refused source image bytes contents why fetched built whole asked kept none (inl failed) = AtStore failed.0 (record {
-    fetched = still_none_failed (source_file source ∷ []) asked none;
-    name = image;
-    stores = refl;
-    answer = quiet;
-    stored = Some (image_text contents);
-    comes = record {
-      bytes = bytes;
-      fetched = fetched_first (source_file source) bytes fetched;
-      holds = record { image = contents; built = built; whole = whole; text = refl; quiet_is = refl };
-    };
-    failed = subst (λ n. Rose n last.counts.store_faults) kept.faults failed.1;
+  -- stores are refused behind the fetches
+  pub stores_refused : (what : Asked) (answer : Answered) (texts : List Stored) (why : Why) → NoneFailed (shelves tells first between) (files_of what) → NothingStored (shelves tells first between)
+      → NoneFailed (shelves tells between last) [] → Comes what (shelves tells first last) answer texts → StoresStopped texts (shelves tells between last) why → WorkRefused what (shelves tells first last) why
+  stores_refused what answer texts why asked kept none comes (inl failed) = AtStore failed.0 (record {
+    fetched = still_none_failed (files_of what) asked none;
+    answer = answer;
+    texts = texts;
+    comes = comes;
+    ends = still_fails tells first between last kept texts failed.1;
   })
-  store_refused source image bytes contents why fetched built whole asked kept none (inr memory) =
-      AtMemory memory.0 (still_none_failed (source_file source ∷ []) asked none) ((bytes, fetched_first (source_file source) bytes fetched), tt {0}) (nothing_both kept memory.1)
+  stores_refused what answer texts why asked kept none comes (inr wanting) = AtStoreForMemory wanting.0 (record {
+    fetched = still_none_failed (files_of what) asked none;
+    answer = answer;
+    texts = texts;
+    comes = comes;
+    ends = still_stops tells first between last kept texts wanting.1;
+  })
 
 -- without memory for the words nothing is asked for
 pub stopped_first : (what : Asked) (tells : Bool) (s : Stock) → WorkRefused what (shelves tells s s) OfMemory
@@ -124,18 +129,18 @@ stopped_first what tells s = AtFetch (ForMemory refl (record {
 
 -- ---- what work leaves
 
-pub build_leaves : (source image : List ℕ) (shelf : Shelves) (result : Result Answer Refusal) → ((n : List ℕ) → n ≢ image → shelf.now.files n ≡ shelf.before.files n) → IfOk result (λ a. answered a ≡ quiet)
-    → WorkLeaves (ToBuild source image) shelf result
-build_leaves source image shelf result others silent = record {
-  others = λ n other. others n (λ e. other (ap Some e));
-  silent = λ name e. silent;
-  no_store = λ e. cc;
+pub stores_leave : (what : Asked) (shelf : Shelves) (result : Result Answer Refusal) → OnlyUnder (stores_under what) shelf → IfOk result (λ a. (answered a).status ≡ 0) → stores_under what ≢ []
+    → WorkLeaves what shelf result
+stores_leave what shelf result others ends some = record {
+  others = others;
+  ends = λ e. ends;
+  no_store = λ none. absurd (some none);
 }
 
-pub nothing_leaves : (what : Asked) (shelf : Shelves) (result : Result Answer Refusal) → stores_under what ≡ None → NothingStored shelf → WorkLeaves what shelf result
+pub nothing_leaves : (what : Asked) (shelf : Shelves) (result : Result Answer Refusal) → stores_under what ≡ [] → NothingStored shelf → WorkLeaves what shelf result
 nothing_leaves what shelf result none kept = record {
   others = λ n other. kept.files n;
-  silent = λ name e. let k : None ≡ Some name = sym none ∙ e in cc;
+  ends = λ some. absurd (some none);
   no_store = λ e. kept;
 }
 

@@ -1,5 +1,5 @@
 -- What the call of a command answers, puts and leaves (docs/COMMANDS.md, "Statuses and lines").
-use Rattle.std.specs.Prelude.{◌≡◌, ◌≢◌, ◌⊎◌, ℕ, ◌<◌, IsTrue, IsSome, List, ◌∷◌, ◌++◌, length, String, codes, Option, Some, None}
+use Rattle.std.specs.Prelude.{◌≡◌, ◌≢◌, ◌⊎◌, ℕ, ◌<◌, IsTrue, IsSome, List, [], ◌∷◌, ◌++◌, length, String, codes, Some, None}
 use Rattle.std.specs.declared.alloc.Global.{Global}
 use Rattle.cc_shelf.specs.Counts.{FetchFailed, StoreFailed, Rose}
 use Rattle.cc_shelf.specs.Files.{Files}
@@ -10,7 +10,8 @@ use Rattle.cc_driver.specs.World.{Shelves, Sinks}
 use Rattle.cc_driver.specs.Puts.{PutsLine, AnswerPut, Refused, memory_line}
 use Rattle.cc_driver.specs.Fetches.{Wanted, AreFetched}
 use Rattle.cc_driver.specs.Commands.{files_of, stores_under, Comes, Rejects}
-use Rattle.cc_driver.specs.Work.{WorkDone, WorkRefused, NothingStored}
+use Rattle.cc_driver.specs.Stores.{Stored, NothingStored, OnlyUnder}
+use Rattle.cc_driver.specs.Work.{WorkDone, WorkRefused, StoresStop}
 
 -- a fact of what the words ask for, where they ask for something
 abbrev pub OnAsked : List (String Global) → (Asked → Type 0) → Type 0
@@ -40,18 +41,20 @@ pub data IsWrong (what : Asked) (shelf : Shelves) (status : ℕ) : Type 0 where
 pub record Decided (what : Asked) (shelf : Shelves) (sink : Sinks) (status : ℕ) : Type 0 where
   -- that of the first thing that is wrong
   pub wrong : (due : ℕ) → IsTrue shelf.tells → ¬ FetchFailed shelf.before.counts shelf.now.counts → IsWrong what shelf due → (status ≡ due) ⊎ (status ≡ 5)
-  -- or else, where neither its store nor its put failed, that of what the files come to
-  pub right : (answer : Answered) (stored : Option (List ℕ)) → IsTrue shelf.tells → ¬ FetchFailed shelf.before.counts shelf.now.counts
-      → (IsSome (stores_under what) → ¬ StoreFailed shelf.before.counts shelf.now.counts)
+  -- or else, where none of its stores failed and its put didn't, that of what the files come to
+  pub right : (answer : Answered) (texts : List Stored) → IsTrue shelf.tells → ¬ FetchFailed shelf.before.counts shelf.now.counts
+      → (stores_under what ≢ [] → ¬ StoreFailed shelf.before.counts shelf.now.counts)
       → (IsSome answer.text → ¬ Rose sink.before.faults sink.now.faults)
-      → Comes what shelf answer stored → (status ≡ answer.status) ⊎ (status ≡ 5)
+      → Comes what shelf answer texts → (status ≡ answer.status) ⊎ (status ≡ 5)
 
--- what each name holds at the end: no name but that of the store is touched, and that one at 0 and 4 alone
+-- what each name holds at the end: no name but those of the stores is touched, and these at 0, 4 and 5 alone
 pub record Leaves (what : Asked) (shelf : Shelves) (status : ℕ) : Type 0 where
-  pub others : (n : List ℕ) → Some n ≢ stores_under what → shelf.now.files n ≡ shelf.before.files n
-  pub kept : status ≢ 0 → status ≢ 4 → NothingStored shelf
+  pub others : OnlyUnder (stores_under what) shelf
+  pub kept : status ≢ 0 → status ≢ 4 → status ≢ 5 → NothingStored shelf
+  -- at 5 some first ones of the texts that 0 promises are stored, or nothing is
+  pub wanting : status ≡ 5 → NothingStored shelf ⊎ StoresStop what shelf
   pub faults : status ≢ 4 → shelf.now.counts.store_faults ≡ shelf.before.counts.store_faults
-  pub no_store : stores_under what ≡ None → NothingStored shelf
+  pub no_store : stores_under what ≡ [] → NothingStored shelf
 
 -- words that ask for nothing touch no file, and are refused, unless memory was wanting
 pub record Idles (shelf : Shelves) (sink : Sinks) (status : ℕ) : Type 0 where

@@ -1,32 +1,36 @@
--- The commands, a row each: which files one fetches, under which name it stores, what it comes to, and for what its files are refused
+-- The commands, a row each: which files one fetches, under which names it stores, what it comes to, and for what its files are refused
 -- (docs/COMMANDS.md).
-use Rattle.std.specs.Prelude.{◌≡◌, ℕ, List, [], ◌∷◌, Option, Some, None}
-use Rattle.cc_words.specs.Asked.{Asked, ToBuild, ToRun, ToEvaluate, ToExecute, ToLayOut}
+use Rattle.std.specs.Prelude.{◌≡◌, ℕ, List, [], ◌∷◌}
+use Rattle.cc_words.specs.Asked.{Asked, ToBuild, ToRun, ToEvaluate, ToExecute, ToLayOut, ToCheck}
 use Rattle.cc_text.specs.Answers.{Answered}
 use Rattle.cc_text.specs.Refusals.{Why}
 use Rattle.cc_driver.specs.World.{Shelves}
 use Rattle.cc_driver.specs.Fetches.{Wanted, IsFetched}
-use Rattle.cc_driver.specs.Build.{source_file, FileHas, BuildsTo, IsRefusedFor}
+use Rattle.cc_driver.specs.Stores.{Stored}
+use Rattle.cc_driver.specs.Build.{source_file, chosen_options, certificate_name, FileHas, BuildsTo, IsRefusedFor}
 use Rattle.cc_driver.specs.Run.{image_file, ports_file, RunsTo, RunRefused}
 use Rattle.cc_driver.specs.Means.{MeansTo, MeansRefused}
 use Rattle.cc_driver.specs.Exec.{ExecutesTo, ExecuteRefused}
 use Rattle.cc_driver.specs.Layout.{sequence_file, LaysOutTo, LayoutRefused}
+use Rattle.cc_driver.specs.Check.{certificate_file, ChecksTo, CheckRefused}
 
 -- the files that a command fetches, in this order
 abbrev pub files_of : Asked → List Wanted
-files_of (ToBuild source image) = source_file source ∷ []
+files_of (ToBuild source image registers budget step) = source_file source ∷ []
 files_of (ToRun image ports steps) = image_file image ∷ ports_file ports ∷ []
 files_of (ToEvaluate source ports turns) = source_file source ∷ ports_file ports ∷ []
 files_of (ToExecute source ports steps) = source_file source ∷ ports_file ports ∷ []
 files_of (ToLayOut sequence registers budget) = sequence_file sequence ∷ []
+files_of (ToCheck image certificate) = image_file image ∷ certificate_file certificate ∷ []
 
--- the name under which a command stores, where it does
-abbrev pub stores_under : Asked → Option (List ℕ)
-stores_under (ToBuild source image) = Some image
-stores_under (ToRun image ports steps) = None
-stores_under (ToEvaluate source ports turns) = None
-stores_under (ToExecute source ports steps) = None
-stores_under (ToLayOut sequence registers budget) = None
+-- the names under which a command stores, in this order
+abbrev pub stores_under : Asked → List (List ℕ)
+stores_under (ToBuild source image registers budget step) = image ∷ certificate_name image ∷ []
+stores_under (ToRun image ports steps) = []
+stores_under (ToEvaluate source ports turns) = []
+stores_under (ToExecute source ports steps) = []
+stores_under (ToLayOut sequence registers budget) = []
+stores_under (ToCheck image certificate) = []
 
 -- the bytes of two files have a property
 pub record FilesHave (shelf : Shelves) (first second : Wanted) (P : List ℕ → List ℕ → Type 0) : Type 0 where
@@ -37,20 +41,23 @@ pub record FilesHave (shelf : Shelves) (first second : Wanted) (P : List ℕ →
   pub holds : P bytes more
 
 -- what a command comes to over its files: what it answers, and what it stores
-abbrev pub Comes : Asked → Shelves → Answered → Option (List ℕ) → Type 0
-Comes (ToBuild source image) shelf answer stored = FileHas shelf (source_file source) (λ s. BuildsTo s answer stored)
-Comes (ToRun image ports steps) shelf answer stored =
-    FilesHave shelf (image_file image) (ports_file ports) (λ i p. RunsTo i p steps answer) × (stored ≡ None)
-Comes (ToEvaluate source ports turns) shelf answer stored =
-    FilesHave shelf (source_file source) (ports_file ports) (λ s p. MeansTo s p turns answer) × (stored ≡ None)
-Comes (ToExecute source ports steps) shelf answer stored =
-    FilesHave shelf (source_file source) (ports_file ports) (λ s p. ExecutesTo s p steps answer) × (stored ≡ None)
-Comes (ToLayOut sequence registers budget) shelf answer stored =
-    FileHas shelf (sequence_file sequence) (λ s. LaysOutTo s registers budget answer) × (stored ≡ None)
+abbrev pub Comes : Asked → Shelves → Answered → List Stored → Type 0
+Comes (ToBuild source image registers budget step) shelf answer texts =
+    FileHas shelf (source_file source) (λ s. BuildsTo (chosen_options registers budget step) image s answer texts)
+Comes (ToRun image ports steps) shelf answer texts =
+    FilesHave shelf (image_file image) (ports_file ports) (λ i p. RunsTo i p steps answer) × (texts ≡ [])
+Comes (ToEvaluate source ports turns) shelf answer texts =
+    FilesHave shelf (source_file source) (ports_file ports) (λ s p. MeansTo s p turns answer) × (texts ≡ [])
+Comes (ToExecute source ports steps) shelf answer texts =
+    FilesHave shelf (source_file source) (ports_file ports) (λ s p. ExecutesTo s p steps answer) × (texts ≡ [])
+Comes (ToLayOut sequence registers budget) shelf answer texts =
+    FileHas shelf (sequence_file sequence) (λ s. LaysOutTo s registers budget answer) × (texts ≡ [])
+Comes (ToCheck image certificate) shelf answer texts =
+    FilesHave shelf (image_file image) (certificate_file certificate) (λ i c. ChecksTo i c answer) × (texts ≡ [])
 
 -- for what a command refuses its files, which all fit
 abbrev pub Rejects : Asked → Shelves → Why → Type 0
-Rejects (ToBuild source image) shelf why = FileHas shelf (source_file source) (IsRefusedFor why)
+Rejects (ToBuild source image registers budget step) shelf why = FileHas shelf (source_file source) (IsRefusedFor (chosen_options registers budget step) why)
 Rejects (ToRun image ports steps) shelf why =
     FilesHave shelf (image_file image) (ports_file ports) (λ i p. RunRefused image ports i p why)
 Rejects (ToEvaluate source ports turns) shelf why =
@@ -59,3 +66,5 @@ Rejects (ToExecute source ports steps) shelf why =
     FilesHave shelf (source_file source) (ports_file ports) (λ s p. ExecuteRefused ports s p why)
 Rejects (ToLayOut sequence registers budget) shelf why =
     FileHas shelf (sequence_file sequence) (λ s. LayoutRefused sequence s why)
+Rejects (ToCheck image certificate) shelf why =
+    FilesHave shelf (image_file image) (certificate_file certificate) (λ i c. CheckRefused image certificate i c why)

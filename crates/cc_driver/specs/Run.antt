@@ -55,9 +55,15 @@ pub record ArePortsRefused (name bytes : List ℕ) (why : Why) : Type 0 where
   pub says : PortSays bytes fault
   pub is : why ≡ OfFile name (Ports fault)
 
+-- and those of an image
+pub record IsImageRefused (name bytes : List ℕ) (why : Why) : Type 0 where
+  pub fault : ImageFault
+  pub some : fault ≢ image_faults.NoMemory
+  pub says : Says bytes fault
+  pub is : why ≡ OfFile name (Image fault)
+
 -- the image is refused, or else the ports
 pub data RunRefused (image ports image_bytes port_bytes : List ℕ) (why : Why) : Type 0 where
-  BadImage : (fault : ImageFault) → fault ≢ image_faults.NoMemory → Says image_bytes fault → why ≡ OfFile image (Image fault)
-      → RunRefused image ports image_bytes port_bytes why
+  BadImage : IsImageRefused image image_bytes why → RunRefused image ports image_bytes port_bytes why
   BadPorts : (contents : Contents) → IsImageOf contents image_bytes → ArePortsRefused ports port_bytes why
       → RunRefused image ports image_bytes port_bytes why

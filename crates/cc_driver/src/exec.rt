@@ -5,35 +5,45 @@ ghost use Rattle.cc_text.specs.Refusals.{why_of, OfMemory};
 ghost use Rattle.cc_text.specs.Answers.{answered};
 ghost use Rattle.cc_driver.specs.World.{shelves};
 ghost use Rattle.cc_driver.specs.Exec.{ExecutesTo, ExecuteRefused};
-ghost use Rattle.cc_driver.specs.Work.{WorkDone, WorkRefused, NothingStored};
+ghost use Rattle.cc_driver.specs.Work.{WorkDone, WorkRefused};
+ghost use Rattle.cc_driver.specs.Stores.{NothingStored};
 
+use crate::build::plain_options;
 use crate::run::run_image;
-use crate::shelf::{Fetched, SOURCE_LIMIT, fetch_both};
+use crate::shelf::{Fetched, PORTS_LIMIT, SOURCE_LIMIT, fetch_both};
 use c25_image::read_ports;
 use cc_compile::compile;
 use cc_shelf::Shelf;
 use cc_text::{Answer, Refusal};
 use cc_words::Exec;
 use std::alloc::Global;
+use std::thread::Threads;
+use word_base::OpenGate;
 
 // Compiles the source of one text and runs it on the ports of another. The format of the ports comes before the faults of the source.
-fn executed<'a>(alloc: Global, asked: &Exec<'a>, files: &Fetched) -> Result<Answer, Refusal<'a>>
+fn executed<'a, R: Threads + Sync>(
+    rt: &R,
+    alloc: Global,
+    asked: &Exec<'a>,
+    files: &Fetched,
+) -> Result<Answer, Refusal<'a>>
     requires short { length files.now.bytes.items < 2 ^ 32 }
-    ensures done { IfOk result (λ a. ExecutesTo files.now.bytes.items files.now.ports.items asked.now.steps (answered a)) }
+    ensures done { IfOk result (λ a. ExecutesTo files.now.bytes.items files.now.more.items asked.now.steps (answered a)) }
     // A refusal has its cause, unless memory is wanting.
     ensures refused { IfErr result (λ r. why_of r ≢ OfMemory
-        → ExecuteRefused asked.now.ports.now files.now.bytes.items files.now.ports.items (why_of r)) }
+        → ExecuteRefused asked.now.ports.now files.now.bytes.items files.now.more.items (why_of r)) }
 {
-    let ports = match read_ports(alloc, &files.ports) {
+    let ports = match read_ports(alloc, &files.more) {
         Ok(ports) => ports,
         Err(fault) => return Err(Refusal::of_ports(asked.ports, fault)),
     };
-    let built = compile(alloc, &files.bytes)?;
+    let built = compile(rt, alloc, &OpenGate, &files.bytes, plain_options())?;
     Ok(run_image(alloc, &built.image, ports, asked.steps)?)
 }
 
 /// Compiles a source, and runs it from zeros.
-pub(crate) fn answer<'a, F: Shelf>(
+pub(crate) fn answer<'a, R: Threads + Sync, F: Shelf>(
+    rt: &R,
     alloc: Global,
     asked: &Exec<'a>,
     shelf: &mut F,
@@ -42,6 +52,13 @@ pub(crate) fn answer<'a, F: Shelf>(
     ensures refused { IfErr result (λ r. WorkRefused (ToExecute asked.now.source.now asked.now.ports.now asked.now.steps) (shelves F.tells (F.stock shelf.old) (F.stock shelf.new)) (why_of r)) }
     ensures stored { NothingStored (shelves F.tells (F.stock shelf.old) (F.stock shelf.new)) }
 {
-    let files = fetch_both(alloc, shelf, asked.source, SOURCE_LIMIT, asked.ports)?;
-    executed(alloc, asked, &files)
+    let files = fetch_both(
+        alloc,
+        shelf,
+        asked.source,
+        SOURCE_LIMIT,
+        asked.ports,
+        PORTS_LIMIT,
+    )?;
+    executed(rt, alloc, asked, &files)
 }

@@ -5,7 +5,8 @@ ghost use Rattle.cc_text.specs.Refusals.{why_of, OfMemory};
 ghost use Rattle.cc_text.specs.Answers.{answered};
 ghost use Rattle.cc_driver.specs.World.{shelves};
 ghost use Rattle.cc_driver.specs.Layout.{LaysOutTo, LayoutRefused};
-ghost use Rattle.cc_driver.specs.Work.{WorkDone, WorkRefused, NothingStored};
+ghost use Rattle.cc_driver.specs.Stores.{NothingStored};
+ghost use Rattle.cc_driver.specs.Work.{WorkDone, WorkRefused};
 
 use crate::shelf::{SEQUENCE_LIMIT, fetch};
 use cc_shelf::Shelf;

@@ -5,9 +5,10 @@ ghost use Rattle.cc_text.specs.Refusals.{why_of, OfMemory};
 ghost use Rattle.cc_text.specs.Answers.{answered};
 ghost use Rattle.cc_driver.specs.World.{shelves};
 ghost use Rattle.cc_driver.specs.Means.{MeansTo, MeansRefused};
-ghost use Rattle.cc_driver.specs.Work.{WorkDone, WorkRefused, NothingStored};
+ghost use Rattle.cc_driver.specs.Work.{WorkDone, WorkRefused};
+ghost use Rattle.cc_driver.specs.Stores.{NothingStored};
 
-use crate::shelf::{Fetched, SOURCE_LIMIT, fetch_both};
+use crate::shelf::{Fetched, PORTS_LIMIT, SOURCE_LIMIT, fetch_both};
 use c_means::evaluate;
 use c25_image::read_ports;
 use cc_compile::typed_program;
@@ -19,12 +20,12 @@ use std::alloc::Global;
 // Evaluates the source of one text on the ports of another. The format of the ports comes before the faults of the source.
 fn evaluated<'a>(alloc: Global, asked: &Means<'a>, files: &Fetched) -> Result<Answer, Refusal<'a>>
     requires short { length files.now.bytes.items < 2 ^ 32 }
-    ensures done { IfOk result (λ a. MeansTo files.now.bytes.items files.now.ports.items asked.now.turns (answered a)) }
+    ensures done { IfOk result (λ a. MeansTo files.now.bytes.items files.now.more.items asked.now.turns (answered a)) }
     // A refusal has its cause, unless memory is wanting.
     ensures refused { IfErr result (λ r. why_of r ≢ OfMemory
-        → MeansRefused asked.now.ports.now files.now.bytes.items files.now.ports.items (why_of r)) }
+        → MeansRefused asked.now.ports.now files.now.bytes.items files.now.more.items (why_of r)) }
 {
-    let lines = match read_ports(alloc, &files.ports) {
+    let lines = match read_ports(alloc, &files.more) {
         Ok(lines) => lines,
         Err(fault) => return Err(Refusal::of_ports(asked.ports, fault)),
     };
@@ -43,6 +44,13 @@ pub(crate) fn answer<'a, F: Shelf>(
     ensures refused { IfErr result (λ r. WorkRefused (ToEvaluate asked.now.source.now asked.now.ports.now asked.now.turns) (shelves F.tells (F.stock shelf.old) (F.stock shelf.new)) (why_of r)) }
     ensures stored { NothingStored (shelves F.tells (F.stock shelf.old) (F.stock shelf.new)) }
 {
-    let files = fetch_both(alloc, shelf, asked.source, SOURCE_LIMIT, asked.ports)?;
+    let files = fetch_both(
+        alloc,
+        shelf,
+        asked.source,
+        SOURCE_LIMIT,
+        asked.ports,
+        PORTS_LIMIT,
+    )?;
     evaluated(alloc, asked, &files)
 }

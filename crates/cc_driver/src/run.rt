@@ -5,9 +5,10 @@ ghost use Rattle.cc_text.specs.Refusals.{why_of, OfMemory};
 ghost use Rattle.cc_text.specs.Answers.{answered};
 ghost use Rattle.cc_driver.specs.World.{shelves};
 ghost use Rattle.cc_driver.specs.Run.{ImageRuns, RunsTo, RunRefused};
-ghost use Rattle.cc_driver.specs.Work.{WorkDone, WorkRefused, NothingStored};
+ghost use Rattle.cc_driver.specs.Work.{WorkDone, WorkRefused};
+ghost use Rattle.cc_driver.specs.Stores.{NothingStored};
 
-use crate::shelf::{Fetched, IMAGE_LIMIT, fetch_both};
+use crate::shelf::{Fetched, IMAGE_LIMIT, PORTS_LIMIT, fetch_both};
 use c25_image::{read_image, read_ports};
 use c25_isa::{Image, Start};
 use c25_sim::Machine;
@@ -34,16 +35,16 @@ pub(crate) fn run_image(
 
 // Runs the image of one text on the ports of another.
 fn run<'a>(alloc: Global, asked: &Run<'a>, files: &Fetched) -> Result<Answer, Refusal<'a>>
-    ensures done { IfOk result (λ a. RunsTo files.now.bytes.items files.now.ports.items asked.now.steps (answered a)) }
+    ensures done { IfOk result (λ a. RunsTo files.now.bytes.items files.now.more.items asked.now.steps (answered a)) }
     // A refusal has its cause, unless memory is wanting.
     ensures refused { IfErr result (λ r. why_of r ≢ OfMemory
-        → RunRefused asked.now.image.now asked.now.ports.now files.now.bytes.items files.now.ports.items (why_of r)) }
+        → RunRefused asked.now.image.now asked.now.ports.now files.now.bytes.items files.now.more.items (why_of r)) }
 {
     let image = match read_image(alloc, &files.bytes) {
         Ok(image) => image,
         Err(fault) => return Err(Refusal::of_image(asked.image, fault)),
     };
-    let ports = match read_ports(alloc, &files.ports) {
+    let ports = match read_ports(alloc, &files.more) {
         Ok(ports) => ports,
         Err(fault) => return Err(Refusal::of_ports(asked.ports, fault)),
     };
@@ -60,6 +61,13 @@ pub(crate) fn answer<'a, F: Shelf>(
     ensures refused { IfErr result (λ r. WorkRefused (ToRun asked.now.image.now asked.now.ports.now asked.now.steps) (shelves F.tells (F.stock shelf.old) (F.stock shelf.new)) (why_of r)) }
     ensures stored { NothingStored (shelves F.tells (F.stock shelf.old) (F.stock shelf.new)) }
 {
-    let files = fetch_both(alloc, shelf, asked.image, IMAGE_LIMIT, asked.ports)?;
+    let files = fetch_both(
+        alloc,
+        shelf,
+        asked.image,
+        IMAGE_LIMIT,
+        asked.ports,
+        PORTS_LIMIT,
+    )?;
     run(alloc, asked, &files)
 }

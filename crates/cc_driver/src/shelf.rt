@@ -4,8 +4,7 @@ ghost use Rattle.cc_shelf.specs.ShelfAnswers.{AfterFetch};
 ghost use Rattle.cc_text.specs.Refusals.{why_of};
 ghost use Rattle.cc_driver.specs.World.{shelves};
 ghost use Rattle.cc_driver.specs.Fetches.{wanted, of_shelf_fault, IsFetched, NoneFailed, NotFetched};
-ghost use Rattle.cc_driver.specs.Work.{NothingStored, StoreStopped};
-ghost use Rattle.cc_driver.specs.Run.{ports_file};
+ghost use Rattle.cc_driver.specs.Stores.{NothingStored, StoreStopped};
 
 use cc_shelf::{Shelf, ShelfFault};
 use cc_text::{FileFault, Refusal};
@@ -21,7 +20,10 @@ pub(crate) const IMAGE_LIMIT: u64 = 4_194_304;
 pub(crate) const SEQUENCE_LIMIT: u64 = 16_777_216;
 
 /// The greatest length of a port file, in bytes.
-const PORTS_LIMIT: u64 = 16_777_216;
+pub(crate) const PORTS_LIMIT: u64 = 16_777_216;
+
+/// The greatest length of a certificate, in bytes.
+pub(crate) const CERTIFICATE_LIMIT: u64 = 536_870_912;
 
 // Why a command is refused whose file of this name can't be fetched.
 fn not_fetched<'a>(name: &'a str, fault: ShelfFault) -> Refusal<'a>
@@ -59,30 +61,31 @@ pub(crate) fn fetch<'a, F: Shelf>(
     }
 }
 
-/// The bytes of a file and of a port file.
+/// The bytes of two files.
 #[derive(Debug, Drop)]
 pub(crate) struct Fetched {
     pub(crate) bytes: Vec<u8>,
-    pub(crate) ports: Vec<u8>,
+    pub(crate) more: Vec<u8>,
 }
 
-/// Fetches a file of at most so many bytes, and then a port file.
+/// Fetches a file of at most so many bytes, and then another one.
 pub(crate) fn fetch_both<'a, F: Shelf>(
     alloc: Global,
     shelf: &mut F,
     name: &'a str,
     limit: u64,
-    ports: &'a str,
+    other: &'a str,
+    other_limit: u64,
 ) -> Result<Fetched, Refusal<'a>>
     ensures file { IfOk result (λ both. IsFetched (shelves F.tells (F.stock shelf.old) (F.stock shelf.new)) (wanted name.now limit) both.bytes.items) }
-    ensures ports { IfOk result (λ both. IsFetched (shelves F.tells (F.stock shelf.old) (F.stock shelf.new)) (ports_file ports.now) both.ports.items) }
-    ensures asked { OnOk result (NoneFailed (shelves F.tells (F.stock shelf.old) (F.stock shelf.new)) (wanted name.now limit ∷ ports_file ports.now ∷ [])) }
-    ensures refused { IfErr result (λ r. NotFetched (shelves F.tells (F.stock shelf.old) (F.stock shelf.new)) (wanted name.now limit ∷ ports_file ports.now ∷ []) (why_of r)) }
+    ensures other { IfOk result (λ both. IsFetched (shelves F.tells (F.stock shelf.old) (F.stock shelf.new)) (wanted other.now other_limit) both.more.items) }
+    ensures asked { OnOk result (NoneFailed (shelves F.tells (F.stock shelf.old) (F.stock shelf.new)) (wanted name.now limit ∷ wanted other.now other_limit ∷ [])) }
+    ensures refused { IfErr result (λ r. NotFetched (shelves F.tells (F.stock shelf.old) (F.stock shelf.new)) (wanted name.now limit ∷ wanted other.now other_limit ∷ []) (why_of r)) }
     ensures stored { NothingStored (shelves F.tells (F.stock shelf.old) (F.stock shelf.new)) }
 {
     let bytes = fetch(alloc, shelf, name, limit)?;
-    let ports = fetch(alloc, shelf, ports, PORTS_LIMIT)?;
-    Ok(Fetched { bytes, ports })
+    let more = fetch(alloc, shelf, other, other_limit)?;
+    Ok(Fetched { bytes, more })
 }
 
 /// Stores a file.

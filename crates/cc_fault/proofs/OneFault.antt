@@ -13,6 +13,7 @@ use Rattle.c_parser.specs.declared.fault.ParseFault.{ParseFault}
 use Rattle.c_parser.specs.declared.fault.ParseFault.TheVariants as parse
 use Rattle.c_rules.specs.declared.fault.TypeFault.{TypeFault}
 use Rattle.c_rules.proofs.LawLemmas.{one_program, accepted}
+use Rattle.cc_frames.specs.declared.options.Options.{Options}
 use Rattle.cc_image.proofs.OneImage.{one_plan_fault, one_link_fault, plan_or_link, image_no_plan_fault, image_no_link_fault}
 use Rattle.cc_fault.specs.SourceFaults.{HasFault, HasNoProgramFor, HasProgram, HasTree, IsTypedWith, IsLexFault, IsParseFault, IsSameFault, IsAccepted, IsUntyped, IsOfTypes}
 use Rattle.cc_fault.specs.declared.fault.BuildFault.{BuildFault}
@@ -29,8 +30,8 @@ without_tree : (tokens : List Token) (why : ParseFault) → IsParseFault why tok
 without_tree tokens (parse.Syntax at) f = f.0
 without_tree tokens parse.NoMemory f = absurd f
 
-no_parse_fault : (bytes : List ℕ) (P : UnitTree → Type 0) (why : ParseFault) → HasTree bytes P → HasFault bytes (Parse why) → ⊥
-no_parse_fault bytes P why h f = no_source bytes P f.0 h f.1 (without_tree f.0 why f.2)
+no_parse_fault : (o : Options) (bytes : List ℕ) (P : UnitTree → Type 0) (why : ParseFault) → HasTree bytes P → HasFault o bytes (Parse why) → ⊥
+no_parse_fault o bytes P why h f = no_source bytes P f.0 h f.1 (without_tree f.0 why f.2)
 
 -- bytes have one tree
 both_of_tree : (bytes : List ℕ) (P Q : UnitTree → Type 0) → HasTree bytes P → HasTree bytes Q → (source : UnitTree) × P source × Q source
@@ -46,74 +47,74 @@ both_of_program bytes P Q h k =
     (b.2.0, subst P (one_program b.0 b.1.0 b.2.0 b.1.1 b.2.1) b.1.2, b.2.2)
 
 -- a typed program goes with no fault of types
-not_faulty : (bytes : List ℕ) (P : _) (why : TypeFault) → HasTree bytes (IsTypedWith P) → HasFault bytes (Types why) → ⊥
-not_faulty bytes P why h k =
+not_faulty : (o : Options) (bytes : List ℕ) (P : _) (why : TypeFault) → HasTree bytes (IsTypedWith P) → HasFault o bytes (Types why) → ⊥
+not_faulty o bytes P why h k =
     let b = both_of_tree bytes _ _ h k in
     b.2.0 (accepted b.0 b.1.0 why b.1.1 b.2.1)
 
-pub one_fault : (bytes : List ℕ) (a b : BuildFault) → HasFault bytes a → HasFault bytes b → IsSameFault a b
-one_fault bytes (Lex l) (Lex m) f g = sym (ap Lex (says_one bytes l m f.0 g.0 f.1 g.1))
-one_fault bytes (Lex l) (Parse why) f g = absurd (lexes_not_says bytes g.0 l f.0 g.1 f.1)
-one_fault bytes (Lex l) (Types why) f g = absurd (no_lexer_fault bytes _ l g f)
-one_fault bytes (Lex l) (Plan full) f g = absurd (no_lexer_fault bytes _ l g f)
-one_fault bytes (Lex l) (Link full) f g = absurd (no_lexer_fault bytes _ l g f)
-one_fault bytes (Parse why) (Lex l) f g = absurd (lexes_not_says bytes f.0 l g.0 f.1 g.1)
-one_fault bytes (Parse why) (Parse other) f g = (other, refl)
-one_fault bytes (Parse why) (Types other) f g = absurd (no_parse_fault bytes _ why g f)
-one_fault bytes (Parse why) (Plan full) f g = absurd (no_parse_fault bytes _ why g f)
-one_fault bytes (Parse why) (Link full) f g = absurd (no_parse_fault bytes _ why g f)
-one_fault bytes (Types why) (Lex l) f g = absurd (no_lexer_fault bytes _ l f g)
-one_fault bytes (Types why) (Parse other) f g = absurd (no_parse_fault bytes _ other f g)
-one_fault bytes (Types why) (Types other) f g = (other, refl)
-one_fault bytes (Types why) (Plan full) f g = absurd (not_faulty bytes _ why g f)
-one_fault bytes (Types why) (Link full) f g = absurd (not_faulty bytes _ why g f)
-one_fault bytes (Plan full) (Lex l) f g = absurd (no_lexer_fault bytes _ l f g)
-one_fault bytes (Link full) (Lex l) f g = absurd (no_lexer_fault bytes _ l f g)
-one_fault bytes (Plan full) (Parse other) f g = absurd (no_parse_fault bytes _ other f g)
-one_fault bytes (Link full) (Parse other) f g = absurd (no_parse_fault bytes _ other f g)
-one_fault bytes (Plan full) (Types other) f g = absurd (not_faulty bytes _ other f g)
-one_fault bytes (Link full) (Types other) f g = absurd (not_faulty bytes _ other f g)
-one_fault bytes (Plan why) (Plan other) f g = let b = both_of_program bytes _ _ f g in sym (ap Plan (one_plan_fault b.0 why other b.1 b.2))
-one_fault bytes (Plan why) (Link other) f g = let b = both_of_program bytes _ _ f g in absurd (plan_or_link b.0 why other b.1 b.2)
-one_fault bytes (Link why) (Plan other) f g = let b = both_of_program bytes _ _ f g in absurd (plan_or_link b.0 other why b.2 b.1)
-one_fault bytes (Link why) (Link other) f g = let b = both_of_program bytes _ _ f g in sym (ap Link (one_link_fault b.0 why other b.1 b.2))
-one_fault bytes NoMemory b f g = absurd f
-one_fault bytes (Lex l) NoMemory f g = absurd g
-one_fault bytes (Parse why) NoMemory f g = absurd g
-one_fault bytes (Types why) NoMemory f g = absurd g
-one_fault bytes (Plan full) NoMemory f g = absurd g
-one_fault bytes (Link full) NoMemory f g = absurd g
+pub one_fault : (o : Options) (bytes : List ℕ) (a b : BuildFault) → HasFault o bytes a → HasFault o bytes b → IsSameFault a b
+one_fault o bytes (Lex l) (Lex m) f g = sym (ap Lex (says_one bytes l m f.0 g.0 f.1 g.1))
+one_fault o bytes (Lex l) (Parse why) f g = absurd (lexes_not_says bytes g.0 l f.0 g.1 f.1)
+one_fault o bytes (Lex l) (Types why) f g = absurd (no_lexer_fault bytes _ l g f)
+one_fault o bytes (Lex l) (Plan full) f g = absurd (no_lexer_fault bytes _ l g f)
+one_fault o bytes (Lex l) (Link full) f g = absurd (no_lexer_fault bytes _ l g f)
+one_fault o bytes (Parse why) (Lex l) f g = absurd (lexes_not_says bytes f.0 l g.0 f.1 g.1)
+one_fault o bytes (Parse why) (Parse other) f g = (other, refl)
+one_fault o bytes (Parse why) (Types other) f g = absurd (no_parse_fault o bytes _ why g f)
+one_fault o bytes (Parse why) (Plan full) f g = absurd (no_parse_fault o bytes _ why g f)
+one_fault o bytes (Parse why) (Link full) f g = absurd (no_parse_fault o bytes _ why g f)
+one_fault o bytes (Types why) (Lex l) f g = absurd (no_lexer_fault bytes _ l f g)
+one_fault o bytes (Types why) (Parse other) f g = absurd (no_parse_fault o bytes _ other f g)
+one_fault o bytes (Types why) (Types other) f g = (other, refl)
+one_fault o bytes (Types why) (Plan full) f g = absurd (not_faulty o bytes _ why g f)
+one_fault o bytes (Types why) (Link full) f g = absurd (not_faulty o bytes _ why g f)
+one_fault o bytes (Plan full) (Lex l) f g = absurd (no_lexer_fault bytes _ l f g)
+one_fault o bytes (Link full) (Lex l) f g = absurd (no_lexer_fault bytes _ l f g)
+one_fault o bytes (Plan full) (Parse other) f g = absurd (no_parse_fault o bytes _ other f g)
+one_fault o bytes (Link full) (Parse other) f g = absurd (no_parse_fault o bytes _ other f g)
+one_fault o bytes (Plan full) (Types other) f g = absurd (not_faulty o bytes _ other f g)
+one_fault o bytes (Link full) (Types other) f g = absurd (not_faulty o bytes _ other f g)
+one_fault o bytes (Plan why) (Plan other) f g = let b = both_of_program bytes _ _ f g in sym (ap Plan (one_plan_fault b.0 why other b.1 b.2))
+one_fault o bytes (Plan why) (Link other) f g = let b = both_of_program bytes _ _ f g in absurd (plan_or_link o b.0 why other b.1 b.2)
+one_fault o bytes (Link why) (Plan other) f g = let b = both_of_program bytes _ _ f g in absurd (plan_or_link o b.0 other why b.2 b.1)
+one_fault o bytes (Link why) (Link other) f g = let b = both_of_program bytes _ _ f g in sym (ap Link (one_link_fault o b.0 why other b.1 b.2))
+one_fault o bytes NoMemory b f g = absurd f
+one_fault o bytes (Lex l) NoMemory f g = absurd g
+one_fault o bytes (Parse why) NoMemory f g = absurd g
+one_fault o bytes (Types why) NoMemory f g = absurd g
+one_fault o bytes (Plan full) NoMemory f g = absurd g
+one_fault o bytes (Link full) NoMemory f g = absurd g
 
 -- an accepted source has no fault
-pub accepted_no_fault : (bytes : List ℕ) (a : BuildFault) → IsAccepted bytes → HasFault bytes a → ⊥
-accepted_no_fault bytes (Lex l) h f = no_lexer_fault bytes _ l h f
-accepted_no_fault bytes (Parse why) h f = no_parse_fault bytes _ why h f
-accepted_no_fault bytes (Types why) h f = not_faulty bytes _ why h f
-accepted_no_fault bytes (Plan why) h f = let b = both_of_program bytes _ _ h f in image_no_plan_fault b.0 b.1.0 why b.1.1 b.2
-accepted_no_fault bytes (Link why) h f = let b = both_of_program bytes _ _ h f in image_no_link_fault b.0 b.1.0 why b.1.1 b.2
-accepted_no_fault bytes NoMemory h f = f
+pub accepted_no_fault : (o : Options) (bytes : List ℕ) (a : BuildFault) → IsAccepted o bytes → HasFault o bytes a → ⊥
+accepted_no_fault o bytes (Lex l) h f = no_lexer_fault bytes _ l h f
+accepted_no_fault o bytes (Parse why) h f = no_parse_fault o bytes _ why h f
+accepted_no_fault o bytes (Types why) h f = not_faulty o bytes _ why h f
+accepted_no_fault o bytes (Plan why) h f = let b = both_of_program bytes _ _ h f in image_no_plan_fault o b.0 b.1.0 why b.1.1 b.2
+accepted_no_fault o bytes (Link why) h f = let b = both_of_program bytes _ _ h f in image_no_link_fault o b.0 b.1.0 why b.1.1 b.2
+accepted_no_fault o bytes NoMemory h f = f
 
 -- one without a typed program has none but of types
-pub untyped_fault : (bytes : List ℕ) (a : BuildFault) → IsUntyped bytes → HasFault bytes a → IsOfTypes a
-untyped_fault bytes (Lex l) u f = absurd (no_lexer_fault bytes _ l u f)
-untyped_fault bytes (Parse why) u f = absurd (no_parse_fault bytes _ why u f)
-untyped_fault bytes (Types why) u f = (why, refl)
-untyped_fault bytes (Plan why) u f = let b = both_of_tree bytes _ _ f u in absurd (b.2 b.1.0 b.1.1)
-untyped_fault bytes (Link why) u f = let b = both_of_tree bytes _ _ f u in absurd (b.2 b.1.0 b.1.1)
-untyped_fault bytes NoMemory u f = absurd f
+pub untyped_fault : (o : Options) (bytes : List ℕ) (a : BuildFault) → IsUntyped bytes → HasFault o bytes a → IsOfTypes a
+untyped_fault o bytes (Lex l) u f = absurd (no_lexer_fault bytes _ l u f)
+untyped_fault o bytes (Parse why) u f = absurd (no_parse_fault o bytes _ why u f)
+untyped_fault o bytes (Types why) u f = (why, refl)
+untyped_fault o bytes (Plan why) u f = let b = both_of_tree bytes _ _ f u in absurd (b.2 b.1.0 b.1.1)
+untyped_fault o bytes (Link why) u f = let b = both_of_tree bytes _ _ f u in absurd (b.2 b.1.0 b.1.1)
+untyped_fault o bytes NoMemory u f = absurd f
 
 -- nor is it accepted
-pub untyped_not_accepted : (bytes : List ℕ) → IsUntyped bytes → IsAccepted bytes → ⊥
-untyped_not_accepted bytes u a = let b = both_of_tree bytes _ _ a u in b.2 b.1.0 b.1.1
+pub untyped_not_accepted : (o : Options) (bytes : List ℕ) → IsUntyped bytes → IsAccepted o bytes → ⊥
+untyped_not_accepted o bytes u a = let b = both_of_tree bytes _ _ a u in b.2 b.1.0 b.1.1
 
--- one with a typed program has none but that its data or its code find no room
-pub program_no_fault : (bytes : List ℕ) (program : ProgramTree) (a : BuildFault) → HasProgram bytes program → HasNoProgramFor a bytes → ⊥
-program_no_fault bytes program (Lex l) h f = no_lexer_fault bytes _ l h f.1
-program_no_fault bytes program (Parse why) h f = no_parse_fault bytes _ why h f.1
-program_no_fault bytes program (Types why) h f = not_faulty bytes (λ p. Unit {0}) why (h.0, h.1, h.2, h.3, (program, h.4, tt {0})) f.1
-program_no_fault bytes program (Plan why) h f = f.0
-program_no_fault bytes program (Link why) h f = f.0
-program_no_fault bytes program NoMemory h f = f.1
+-- one with a typed program has none of tokens, syntax or types
+pub program_no_fault : (o : Options) (bytes : List ℕ) (program : ProgramTree) (a : BuildFault) → HasProgram bytes program → HasNoProgramFor a bytes → ⊥
+program_no_fault o bytes program (Lex l) h f = no_lexer_fault bytes _ l h f
+program_no_fault o bytes program (Parse why) h f = no_parse_fault o bytes _ why h f
+program_no_fault o bytes program (Types why) h f = not_faulty o bytes (λ p. Unit {0}) why (h.0, h.1, h.2, h.3, (program, h.4, tt {0})) f
+program_no_fault o bytes program (Plan why) h f = f
+program_no_fault o bytes program (Link why) h f = f
+program_no_fault o bytes program NoMemory h f = f
 
 -- bytes have one typed program
 pub same_program : (bytes : List ℕ) (p q : ProgramTree) → HasProgram bytes p → HasProgram bytes q → p ≡ q

@@ -1,5 +1,5 @@
 -- What each fault of a source says of its bytes (docs/COMMANDS.md, "Statuses and lines").
-use Rattle.std.specs.Prelude.{◌≡◌, ◌≢◌, ⊤, ℕ, List}
+use Rattle.std.specs.Prelude.{◌≡◌, ◌≢◌, ℕ, List}
 use Rattle.c_syntax.specs.declared.token.Token.{Token}
 use Rattle.c_syntax.specs.Lexes.{Lexes}
 use Rattle.c_lexer.specs.declared.fault.LexFault.{LexFault}
@@ -15,6 +15,7 @@ use Rattle.c_rules.specs.Faults as rules
 use Rattle.c_rules.specs.declared.fault.TypeFault.{TypeFault}
 use Rattle.c_rules.specs.declared.fault.TypeFault.TheVariants as types
 use Rattle.c25_isa.specs.Image.{Contents}
+use Rattle.cc_frames.specs.declared.options.Options.{Options}
 use Rattle.cc_image.specs.Images.{HasImage, HasPlanFault, HasLinkFault}
 use Rattle.cc_fault.specs.declared.fault.BuildFault.{BuildFault}
 use Rattle.cc_fault.specs.declared.fault.BuildFault.TheVariants.{Lex, Parse, Types, Plan, Link, NoMemory}
@@ -32,8 +33,8 @@ abbrev pub HasProgram : List ℕ → ProgramTree → Type 0
 HasProgram bytes program = HasTree bytes (λ source. IsTyped source program)
 
 -- the bytes have a tree, whose typed program has an image
-abbrev pub IsAccepted : List ℕ → Type 0
-IsAccepted bytes = HasTree bytes (IsTypedWith (λ program. (image : Contents) × HasImage program image))
+abbrev pub IsAccepted : Options → List ℕ → Type 0
+IsAccepted o bytes = HasTree bytes (IsTypedWith (λ program. (image : Contents) × HasImage o program image))
 
 -- the bytes have a tree, which has no typed program
 abbrev pub IsUntyped : List ℕ → Type 0
@@ -52,24 +53,18 @@ IsParseFault parse.NoMemory tokens = ⊥
 abbrev pub IsTypeFault : TypeFault → UnitTree → Type 0
 IsTypeFault why source = (why ≢ types.NoMemory) × rules.Says source why
 
--- what each fault says of the bytes of a source. Want of memory is no fault of a source.
-abbrev pub HasFault : List ℕ → BuildFault → Type 0
-HasFault bytes (Lex why) = IsLexFault why bytes
-HasFault bytes (Parse why) = (tokens : List Token) × Lexes bytes tokens × IsParseFault why tokens
-HasFault bytes (Types why) = HasTree bytes (IsTypeFault why)
-HasFault bytes (Plan why) = HasTree bytes (IsTypedWith (λ program. HasPlanFault program why))
-HasFault bytes (Link why) = HasTree bytes (IsTypedWith (λ program. HasLinkFault program why))
-HasFault bytes NoMemory = ⊥
-
--- a fault of tokens, syntax or types
-abbrev pub IsOfSource : BuildFault → Type 0
-IsOfSource (Plan why) = ⊥
-IsOfSource (Link why) = ⊥
-IsOfSource why = ⊤
-
--- the bytes have this fault, which leaves them without a typed program
+-- the bytes have a fault of tokens, syntax or types, which leaves them without a typed program
 abbrev pub HasNoProgramFor : BuildFault → List ℕ → Type 0
-HasNoProgramFor why bytes = IsOfSource why × HasFault bytes why
+HasNoProgramFor (Lex why) bytes = IsLexFault why bytes
+HasNoProgramFor (Parse why) bytes = (tokens : List Token) × Lexes bytes tokens × IsParseFault why tokens
+HasNoProgramFor (Types why) bytes = HasTree bytes (IsTypeFault why)
+HasNoProgramFor why bytes = ⊥
+
+-- what each fault says of the bytes of a source, with frames laid out as is chosen. Want of memory is no fault of a source.
+abbrev pub HasFault : Options → List ℕ → BuildFault → Type 0
+HasFault o bytes (Plan why) = HasTree bytes (IsTypedWith (λ program. HasPlanFault program why))
+HasFault o bytes (Link why) = HasTree bytes (IsTypedWith (λ program. HasLinkFault o program why))
+HasFault o bytes why = HasNoProgramFor why bytes
 
 -- both are one fault, but for the place that one of syntax names and for which one of types
 abbrev pub IsSameFault : BuildFault → BuildFault → Type 0

@@ -1,6 +1,5 @@
 pub mod OneImage
-pub mod RisingLemmas
+mod LayoutLemmas
 mod NameLemmas
 pub mod PieceLemmas
-mod ProgramLemmas
 mod TranslationLemmas

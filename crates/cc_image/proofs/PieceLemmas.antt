@@ -21,7 +21,8 @@ use Rattle.frame_emit.specs.Startup.{startup_piece}
 use Rattle.frame_emit.specs.Emitted.{function_piece, function_pieces, setting_of}
 use Rattle.std.proofs.Math.Logic.{∥∥₁_map}
 use Rattle.cc_image.proofs.NameLemmas.{known_either, names_either}
-use Rattle.cc_image.specs.Images.{own_pieces, all_pieces, rising_arrangements}
+use Rattle.cc_frames.specs.declared.options.Options.{Options}
+use Rattle.cc_image.specs.Images.{own_pieces, all_pieces, layouts}
 
 first_of : {A : Type 0} (P : A → Type 0) (x : A) (xs : List A) → All P (x ∷ xs) → P x
 first_of P x xs all = all 0 x (omega arith)
@@ -54,20 +55,20 @@ module _ (plan : DataPlan) (step : ℕ) (parameters names : List (List ℕ)) whe
 helpers_unlisted : All IsLinkable helper_pieces
 helpers_unlisted = All-map IsLinkable routine_piece all_routines (λ k d within. unlisted (routine_piece (slice_index_or all_routines k d)) refl)
 
-known_names : (p : ProgramCode) → ∥ IsCode p ∥₁ → All IsName (map (λ (f : FunctionCode). f.name) p.functions)
+pub known_names : (p : ProgramCode) → ∥ IsCode p ∥₁ → All IsName (map (λ (f : FunctionCode). f.name) p.functions)
 known_names p known = known_either (names_either (map (λ (f : FunctionCode). f.name) p.functions)) (∥∥₁_map known (λ (is : IsCode p). is.names))
 
-pub pieces_linkable : (p : ProgramCode) (plan : DataPlan) → ∥ IsCode p ∥₁ → All IsLinkable (all_pieces p plan)
-pieces_linkable p plan known =
-    All-append IsLinkable (own_pieces p plan) _
+pub pieces_linkable : (o : Options) (p : ProgramCode) (plan : DataPlan) → ∥ IsCode p ∥₁ → All IsLinkable (all_pieces o p plan)
+pieces_linkable o p plan known =
+    All-append IsLinkable (own_pieces o p plan) _
     (All-cons IsLinkable (startup_piece plan.statics p.statics) _ (unlisted (startup_piece plan.statics p.statics) refl)
-    (functions_linkable plan 1 (all_parameters p.functions plan.frames (rising_arrangements p)) (map (λ (g : FunctionItems). g.name) (selected p)) p.functions plan.frames (rising_arrangements p) (known_names p known)))
-    (All-filter (λ (x : Piece). pieces_call x.name (own_pieces p plan)) IsLinkable helper_pieces helpers_unlisted)
+    (functions_linkable plan o.step (all_parameters p.functions plan.frames (layouts o p)) (map (λ (g : FunctionItems). g.name) (selected p)) p.functions plan.frames (layouts o p) (known_names p known)))
+    (All-filter (λ (x : Piece). pieces_call x.name (own_pieces o p plan)) IsLinkable helper_pieces helpers_unlisted)
 
 -- pieces in memory
 linkable_in : (ps : List code.Piece) → All IsLinkable (map piece_of ps) → All (λ q. IsLinkable (piece_of q)) ps
 linkable_in ps h = λ k d within. subst IsLinkable (get_or-map piece_of ps k d (piece_of d) within) (h k (piece_of d) (subst (λ n. k < n) (sym (length-map ps piece_of)) within))
 
-pub known_linkable : (p : ProgramCode) (plan : DataPlan) (ps list : List code.Piece) → ∥ IsCode p ∥₁ → map piece_of ps ≡ all_pieces p plan → list ≡ ps → All (λ q. IsLinkable (piece_of q)) list
-known_linkable p plan ps list known are same =
-    subst (All (λ (q : code.Piece). IsLinkable (piece_of q))) (sym same) (linkable_in ps (subst (All IsLinkable) (sym are) (pieces_linkable p plan known)))
+pub known_linkable : (o : Options) (p : ProgramCode) (plan : DataPlan) (ps list : List code.Piece) → ∥ IsCode p ∥₁ → map piece_of ps ≡ all_pieces o p plan → list ≡ ps → All (λ q. IsLinkable (piece_of q)) list
+known_linkable o p plan ps list known are same =
+    subst (All (λ (q : code.Piece). IsLinkable (piece_of q))) (sym same) (linkable_in ps (subst (All IsLinkable) (sym are) (pieces_linkable o p plan known)))

@@ -1,6 +1,6 @@
 -- What emission wants of the code of a program, and what the faults of phases say of the program.
-use Rattle.std.proofs.Common.{◌≡◌, ◌<◌, ℕ, zero, suc, List, [], ◌∷◌, length, refl, subst, arith}
-use Rattle.std.specs.Prelude.{All, slice_get, slice_index_or, Some}
+use Rattle.std.proofs.Common.{◌≡◌, ◌<◌, ℕ, zero, suc, List, [], ◌∷◌, length, refl, sym, subst, arith}
+use Rattle.std.specs.Prelude.{All, slice_get, slice_index_or, Some, Result, Ok, Err, IfErr, IsErrAnd}
 use Rattle.c_tree.specs.TypedTree.{ProgramTree}
 use Rattle.tree_code.specs.WordTree.{ProgramCode}
 use Rattle.tree_code.specs.Lowered.{lowered_program}
@@ -17,6 +17,7 @@ use Rattle.frame_emit.proofs.Naming.{all_right}
 use Rattle.cc_image.specs.declared.fault.TranslationFault.{TranslationFault}
 use Rattle.cc_image.specs.declared.fault.TranslationFault.TheVariants.{Plan, Link, NoMemory}
 use Rattle.cc_image.specs.Faults.{Says, SaysOfTree, SaysOfPieces}
+use Rattle.cc_frames.specs.declared.options.Options.{Options}
 use Rattle.cc_image.specs.Images.{IsPlanOf, all_pieces}
 
 element_at : {A : Type 0} (xs : List A) (k : ℕ) (d : A) → k < length xs → slice_get xs k ≡ Some (slice_index_or xs k d)
@@ -36,16 +37,18 @@ emittable_right p gs is = λ k d within.
     let each = is.each k f.0 g f.1 (element_at gs k d within) in
     all_right g.scalars (object_cells p f.0) (called_parameters p f.0) (uses_helper f.0.body) g.body each.body.refers
 
-pub tree_says : (t : ProgramTree) (p : ProgramCode) (why : TranslationFault) → p ≡ lowered_program t → SaysOfTree p why → Says t why
-tree_says t p (Plan (plan_faults.DataFull words)) same h = subst (λ q. SaysOfTree q (Plan (plan_faults.DataFull words))) same h
-tree_says t p (Plan plan_faults.NoMemory) same h = h
-tree_says t p (Link why) same h = absurd h
-tree_says t p NoMemory same h = tt
+pub tree_says : (o : Options) (t : ProgramTree) (p : ProgramCode) (why : TranslationFault) → p ≡ lowered_program t → SaysOfTree p why → Says o t why
+tree_says o t p (Plan (plan_faults.DataFull words)) same h = subst (λ q. SaysOfTree q (Plan (plan_faults.DataFull words))) same h
+tree_says o t p (Plan plan_faults.NoMemory) same h = h
+tree_says o t p (Link why) same h = absurd h
+tree_says o t p NoMemory same h = tt
 
-pub pieces_say : (t : ProgramTree) (plan : DataPlan) (pieces : List Piece) (why : TranslationFault) → IsPlanOf t plan → pieces ≡ all_pieces (lowered_program t) plan → SaysOfPieces pieces why → Says t why
-pieces_say t plan pieces (Plan why) is same h = absurd h
-pieces_say t plan pieces (Link (link_faults.CodeFull words)) is same h =
-    let here = subst (λ ps. SaysOfPieces ps (Link (link_faults.CodeFull words))) same h in
-    record { plan = plan; planned = is; is = here.0; over = here.1 }
-pieces_say t plan pieces (Link link_faults.NoMemory) is same h = h
-pieces_say t plan pieces NoMemory is same h = tt
+pub pieces_say : (o : Options) (t : ProgramTree) (plan : DataPlan) (why : TranslationFault) → IsPlanOf o t plan → SaysOfPieces (all_pieces o (lowered_program t) plan) why → Says o t why
+pieces_say o t plan (Plan why) is h = absurd h
+pieces_say o t plan (Link (link_faults.CodeFull words)) is h = record { plan = plan; planned = is; is = h.0; over = h.1 }
+pieces_say o t plan (Link link_faults.NoMemory) is h = h
+pieces_say o t plan NoMemory is h = tt
+
+pub passed_on : {A : Type 0} (o : Options) (t : ProgramTree) (r : Result A TranslationFault) (why : TranslationFault) → IsErrAnd r (λ e. e ≡ why) → Says o t why → IfErr r (Says o t)
+passed_on o t (Ok a) why is says = absurd is
+passed_on o t (Err e) why is says = subst (Says o t) (sym is) says

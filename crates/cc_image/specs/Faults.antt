@@ -11,6 +11,7 @@ use Rattle.tree_code.specs.WordTree.{ProgramCode}
 use Rattle.mem_plan.specs.Plan.{IsTooLarge}
 use Rattle.c25_isa.specs.Pieces.{Piece}
 use Rattle.c25_link.specs.Linking.{pieces_words}
+use Rattle.cc_frames.specs.declared.options.Options.{Options}
 use Rattle.cc_image.specs.Images.{HasPlanFault, HasLinkFault}
 
 abbrev pub of_plan_fault : PlanFault → TranslationFault
@@ -22,10 +23,10 @@ of_link_fault link_faults.NoMemory = NoMemory
 of_link_fault why = Link why
 
 -- want of memory may come with any program
-abbrev pub Says : ProgramTree → TranslationFault → Type 0
-Says t (Plan why) = HasPlanFault t why
-Says t (Link why) = HasLinkFault t why
-Says t NoMemory = ⊤
+abbrev pub Says : Options → ProgramTree → TranslationFault → Type 0
+Says o t (Plan why) = HasPlanFault t why
+Says o t (Link why) = HasLinkFault o t why
+Says o t NoMemory = ⊤
 
 -- the same of a word tree, of which a plan is wanted, and of pieces that are linked
 abbrev pub SaysOfTree : ProgramCode → TranslationFault → Type 0

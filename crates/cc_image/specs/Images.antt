@@ -1,15 +1,18 @@
--- What a typed program becomes (docs/TRANSLATION.md): word trees, accumulator code, a plan of data memory, pieces, and an image.
-use Rattle.std.specs.Prelude.{◌≡◌, ℕ, zero, suc, ◌<◌, ◌≤◌, List, [], ◌∷◌, ◌++◌, map}
+-- What a typed program becomes (docs/TRANSLATION.md): word trees, accumulator code, layouts of frames, a plan of data memory, pieces, an image and a
+-- certificate. A command chooses how frames are laid out.
+use Rattle.std.specs.Prelude.{◌≡◌, ℕ, ◌<◌, ◌≤◌, List, ◌++◌, map}
 use Rattle.c_tree.specs.TypedTree.{ProgramTree}
 use Rattle.tree_code.specs.WordTree.{ProgramCode}
 use Rattle.tree_code.specs.Lowered.{lowered_program}
-use Rattle.acc_code.specs.Emittable.{counting}
 use Rattle.acc_select.specs.Selected.{selected}
 use Rattle.mem_plan.specs.declared.data_plan.DataPlan.{DataPlan}
 use Rattle.mem_plan.specs.declared.data_plan.PlanFault.{PlanFault}
 use Rattle.mem_plan.specs.declared.data_plan.PlanFault.TheVariants as plan_faults
 use Rattle.mem_plan.specs.Plan.{IsPlan, IsTooLarge}
 use Rattle.frame_emit.specs.Emitted.{emitted}
+use Rattle.lay_cert.specs.Frames.{Frame}
+use Rattle.cc_frames.specs.declared.options.Options.{Options}
+use Rattle.cc_frames.specs.Frames.{layout_of, frames_of}
 use Rattle.c25_isa.specs.Image.{Contents}
 use Rattle.c25_isa.specs.Pieces.{Piece}
 use Rattle.c25_helper.specs.Calls.{called_helper_pieces}
@@ -17,44 +20,46 @@ use Rattle.c25_link.specs.Linking.{linked_image, pieces_words}
 use Rattle.c25_link.specs.declared.fault.LinkFault.{LinkFault}
 use Rattle.c25_link.specs.declared.fault.LinkFault.TheVariants as link_faults
 
--- all scalars of a frame in rising order, on one register
-abbrev pub rising : ℕ → List (List ℕ)
-rising zero = []
-rising (suc n) = counting 0 (suc n) ∷ []
-
-abbrev pub rising_arrangements : ProgramCode → List (List (List ℕ))
-rising_arrangements p = map (λ f. rising f.scalars) p.functions
+-- the layouts of a program's frames
+abbrev pub layouts : Options → ProgramCode → List (List (List ℕ))
+layouts o p = map (layout_of o) (selected p)
 
 -- the pieces of a program by a plan, and with the routines that they call
-abbrev pub own_pieces : ProgramCode → DataPlan → List Piece
-own_pieces p plan = emitted p (selected p) plan (rising_arrangements p) 1
+abbrev pub own_pieces : Options → ProgramCode → DataPlan → List Piece
+own_pieces o p plan = emitted p (selected p) plan (layouts o p) o.step
 
 abbrev pub with_helpers : List Piece → List Piece
 with_helpers pieces = pieces ++ called_helper_pieces pieces
 
-abbrev pub all_pieces : ProgramCode → DataPlan → List Piece
-all_pieces p plan = with_helpers (own_pieces p plan)
+abbrev pub all_pieces : Options → ProgramCode → DataPlan → List Piece
+all_pieces o p plan = with_helpers (own_pieces o p plan)
 
 -- the plan of a typed program
-abbrev pub IsPlanOf : ProgramTree → DataPlan → Type 0
-IsPlanOf t plan = IsPlan (lowered_program t) (rising_arrangements (lowered_program t)) plan
+abbrev pub IsPlanOf : Options → ProgramTree → DataPlan → Type 0
+IsPlanOf o t plan = IsPlan (lowered_program t) (layouts o (lowered_program t)) plan
 
 -- a typed program has this image
-pub record HasImage (t : ProgramTree) (image : Contents) : Type 0 where
+pub record HasImage (o : Options) (t : ProgramTree) (image : Contents) : Type 0 where
   pub plan : DataPlan
-  pub planned : IsPlanOf t plan
-  pub fits : pieces_words (all_pieces (lowered_program t) plan) ≤ 65536
-  pub is : image ≡ linked_image (all_pieces (lowered_program t) plan)
+  pub planned : IsPlanOf o t plan
+  pub fits : pieces_words (all_pieces o (lowered_program t) plan) ≤ 65536
+  pub is : image ≡ linked_image (all_pieces o (lowered_program t) plan)
+
+-- and these frames, in the order of its functions
+pub record HasFrames (o : Options) (t : ProgramTree) (frames : List Frame) : Type 0 where
+  pub plan : DataPlan
+  pub planned : IsPlanOf o t plan
+  pub are : frames ≡ frames_of o (selected (lowered_program t)) plan.frames
 
 -- its data need so many words, which are too many
 abbrev pub HasTooMuchData : ProgramTree → ℕ → Type 0
 HasTooMuchData t words = IsTooLarge (lowered_program t) words
 
 -- its code takes so many words, which are too many
-pub record HasTooMuchCode (t : ProgramTree) (words : ℕ) : Type 0 where
+pub record HasTooMuchCode (o : Options) (t : ProgramTree) (words : ℕ) : Type 0 where
   pub plan : DataPlan
-  pub planned : IsPlanOf t plan
-  pub is : words ≡ pieces_words (all_pieces (lowered_program t) plan)
+  pub planned : IsPlanOf o t plan
+  pub is : words ≡ pieces_words (all_pieces o (lowered_program t) plan)
   pub over : 65536 < words
 
 -- what each fault says of a typed program. Want of memory is no fault of it
@@ -62,6 +67,6 @@ abbrev pub HasPlanFault : ProgramTree → PlanFault → Type 0
 HasPlanFault t (plan_faults.DataFull words) = HasTooMuchData t words
 HasPlanFault t plan_faults.NoMemory = ⊥
 
-abbrev pub HasLinkFault : ProgramTree → LinkFault → Type 0
-HasLinkFault t (link_faults.CodeFull words) = HasTooMuchCode t words
-HasLinkFault t link_faults.NoMemory = ⊥
+abbrev pub HasLinkFault : Options → ProgramTree → LinkFault → Type 0
+HasLinkFault o t (link_faults.CodeFull words) = HasTooMuchCode o t words
+HasLinkFault o t link_faults.NoMemory = ⊥

@@ -1,16 +1,19 @@
 //! The law of images.
-ghost use Rattle.std.specs.Prelude.{◌≡◌, ℕ};
+ghost use Rattle.std.specs.Prelude.{◌≡◌, ℕ, List};
 ghost use Rattle.c_tree.specs.TypedTree.{ProgramTree};
 ghost use Rattle.c25_isa.specs.Image.{Contents};
-ghost use Rattle.cc_image.specs.Images.{HasImage, HasTooMuchData, HasTooMuchCode};
+ghost use Rattle.cc_frames.specs.declared.options.Options.{Options};
+ghost use Rattle.lay_cert.specs.Frames.{Frame};
+ghost use Rattle.cc_image.specs.Images.{HasFrames, HasImage, HasTooMuchData, HasTooMuchCode};
 
-/// A typed program has one image at most, and none where its data or its code find no room; how many words they need is one number. It does
+/// A typed program has one image at most and one list of frames, and no image where its data or its code find no room; how many words they need is one number. It does
 /// nothing: its clauses are what callers cite.
 pub fn one_image()
-    ensures one { (t : ProgramTree) (a b : Contents) → HasImage t a → HasImage t b → a ≡ b }
-    ensures no_data { (t : ProgramTree) (a : Contents) (n : ℕ) → HasImage t a → ¬ HasTooMuchData t n }
-    ensures no_code { (t : ProgramTree) (a : Contents) (n : ℕ) → HasImage t a → ¬ HasTooMuchCode t n }
+    ensures one { (o : Options) (t : ProgramTree) (a b : Contents) → HasImage o t a → HasImage o t b → a ≡ b }
+    ensures same { (o : Options) (t : ProgramTree) (a b : List Frame) → HasFrames o t a → HasFrames o t b → a ≡ b }
+    ensures no_data { (o : Options) (t : ProgramTree) (a : Contents) (n : ℕ) → HasImage o t a → ¬ HasTooMuchData t n }
+    ensures no_code { (o : Options) (t : ProgramTree) (a : Contents) (n : ℕ) → HasImage o t a → ¬ HasTooMuchCode o t n }
     ensures one_data { (t : ProgramTree) (n m : ℕ) → HasTooMuchData t n → HasTooMuchData t m → n ≡ m }
-    ensures one_code { (t : ProgramTree) (n m : ℕ) → HasTooMuchCode t n → HasTooMuchCode t m → n ≡ m }
-    ensures apart { (t : ProgramTree) (n m : ℕ) → HasTooMuchData t n → ¬ HasTooMuchCode t m }
+    ensures one_code { (o : Options) (t : ProgramTree) (n m : ℕ) → HasTooMuchCode o t n → HasTooMuchCode o t m → n ≡ m }
+    ensures apart { (o : Options) (t : ProgramTree) (n m : ℕ) → HasTooMuchData t n → ¬ HasTooMuchCode o t m }
 {}

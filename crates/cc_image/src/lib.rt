@@ -1,13 +1,13 @@
-//! The image of a typed program: the phases from word trees to linked words, in a row.
+//! The image and the certificate of a typed program: the phases from word trees to linked words, in a row.
 #![tactic(auto)]
 
-mod arrangement;
 mod fault;
 mod laws;
 mod phases;
 
 pub use c25_link::LinkFault;
+pub use cc_frames::Options;
 pub use fault::TranslationFault;
 pub use laws::one_image;
 pub use mem_plan::PlanFault;
-pub use phases::translate;
+pub use phases::{Translated, translate};

@@ -1,33 +1,41 @@
 //! The phases from a typed program to its image.
 ghost use Rattle.std.specs.Prelude.{◌≡◌, ◌≤◌, map, All, IfOk, IfErr};
-ghost use Rattle.acc_code.specs.AccView.{functions_of};
+ghost use Rattle.acc_code.specs.AccSequence.{IsInFrame};
+ghost use Rattle.acc_code.specs.AccView.{function_items_of, functions_of};
 ghost use Rattle.acc_select.specs.IsSelected.{IsEmittable};
 ghost use Rattle.acc_select.specs.Selected.{selected};
 ghost use Rattle.c25_isa.specs.Pieces.{piece_of};
 ghost use Rattle.c25_link.specs.Linking.{IsLinkable, linked_image, pieces_words as words_together};
 ghost use Rattle.c_tree.specs.ProgramView.{program_of};
+ghost use Rattle.c_tree.specs.TypedTree.{ProgramTree};
+ghost use Rattle.cc_frames.specs.Frames.{AreOptions, AreLayouts, ClaimsHold, frames_of};
 ghost use Rattle.cc_image.specs.Faults.{Says, SaysOfPieces, SaysOfTree};
-ghost use Rattle.cc_image.specs.Images.{HasImage, all_pieces, own_pieces, rising_arrangements as risen, with_helpers as with_called};
+ghost use Rattle.cc_image.specs.Images.{HasFrames, HasImage, all_pieces, layouts as laid_out, with_helpers as with_called};
 ghost use Rattle.mem_plan.specs.Plan.{IsPlan};
 ghost use Rattle.tree_code.specs.Lowered.{lowered_program};
 ghost use Rattle.tree_code.specs.ProgramView.{tree_of};
 
-use crate::arrangement::rising_arrangements;
 use crate::fault::TranslationFault;
-use acc_select::{AccProgram, select};
+use acc_select::{AccFunction, AccProgram, select};
 use c_tree::Program;
 use c25_helper::called_helpers;
 use c25_isa::{Image, Piece};
 use c25_link::{counted_words, link};
+use cc_frames::{Layouts, Options, certificate_of, lay_out};
 use frame_emit::emit;
-use lay_model::Arrangement;
+use lay_cert::Certificate;
 use mem_plan::{DataPlan, plan};
 use std::alloc::Global;
+use std::thread::Threads;
 use tree_code::{TreeProgram, lower};
-use word_base::NoMemory;
+use word_base::{Gate, NoMemory};
 
-/// By how much AR0 moves a register, until a command chooses.
-const STEP: u8 = 1;
+/// What a typed program becomes: its words, and what shows how its frames are laid out.
+#[derive(Debug, Drop)]
+pub struct Translated {
+    pub image: Image,
+    pub certificate: Certificate,
+}
 
 // Behind selection.
 #[derive(Drop)]
@@ -39,7 +47,7 @@ struct Chosen {
 // Behind planning.
 #[derive(Drop)]
 struct Planned {
-    arrangements: Vec<Arrangement>,
+    layouts: Layouts,
     plan: DataPlan,
 }
 
@@ -53,14 +61,34 @@ fn choose(alloc: Global, program: &Program) -> Result<Chosen, NoMemory>
     Ok(Chosen { tree, code })
 }
 
-fn lay_out(alloc: Global, tree: &TreeProgram) -> Result<Planned, TranslationFault>
-    ensures arrangements { IfOk result (λ p. p.arrangements.items ≡ risen (tree_of tree.now)) }
-    ensures plan { IfOk result (λ p. IsPlan (tree_of tree.now) (risen (tree_of tree.now)) p.plan) }
-    ensures refused { IfErr result (SaysOfTree (tree_of tree.now)) }
+// The functions, whose scalars are those of their frames.
+fn functions(chosen: &Chosen) -> &[AccFunction]
+    requires { IsEmittable (tree_of chosen.now.tree) (functions_of chosen.now.code) }
+    ensures same { result.now ≡ chosen.now.code.functions }
+    ensures in_frames { All (λ f. IsInFrame (function_items_of f)) result.now }
 {
-    let arrangements = rising_arrangements(alloc, tree.functions.as_slice())?;
-    let plan = plan(alloc, tree, &arrangements)?;
-    Ok(Planned { arrangements, plan })
+    chosen.code.functions.as_slice()
+}
+
+// The layouts of all frames, and where they lie.
+fn with_plan<R: Threads + Sync, G: Gate + Sync>(
+    rt: &R,
+    alloc: Global,
+    gate: &G,
+    options: Options,
+    chosen: &Chosen,
+) -> Result<Planned, TranslationFault>
+    requires options { AreOptions options }
+    requires emittable { IsEmittable (tree_of chosen.now.tree) (functions_of chosen.now.code) }
+    requires code { functions_of chosen.now.code ≡ selected (tree_of chosen.now.tree) }
+    ensures layouts { IfOk result (λ p. AreLayouts options (selected (tree_of chosen.now.tree)) p.layouts) }
+    ensures plan { IfOk result (λ p. IsPlan (tree_of chosen.now.tree) (laid_out options (tree_of chosen.now.tree)) p.plan) }
+    ensures refused { IfErr result (SaysOfTree (tree_of chosen.now.tree)) }
+{
+    cc_frames::layouts_are_arranged();
+    let layouts = lay_out(rt, alloc, gate, options, functions(chosen))?;
+    let plan = plan(alloc, &chosen.tree, &layouts.arrangements)?;
+    Ok(Planned { layouts, plan })
 }
 
 // The pieces with the routines that they call.
@@ -73,19 +101,26 @@ fn with_helpers(alloc: Global, mut pieces: Vec<Piece>) -> Result<Vec<Piece>, NoM
     Ok(pieces)
 }
 
-fn pieces(alloc: Global, chosen: &Chosen, planned: &Planned) -> Result<Vec<Piece>, NoMemory>
+fn pieces(
+    alloc: Global,
+    options: Options,
+    chosen: &Chosen,
+    planned: &Planned,
+) -> Result<Vec<Piece>, NoMemory>
+    requires options { AreOptions options }
     requires emittable { IsEmittable (tree_of chosen.now.tree) (functions_of chosen.now.code) }
     requires code { functions_of chosen.now.code ≡ selected (tree_of chosen.now.tree) }
-    requires arrangements { planned.now.arrangements.items ≡ risen (tree_of chosen.now.tree) }
-    requires plan { IsPlan (tree_of chosen.now.tree) (risen (tree_of chosen.now.tree)) planned.now.plan }
-    ensures { IfOk result (λ all. map piece_of all.items ≡ all_pieces (tree_of chosen.now.tree) planned.now.plan) }
+    requires layouts { AreLayouts options (selected (tree_of chosen.now.tree)) planned.now.layouts }
+    requires plan { IsPlan (tree_of chosen.now.tree) (laid_out options (tree_of chosen.now.tree)) planned.now.plan }
+    ensures { IfOk result (λ all. map piece_of all.items ≡ all_pieces options (tree_of chosen.now.tree) planned.now.plan) }
 {
+    cc_frames::layouts_are_arranged();
     let own = emit(
         alloc,
         &chosen.code,
         &planned.plan,
-        &planned.arrangements,
-        STEP,
+        &planned.layouts.arrangements,
+        options.step,
         &chosen.tree,
     )?;
     with_helpers(alloc, own)
@@ -104,13 +139,87 @@ fn linked(alloc: Global, pieces: &[Piece]) -> Result<Image, TranslationFault>
     Ok(link(alloc, pieces)?)
 }
 
-/// The image of a typed program. It is refused where its data or its code find no room.
-pub fn translate(alloc: Global, program: &Program) -> Result<Image, TranslationFault>
-    ensures image { IfOk result (HasImage (program_of program.now)) }
-    ensures refused { IfErr result (Says (program_of program.now)) }
+// The frames of the certificate.
+fn certified(
+    alloc: Global,
+    options: Options,
+    tree: &TreeProgram,
+    planned: Planned,
+) -> Result<Certificate, NoMemory>
+    requires options { AreOptions options }
+    requires layouts { AreLayouts options (selected (tree_of tree.now)) planned.layouts }
+    requires plan { IsPlan (tree_of tree.now) (laid_out options (tree_of tree.now)) planned.plan }
+    ensures { IfOk result (λ cert. cert ≡ frames_of options (selected (tree_of tree.now)) planned.plan.frames) }
+{
+    cc_frames::frames_are_arranged();
+    certificate_of(
+        alloc,
+        options.registers,
+        planned.layouts,
+        planned.plan.frames.as_slice(),
+    )
+}
+
+// The image by a plan.
+fn image_of(
+    alloc: Global,
+    options: Options,
+    chosen: &Chosen,
+    planned: &Planned,
+) -> Result<Image, TranslationFault>
+    requires options { AreOptions options }
+    requires emittable { IsEmittable (tree_of chosen.now.tree) (functions_of chosen.now.code) }
+    requires code { functions_of chosen.now.code ≡ selected (tree_of chosen.now.tree) }
+    requires layouts { AreLayouts options (selected (tree_of chosen.now.tree)) planned.now.layouts }
+    requires plan { IsPlan (tree_of chosen.now.tree) (laid_out options (tree_of chosen.now.tree)) planned.now.plan }
+    ensures image { IfOk result (λ image. image ≡ linked_image (all_pieces options (tree_of chosen.now.tree) planned.now.plan)) }
+    ensures fits { IfOk result (λ _. words_together (all_pieces options (tree_of chosen.now.tree) planned.now.plan) ≤ 65536) }
+    ensures refused { IfErr result (SaysOfPieces (all_pieces options (tree_of chosen.now.tree) planned.now.plan)) }
+{
+    let pieces = pieces(alloc, options, chosen, planned)?;
+    linked(alloc, &pieces)
+}
+
+// The image and the certificate behind selection.
+fn finished<R: Threads + Sync, G: Gate + Sync>(
+    rt: &R,
+    alloc: Global,
+    gate: &G,
+    options: Options,
+    chosen: &Chosen,
+) -> Result<Translated, TranslationFault>
+    requires options { AreOptions options }
+    requires emittable { IsEmittable (tree_of chosen.now.tree) (functions_of chosen.now.code) }
+    requires code { functions_of chosen.now.code ≡ selected (tree_of chosen.now.tree) }
+    ensures image { (t : ProgramTree) → tree_of chosen.now.tree ≡ lowered_program t → IfOk result (λ made. HasImage options t made.image) }
+    ensures frames { (t : ProgramTree) → tree_of chosen.now.tree ≡ lowered_program t → IfOk result (λ made. HasFrames options t made.certificate) }
+    ensures claims { IfOk result (λ made. All ClaimsHold made.certificate) }
+    ensures refused { (t : ProgramTree) → tree_of chosen.now.tree ≡ lowered_program t → IfErr result (Says options t) }
+{
+    cc_frames::claims_hold();
+    let planned = with_plan(rt, alloc, gate, options, chosen)?;
+    let image = image_of(alloc, options, chosen, &planned)?;
+    let certificate = certified(alloc, options, &chosen.tree, planned)?;
+    Ok(Translated { image, certificate })
+}
+
+/// The image and the certificate of a typed program, whose frames are laid out as is chosen. The pieces of a search run in threads where
+/// these can be made, and the gate sees each of them begin and end; what becomes of the program is the same whatever the threads do. It is
+/// refused where its data or its code find no room.
+pub fn translate<R: Threads + Sync, G: Gate + Sync>(
+    rt: &R,
+    alloc: Global,
+    gate: &G,
+    options: Options,
+    program: &Program,
+) -> Result<Translated, TranslationFault>
+    requires { AreOptions options }
+    ensures image { IfOk result (λ made. HasImage options (program_of program.now) made.image) }
+    ensures frames { IfOk result (λ made. HasFrames options (program_of program.now) made.certificate) }
+    // A frame costs what it says, and where it is claimed to be optimal no layout costs less.
+    ensures claims { IfOk result (λ made. All ClaimsHold made.certificate) }
+    ensures refused { IfErr result (Says options (program_of program.now)) }
 {
     let chosen = choose(alloc, program)?;
-    let planned = lay_out(alloc, &chosen.tree)?;
-    let pieces = pieces(alloc, &chosen, &planned)?;
-    linked(alloc, &pieces)
+    finished(rt, alloc, gate, options, &chosen)
 }

@@ -29,8 +29,8 @@ pub(crate) struct Left<'a> {
     /// How many fetches and stores it made.
     pub(crate) calls: u64,
     pub(crate) store_faults: u64,
-    /// How many files the shelf holds then.
-    pub(crate) files: usize,
+    /// What other names than `i` and `p` hold then.
+    pub(crate) stored: &'a [(&'a str, &'a [u8])],
 }
 
 // The words as a list.
@@ -61,10 +61,13 @@ pub(crate) fn leaves<R: Threads + Sync + AllocGlobal + Abort>(
     );
     assert_eq!(rt;
         (shelf.calls, shelf.store_faults, shelf.files.len()),
-        (left.calls, left.store_faults, left.files)
+        (left.calls, left.store_faults, left.stored.len() + 2)
     );
     assert_eq!(rt; held(&shelf, "i"), Some(command.file));
     assert_eq!(rt; held(&shelf, "p"), Some(command.ports));
+    for (name, bytes) in left.stored {
+        assert_eq!(rt; held(&shelf, name), Some(*bytes));
+    }
     Ok(())
 }
 

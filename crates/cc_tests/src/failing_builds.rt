@@ -34,7 +34,7 @@ fn stores_nothing<R: Threads + Sync + AllocGlobal + Abort>(
             text,
             calls,
             store_faults,
-            files: 2,
+            stored: &[],
         },
     )
 }
@@ -77,29 +77,55 @@ fn failing_puts(rt: HostRuntime) -> Result<(), Fail> {
     )
 }
 
-#[test]
-fn failing_stores(rt: HostRuntime) -> Result<(), Fail> {
-    stores_nothing(&rt, BUILD, SOURCE, (&[1], &[]), (4, ""), (2, 1))
-}
+const IMAGE: &[u8] =
+    b"C25 IMAGE 1\nwords 12\nce02 ce08 ce07 fe80 0006 ce1f ca05 c806\n6000 e100 ca07 ce26\nfunc main 0006 000b\nend\n";
 
-// Later calls aren't made.
-#[test]
-fn calls_that_are_left(rt: HostRuntime) -> Result<(), Fail> {
+const CERTIFICATE: &[u8] =
+    b"C25 CERTIFICATE 2\nframe main\nregisters 1\nstep 1\nscalars 0\ncost 0\nclaim optimal\nmarks 1\nc\nendframe\nend\n";
+
+const REPORT: &str = "main: 0 scalars, 1 registers, 0 accesses, 0 address instructions, optimal\n";
+
+// Runs the build whose calls fail so, and looks at what it leaves.
+fn builds<R: Threads + Sync + AllocGlobal + Abort>(
+    rt: &R,
+    fails_at: (&[u64], &[u64]),
+    answer: (u8, &str),
+    calls: (u64, u64),
+    stored: &[(&str, &[u8])],
+) -> Result<(), Fail> {
+    let (shelf_fails_at, sink_fails_at) = fails_at;
+    let (status, text) = answer;
+    let (calls, store_faults) = calls;
     leaves(
-        &rt,
+        rt,
         Command {
             words: BUILD,
             file: SOURCE,
             ports: b"kept",
-            shelf_fails_at: &[2],
-            sink_fails_at: &[0],
+            shelf_fails_at,
+            sink_fails_at,
         },
         Left {
-            status: 0,
-            text: "",
-            calls: 2,
-            store_faults: 0,
-            files: 3,
+            status,
+            text,
+            calls,
+            store_faults,
+            stored,
         },
     )
+}
+
+// Where the second store fails, the image is whole.
+#[test]
+fn failing_stores(rt: HostRuntime) -> Result<(), Fail> {
+    builds(&rt, (&[1], &[]), (4, ""), (2, 1), &[])?;
+    builds(&rt, (&[2], &[]), (4, ""), (3, 1), &[("a.img", IMAGE)])
+}
+
+// Where the report can't be put both files stand, and later calls aren't made.
+#[test]
+fn failing_reports(rt: HostRuntime) -> Result<(), Fail> {
+    let both = &[("a.img", IMAGE), ("a.img.crt", CERTIFICATE)];
+    builds(&rt, (&[3], &[0]), (4, ""), (3, 0), both)?;
+    builds(&rt, (&[3], &[1]), (0, REPORT), (3, 0), both)
 }

@@ -40,7 +40,7 @@ fn answers<R: Threads + Sync + AllocGlobal + Abort>(
             text,
             calls,
             store_faults: 0,
-            files: 2,
+            stored: &[],
         },
     )
 }
@@ -124,6 +124,24 @@ fn failing_layouts(rt: HostRuntime) -> Result<(), Fail> {
     )
 }
 
+const CHECK: &[&str] = &["check", "i", "p"];
+
+// A check of an image of no function against a certificate that holds nothing.
+#[test]
+fn failing_checks(rt: HostRuntime) -> Result<(), Fail> {
+    answers(&rt, CHECK, SEVEN, (&[0], &[]), (3, "read fault: i\n"), 1)?;
+    answers(&rt, CHECK, SEVEN, (&[1], &[]), (3, "read fault: p\n"), 2)?;
+    answers(&rt, CHECK, b"", (&[], &[0]), (9, ""), 2)?;
+    answers(
+        &rt,
+        CHECK,
+        SEVEN,
+        (&[], &[]),
+        (9, "file refused: p bad line 1\n"),
+        2,
+    )
+}
+
 // The format of the ports comes before the faults of the source.
 #[test]
 fn ports_before_the_source(rt: HostRuntime) -> Result<(), Fail> {
@@ -141,7 +159,7 @@ fn ports_before_the_source(rt: HostRuntime) -> Result<(), Fail> {
             text: "file refused: p bad line 1\n",
             calls: 2,
             store_faults: 0,
-            files: 2,
+            stored: &[],
         },
     )
 }

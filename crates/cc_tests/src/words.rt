@@ -1,5 +1,5 @@
 //! Words whose request no run shows: an empty name, which no file has.
-use cc_words::{Build, Exec, Layout, Means, Request, Run, requested};
+use cc_words::{Build, Check, Exec, Layout, Means, Request, Run, requested};
 use std::alloc::Global;
 use std::test::Fail;
 
@@ -7,8 +7,15 @@ use std::test::Fail;
 fn shown(alloc: Global, request: &Option<Request>) -> Result<String, Fail> {
     Ok(match request {
         None => String::from_str(alloc, "refused")?,
-        Some(Request::Build(Build { source, image })) => {
-            format!(in alloc; "build {source} {image}")?
+        Some(Request::Build(asked)) => {
+            let Build {
+                source,
+                image,
+                registers,
+                budget,
+                step,
+            } = asked;
+            format!(in alloc; "build {source} {image} {registers} {budget} {step}")?
         }
         Some(Request::Run(asked)) => {
             let Run {
@@ -42,6 +49,9 @@ fn shown(alloc: Global, request: &Option<Request>) -> Result<String, Fail> {
             } = asked;
             format!(in alloc; "layout {sequence} {registers} {budget}")?
         }
+        Some(Request::Check(Check { image, certificate })) => {
+            format!(in alloc; "check {image} {certificate}")?
+        }
     })
 }
 
@@ -57,6 +67,6 @@ fn answer(alloc: Global, line: &str) -> Result<String, Fail> {
 #[test]
 fn empty_name(rt: HostRuntime) -> Result<(), Fail> {
     let request = answer(rt.alloc(), "build  b")?;
-    assert_eq!(&rt; request.as_str(), "build  b");
+    assert_eq!(&rt; request.as_str(), "build  b 1 200000 1");
     Ok(())
 }

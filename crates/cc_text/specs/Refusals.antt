@@ -6,10 +6,12 @@ use Rattle.c25_image.specs.declared.fault.PortFault.{PortFault}
 use Rattle.c25_image.specs.declared.fault.PortFault.TheVariants as port_faults
 use Rattle.lay_text.specs.declared.fault.SeqFault.{SeqFault}
 use Rattle.lay_text.specs.declared.fault.SeqFault.TheVariants as sequence_faults
+use Rattle.lay_cert.specs.declared.fault.CertFault.{CertFault}
+use Rattle.lay_cert.specs.declared.fault.CertFault.TheVariants as certificate_faults
 use Rattle.cc_fault.specs.declared.fault.BuildFault.{BuildFault}
 use Rattle.cc_fault.specs.declared.fault.BuildFault.TheVariants as build_faults
 use Rattle.cc_text.specs.declared.refusal.FileFault.{FileFault}
-use Rattle.cc_text.specs.declared.refusal.FileFault.TheVariants.{Read, TooLong, Image, Ports, Sequence}
+use Rattle.cc_text.specs.declared.refusal.FileFault.TheVariants.{Read, TooLong, Image, Ports, Sequence, Certificate}
 use Rattle.cc_text.specs.declared.refusal.Refusal.{Refusal}
 use Rattle.cc_text.specs.declared.refusal.Refusal.TheVariants as refusal
 
@@ -44,6 +46,10 @@ abbrev pub of_sequence_fault : List ℕ → SeqFault → Why
 of_sequence_fault name sequence_faults.NoMemory = OfMemory
 of_sequence_fault name why = OfFile name (Sequence why)
 
+abbrev pub of_certificate_fault : List ℕ → CertFault → Why
+of_certificate_fault name certificate_faults.NoMemory = OfMemory
+of_certificate_fault name why = OfFile name (Certificate why)
+
 -- the line that refuses an image; want of memory has none
 abbrev pub image_line : List ℕ → ImageFault → List ℕ
 image_line name (image_faults.BadLine line) = codes "file refused: " ++ (name ++ (codes " bad line " ++ (decimal line ++ codes "\n")))
@@ -62,6 +68,13 @@ sequence_line name (sequence_faults.BadLine line) = codes "file refused: " ++ (n
 sequence_line name (sequence_faults.TooManyScalars count) = codes "file refused: " ++ (name ++ (codes " too many scalars " ++ (decimal count ++ codes "\n")))
 sequence_line name sequence_faults.NoMemory = []
 
+-- the line that refuses a certificate; want of memory has none
+abbrev pub certificate_line : List ℕ → CertFault → List ℕ
+certificate_line name (certificate_faults.BadLine line) = codes "file refused: " ++ (name ++ (codes " bad line " ++ (decimal line ++ codes "\n")))
+certificate_line name (certificate_faults.Short frame) = codes "file refused: " ++ (name ++ (codes " short frame " ++ (decimal frame ++ codes "\n")))
+certificate_line name (certificate_faults.Version found) = codes "file refused: " ++ (name ++ (codes " version " ++ (decimal found ++ codes "\n")))
+certificate_line name certificate_faults.NoMemory = []
+
 -- the line that refuses a file
 abbrev pub file_line : List ℕ → FileFault → List ℕ
 file_line name Read = codes "read fault: " ++ (name ++ codes "\n")
@@ -69,6 +82,7 @@ file_line name TooLong = codes "file refused: " ++ (name ++ codes " too long\n")
 file_line name (Image why) = image_line name why
 file_line name (Ports why) = port_line name why
 file_line name (Sequence why) = sequence_line name why
+file_line name (Certificate why) = certificate_line name why
 
 -- 3 for a file that can't be read, and else 9
 abbrev pub file_status : FileFault → ℕ
@@ -77,6 +91,7 @@ file_status TooLong = 9
 file_status (Image why) = 9
 file_status (Ports why) = 9
 file_status (Sequence why) = 9
+file_status (Certificate why) = 9
 
 abbrev pub refusal_status : Why → ℕ
 refusal_status (OfFile name why) = file_status why

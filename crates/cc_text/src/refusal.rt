@@ -1,9 +1,10 @@
 //! Why a command is refused.
 ghost use Rattle.std.specs.Prelude.{◌≡◌};
-ghost use Rattle.cc_text.specs.Refusals.{why_of, of_image_fault, of_port_fault, of_sequence_fault, refusal_status, file_status};
+ghost use Rattle.cc_text.specs.Refusals.{why_of, of_image_fault, of_port_fault, of_sequence_fault, of_certificate_fault, refusal_status, file_status};
 
 use c25_image::{ImageFault, PortFault};
 use cc_fault::BuildFault;
+use lay_cert::CertFault;
 use lay_text::SeqFault;
 use word_base::NoMemory;
 
@@ -20,6 +21,8 @@ pub enum FileFault {
     Ports(PortFault),
     /// It is no sequence file.
     Sequence(SeqFault),
+    /// It is no certificate.
+    Certificate(CertFault),
 }
 
 impl FileFault {
@@ -31,7 +34,8 @@ impl FileFault {
             FileFault::TooLong
             | FileFault::Image(_)
             | FileFault::Ports(_)
-            | FileFault::Sequence(_) => 9,
+            | FileFault::Sequence(_)
+            | FileFault::Certificate(_) => 9,
         }
     }
 }
@@ -84,6 +88,19 @@ impl<'a> Refusal<'a> {
             why => Refusal::File {
                 name,
                 why: FileFault::Sequence(why),
+            },
+        }
+    }
+
+    /// A file of this name is no certificate.
+    pub fn of_certificate(name: &'a str, fault: CertFault) -> Self
+        ensures { why_of result ≡ of_certificate_fault name.now fault }
+    {
+        match fault {
+            CertFault::NoMemory => Refusal::NoMemory,
+            why => Refusal::File {
+                name,
+                why: FileFault::Certificate(why),
             },
         }
     }

@@ -1,9 +1,10 @@
 //! The line that refuses a file.
 ghost use Rattle.std.specs.Prelude.{◌≡◌, IfOk, string_bytes};
-ghost use Rattle.cc_text.specs.Refusals.{file_line, image_line, port_line, sequence_line};
+ghost use Rattle.cc_text.specs.Refusals.{file_line, image_line, port_line, sequence_line, certificate_line};
 
 use crate::refusal::FileFault;
 use c25_image::{ImageFault, PortFault};
+use lay_cert::CertFault;
 use lay_text::SeqFault;
 use std::alloc::Global;
 use word_base::NoMemory;
@@ -53,6 +54,24 @@ fn sequence_line(alloc: Global, name: &str, fault: SeqFault) -> Result<String, N
     }
 }
 
+// The line that refuses a certificate.
+fn certificate_line(alloc: Global, name: &str, fault: CertFault) -> Result<String, NoMemory>
+    ensures { IfOk result (λ line. string_bytes line ≡ certificate_line name.now fault) }
+{
+    match fault {
+        CertFault::BadLine { line } => {
+            Ok(format!(in alloc; "file refused: {name} bad line {line}\n")?)
+        }
+        CertFault::Short { frame } => {
+            Ok(format!(in alloc; "file refused: {name} short frame {frame}\n")?)
+        }
+        CertFault::Version { found } => {
+            Ok(format!(in alloc; "file refused: {name} version {found}\n")?)
+        }
+        CertFault::NoMemory => Err(NoMemory),
+    }
+}
+
 /// The line that refuses a file of a name, with its line feed. Want of memory is no fault of one, and has none.
 pub fn file_line(alloc: Global, name: &str, fault: FileFault) -> Result<String, NoMemory>
     ensures { IfOk result (λ line. string_bytes line ≡ file_line name.now fault) }
@@ -63,5 +82,6 @@ pub fn file_line(alloc: Global, name: &str, fault: FileFault) -> Result<String, 
         FileFault::Image(why) => image_line(alloc, name, why),
         FileFault::Ports(why) => port_line(alloc, name, why),
         FileFault::Sequence(why) => sequence_line(alloc, name, why),
+        FileFault::Certificate(why) => certificate_line(alloc, name, why),
     }
 }

@@ -5,6 +5,7 @@ use Rattle.c_tree.specs.Rounds.{CallsAmong}
 use Rattle.c_tree.specs.SourceRun.{main_name}
 use Rattle.c25_isa.specs.Image.{Contents}
 use Rattle.c25_isa.specs.Table.{code_words}
+use Rattle.cc_frames.specs.declared.options.Options.{Options}
 use Rattle.cc_image.specs.Images.{HasImage}
 use Rattle.cc_thin.specs.Thin.{ThinShape, thin_program, thin_code}
 
@@ -22,7 +23,10 @@ no_calls : (n m : ℕ) → CallsAmong ([] ∷ []) n m → ⊥
 no_calls zero m (list, is, has) = search rules
 no_calls (suc n) m (list, is, has) = cc
 
-small_image : HasImage (thin_program shape 1 5 7) small
+abbrev options : Options
+options = record { registers = 1; step = 1; budget = 200000 }
+
+small_image : HasImage options (thin_program shape 1 5 7) small
 small_image = record {
   plan = record { statics = []; frames = record { bases = []; locals = []; back = None } ∷ []; used = 16 };
   planned = record {

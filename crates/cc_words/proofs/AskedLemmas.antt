@@ -12,8 +12,8 @@ use Rattle.clap.proofs.ValueTestLemmas.{accepts-Accepts}
 use Rattle.clap.specs.Words.{App, Row, Text, first_of, is_simple, is_simple_and_free, matches_of, one_of, rows_of}
 use Rattle.clap.specs.declared.parser.matches.Found.{Found}
 use Rattle.clap.proofs.WalkLemmas.{both, first_value-rows, one_text-rows}
-use Rattle.cc_words.specs.Asked.{Asked, ToBuild, ToLayOut, asked, asked_to, build_of, is_number_to, is_taken, layout_of, number_of, number_to, numbered_of, texts_of}
-use Rattle.cc_words.specs.Commands.{greatest_budget, greatest_registers}
+use Rattle.cc_words.specs.Asked.{Asked, ToBuild, ToCheck, ToLayOut, asked, asked_to, build_of, check_of, is_number_to, is_taken, layout_of, number_of, number_to, numbered_of, texts_of}
+use Rattle.cc_words.specs.Commands.{greatest_budget, greatest_registers, greatest_step}
 
 -- what a getter gave is what the rows hold
 pub text_is : (f : Found) (id : Text) (o : Option Text) → o ≡ first_value f id → first_of id (rows_of f) ≡ o
@@ -51,8 +51,20 @@ no_source f e = rw (text_is f (codes "source") None e) refl
 pub no_image : (f : Found) (s : Text) → Some s ≡ first_value f (codes "source") → None ≡ first_value f (codes "image") → None ≡ build_of (rows_of f)
 no_image f s es e = rw (text_is f (codes "source") (Some s) es, text_is f (codes "image") None e) refl
 
-pub both_names : (f : Found) (s i : Text) → Some s ≡ first_value f (codes "source") → Some i ≡ first_value f (codes "image") → Some (ToBuild s i) ≡ build_of (rows_of f)
-both_names f s i es ei = rw (text_is f (codes "source") (Some s) es, text_is f (codes "image") (Some i) ei) refl
+pub build_found : (f : Found) (s i : Text) (m n d : Option ℕ) → Some s ≡ first_value f (codes "source") → Some i ≡ first_value f (codes "image")
+    → number_of (codes "registers") greatest_registers (rows_of f) ≡ m → number_of (codes "budget") greatest_budget (rows_of f) ≡ n → number_of (codes "step") greatest_step (rows_of f) ≡ d
+    → option_and_then (λ registers. option_and_then (λ budget. option_map (ToBuild s i registers budget) d) n) m ≡ build_of (rows_of f)
+build_found f s i m n d es ei em en ed = rw (text_is f (codes "source") (Some s) es, text_is f (codes "image") (Some i) ei, em, en, ed) refl
+
+-- the matches of `check`, by what the getters gave
+pub no_checked : (f : Found) → None ≡ first_value f (codes "image") → None ≡ check_of (rows_of f)
+no_checked f e = rw (text_is f (codes "image") None e) refl
+
+pub no_certificate : (f : Found) (i : Text) → Some i ≡ first_value f (codes "image") → None ≡ first_value f (codes "certificate") → None ≡ check_of (rows_of f)
+no_certificate f i ei e = rw (text_is f (codes "image") (Some i) ei, text_is f (codes "certificate") None e) refl
+
+pub check_found : (f : Found) (i d : Text) → Some i ≡ first_value f (codes "image") → Some d ≡ first_value f (codes "certificate") → Some (ToCheck i d) ≡ check_of (rows_of f)
+check_found f i d ei ed = rw (text_is f (codes "image") (Some i) ei, text_is f (codes "certificate") (Some d) ed) refl
 
 -- the matches of a command of two names and a number
 module _ (first second number : Text) (greatest : ℕ) (what : Text → Text → ℕ → Asked) where
@@ -92,22 +104,25 @@ refused app wanted of_rows words is fails =
     sym (ap (λ b. cond b (of_rows (matches_of wanted words)) None) fits_here)
 
 -- a first word that names no command
-pub no_command : (name : Text) (rest : List Text) → (name ≡ codes "build" → ⊥) → (name ≡ codes "run" → ⊥) → (name ≡ codes "means" → ⊥) → (name ≡ codes "exec" → ⊥) → (name ≡ codes "layout" → ⊥) → None ≡ asked (name ∷ rest)
-no_command name rest not_build not_run not_means not_exec not_layout = go (bytes_eq name (codes "build")) refl (bytes_eq name (codes "run")) refl (bytes_eq name (codes "means")) refl (bytes_eq name (codes "exec")) refl (bytes_eq name (codes "layout")) refl
+pub no_command : (name : Text) (rest : List Text) → (name ≡ codes "build" → ⊥) → (name ≡ codes "run" → ⊥) → (name ≡ codes "means" → ⊥) → (name ≡ codes "exec" → ⊥) → (name ≡ codes "layout" → ⊥) → (name ≡ codes "check" → ⊥)
+    → None ≡ asked (name ∷ rest)
+no_command name rest not_build not_run not_means not_exec not_layout not_check = go (bytes_eq name (codes "build")) refl (bytes_eq name (codes "run")) refl (bytes_eq name (codes "means")) refl (bytes_eq name (codes "exec")) refl (bytes_eq name (codes "layout")) refl (bytes_eq name (codes "check")) refl
   where
     go : (b : Bool) → bytes_eq name (codes "build") ≡ b → (r : Bool) → bytes_eq name (codes "run") ≡ r → (m : Bool) → bytes_eq name (codes "means") ≡ m → (x : Bool) → bytes_eq name (codes "exec") ≡ x
-        → (l : Bool) → bytes_eq name (codes "layout") ≡ l → None ≡ asked (name ∷ rest)
-    go true e r f m g x h l i = absurd (not_build ((bytes_eq-Decides name (codes "build")).0 e))
-    go false e true f m g x h l i = absurd (not_run ((bytes_eq-Decides name (codes "run")).0 f))
-    go false e false f true g x h l i = absurd (not_means ((bytes_eq-Decides name (codes "means")).0 g))
-    go false e false f false g true h l i = absurd (not_exec ((bytes_eq-Decides name (codes "exec")).0 h))
-    go false e false f false g false h true i = absurd (not_layout ((bytes_eq-Decides name (codes "layout")).0 i))
-    go false e false f false g false h false i = rw (e, f, g, h, i) refl
+        → (l : Bool) → bytes_eq name (codes "layout") ≡ l → (k : Bool) → bytes_eq name (codes "check") ≡ k → None ≡ asked (name ∷ rest)
+    go true e r f m g x h l i k j = absurd (not_build ((bytes_eq-Decides name (codes "build")).0 e))
+    go false e true f m g x h l i k j = absurd (not_run ((bytes_eq-Decides name (codes "run")).0 f))
+    go false e false f true g x h l i k j = absurd (not_means ((bytes_eq-Decides name (codes "means")).0 g))
+    go false e false f false g true h l i k j = absurd (not_exec ((bytes_eq-Decides name (codes "exec")).0 h))
+    go false e false f false g false h true i k j = absurd (not_layout ((bytes_eq-Decides name (codes "layout")).0 i))
+    go false e false f false g false h false i true j = absurd (not_check ((bytes_eq-Decides name (codes "check")).0 j))
+    go false e false f false g false h false i false j = rw (e, f, g, h, i, j) refl
 
 -- the first of the words names no command
 pub no_command_first : (words : List (String Global)) (name : String Global) → Some name ≡ slice_get words 0
-    → (string_bytes name ≡ codes "build" → ⊥) → (string_bytes name ≡ codes "run" → ⊥) → (string_bytes name ≡ codes "means" → ⊥) → (string_bytes name ≡ codes "exec" → ⊥) → (string_bytes name ≡ codes "layout" → ⊥) → None ≡ asked (texts_of words)
-no_command_first [] name is not_build not_run not_means not_exec not_layout = cc
-no_command_first (w ∷ ws) name is not_build not_run not_means not_exec not_layout =
+    → (string_bytes name ≡ codes "build" → ⊥) → (string_bytes name ≡ codes "run" → ⊥) → (string_bytes name ≡ codes "means" → ⊥) → (string_bytes name ≡ codes "exec" → ⊥) → (string_bytes name ≡ codes "layout" → ⊥) → (string_bytes name ≡ codes "check" → ⊥)
+    → None ≡ asked (texts_of words)
+no_command_first [] name is not_build not_run not_means not_exec not_layout not_check = cc
+no_command_first (w ∷ ws) name is not_build not_run not_means not_exec not_layout not_check =
     let same : name ≡ w = ap (λ o. unwrap_or o name) is in
-    no_command (string_bytes w) (texts_of ws) (λ e. not_build (ap string_bytes same ∙ e)) (λ e. not_run (ap string_bytes same ∙ e)) (λ e. not_means (ap string_bytes same ∙ e)) (λ e. not_exec (ap string_bytes same ∙ e)) (λ e. not_layout (ap string_bytes same ∙ e))
+    no_command (string_bytes w) (texts_of ws) (λ e. not_build (ap string_bytes same ∙ e)) (λ e. not_run (ap string_bytes same ∙ e)) (λ e. not_means (ap string_bytes same ∙ e)) (λ e. not_exec (ap string_bytes same ∙ e)) (λ e. not_layout (ap string_bytes same ∙ e)) (λ e. not_check (ap string_bytes same ∙ e))

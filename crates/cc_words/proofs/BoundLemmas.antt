@@ -28,7 +28,7 @@ use Rattle.clap.proofs.CallerLemmas.{entry_by_id, same_rules_by_id}
 use Rattle.clap.proofs.ValueTestLemmas.{Accepts-accepts}
 use Rattle.clap.proofs.WalkLemmas.{both}
 use Rattle.cc_words.specs.Asked.{is_number_to}
-use Rattle.cc_words.specs.Commands.{budget_rule, exec_app, greatest_budget, greatest_registers, greatest_steps, greatest_turns, layout_app, means_app, name_rule, number_rule, numbered_app, registers_rule, run_app}
+use Rattle.cc_words.specs.Commands.{budget_rule, build_app, exec_app, greatest_budget, greatest_registers, greatest_step, greatest_steps, greatest_turns, layout_app, means_app, name_rule, number_rule, numbered_app, registers_rule, run_app, step_rule}
 
 -- ---- what an entry gives, where no group has one and each value passes Q
 
@@ -96,11 +96,50 @@ rule_at [] j d = refl
 rule_at (x ∷ xs) zero d = refl
 rule_at (x ∷ xs) (suc j) d = rule_at xs j d
 
--- the number's rule stands at the place, and no other has its id, which is none that `clap` uses itself
-record IsNumberAt (place : ℕ) (rules : List Rule) (id : Text) (greatest : ℕ) : Type 0 where
+-- the id is none that `clap` uses itself
+record IsOwn (id : Text) : Type 0 where
   named : id ≡ [] → ⊥
   no_help : id ≡ codes "help" → ⊥
   no_version : id ≡ codes "version" → ⊥
+
+steps_own : IsOwn (codes "steps")
+steps_own = record {
+  named = λ e. apart 0 5 (sym (ap length e)) (omega arith);
+  no_help = λ e. apart 104 115 (sym (first_byte (codes "steps") (codes "help") e)) (omega arith);
+  no_version = λ e. apart 115 118 (first_byte (codes "steps") (codes "version") e) (omega arith);
+}
+
+turns_own : IsOwn (codes "turns")
+turns_own = record {
+  named = λ e. apart 0 5 (sym (ap length e)) (omega arith);
+  no_help = λ e. apart 104 116 (sym (first_byte (codes "turns") (codes "help") e)) (omega arith);
+  no_version = λ e. apart 116 118 (first_byte (codes "turns") (codes "version") e) (omega arith);
+}
+
+registers_own : IsOwn (codes "registers")
+registers_own = record {
+  named = λ e. apart 0 9 (sym (ap length e)) (omega arith);
+  no_help = λ e. apart 104 114 (sym (first_byte (codes "registers") (codes "help") e)) (omega arith);
+  no_version = λ e. apart 114 118 (first_byte (codes "registers") (codes "version") e) (omega arith);
+}
+
+budget_own : IsOwn (codes "budget")
+budget_own = record {
+  named = λ e. apart 0 6 (sym (ap length e)) (omega arith);
+  no_help = λ e. apart 98 104 (first_byte (codes "budget") (codes "help") e) (omega arith);
+  no_version = λ e. apart 98 118 (first_byte (codes "budget") (codes "version") e) (omega arith);
+}
+
+step_own : IsOwn (codes "step")
+step_own = record {
+  named = λ e. apart 0 4 (sym (ap length e)) (omega arith);
+  no_help = λ e. apart 104 115 (sym (first_byte (codes "step") (codes "help") e)) (omega arith);
+  no_version = λ e. apart 115 118 (first_byte (codes "step") (codes "version") e) (omega arith);
+}
+
+-- the number's rule stands at the place, and no other has its id
+record IsNumberAt (place : ℕ) (rules : List Rule) (id : Text) (greatest : ℕ) : Type 0 where
+  own : IsOwn id
   has : place < length rules
   parser_is : (d : Rule) → (slice_index_or rules place d).parser ≡ Some (parser.Unsigned 1 greatest)
   id_is : (d : Rule) → (slice_index_or rules place d).id ≡ id
@@ -135,8 +174,8 @@ module _ (place : ℕ) (rules : List Rule) (id : Text) (greatest : ℕ) (at_plac
 
   module _ (old : Command) (m : ArgMatches) (p : IsParsedFrom old m) (is : IsNumbered (args_of old)) where
     no_auto : (d : Arg) → IsAuto (slice_index_or (args_of old) place d) → ⊥
-    no_auto d (inl h) = at_place.no_help (sym (is.id_is d) ∙ h)
-    no_auto d (inr h) = at_place.no_version (sym (is.id_is d) ∙ h)
+    no_auto d (inl h) = at_place.own.no_help (sym (is.id_is d) ∙ h)
+    no_auto d (inr h) = at_place.own.no_version (sym (is.id_is d) ∙ h)
 
     -- an argument of the built command with this id has the parser
     parser_by_id : (j : ℕ) (x : Arg) → j < length (args_of p.built) → slice_index_or (args_of p.built) j x ≡ x → bytes_eq x.id.now id ≡ true
@@ -165,15 +204,13 @@ module _ (place : ℕ) (rules : List Rule) (id : Text) (greatest : ℕ) (at_plac
       let globals : (out-Command old).has_globals ≡ false = not_true (out-Command old).has_globals (both _ _ (both _ _ outer.1).1).0 in
       let parsed = p.parsed (p.from.globals ∙ globals) in
       Accepts-accepts false (parser.Unsigned 1 greatest) t (text_passed p.built (found_of m) id (IsUnsignedIn 1 greatest) t parsed.values ((p.from.same_groups list.groups).1 ∙ no_groups)
-      at_place.named (reads old m p list) (passes old m p list) found)
+      at_place.own.named (reads old m p list) (passes old m p list) found)
 
 -- ---- the commands of two names and a number
 
 -- the number's id is none that `clap` uses itself, and differs from those of the names
 record IsApart (first second id : Text) : Type 0 where
-  named : id ≡ [] → ⊥
-  no_help : id ≡ codes "help" → ⊥
-  no_version : id ≡ codes "version" → ⊥
+  own : IsOwn id
   no_first : bytes_eq first id ≡ false
   no_second : bytes_eq second id ≡ false
 
@@ -183,9 +220,7 @@ module _ (first second id usual : Text) (greatest : ℕ) (ids : IsApart first se
 
   third_is_number : IsNumberAt 2 numbered_rules id greatest
   third_is_number = record {
-    named = ids.named;
-    no_help = ids.no_help;
-    no_version = ids.no_version;
+    own = ids.own;
     has = omega arith;
     parser_is = λ d. refl;
     id_is = λ d. refl;
@@ -211,18 +246,14 @@ module _ (first second id usual : Text) (greatest : ℕ) (ids : IsApart first se
 
 steps_apart : IsApart (codes "image") (codes "ports") (codes "steps")
 steps_apart = record {
-  named = λ e. apart 0 5 (sym (ap length e)) (omega arith);
-  no_help = λ e. apart 104 115 (sym (first_byte (codes "steps") (codes "help") e)) (omega arith);
-  no_version = λ e. apart 115 118 (first_byte (codes "steps") (codes "version") e) (omega arith);
+  own = steps_own;
   no_first = refl;
   no_second = refl;
 }
 
 turns_apart : IsApart (codes "source") (codes "ports") (codes "turns")
 turns_apart = record {
-  named = λ e. apart 0 5 (sym (ap length e)) (omega arith);
-  no_help = λ e. apart 104 116 (sym (first_byte (codes "turns") (codes "help") e)) (omega arith);
-  no_version = λ e. apart 116 118 (first_byte (codes "turns") (codes "version") e) (omega arith);
+  own = turns_own;
   no_first = refl;
   no_second = refl;
 }
@@ -237,9 +268,7 @@ turns_in_range = third_in_range (codes "source") (codes "ports") (codes "turns")
 
 exec_apart : IsApart (codes "source") (codes "ports") (codes "steps")
 exec_apart = record {
-  named = λ e. apart 0 5 (sym (ap length e)) (omega arith);
-  no_help = λ e. apart 104 115 (sym (first_byte (codes "steps") (codes "help") e)) (omega arith);
-  no_version = λ e. apart 115 118 (first_byte (codes "steps") (codes "version") e) (omega arith);
+  own = steps_own;
   no_first = refl;
   no_second = refl;
 }
@@ -261,9 +290,7 @@ layout_plain (suc (suc (suc j))) d lt = absurd (omega arith)
 
 second_is_registers : IsNumberAt 1 layout_rules (codes "registers") greatest_registers
 second_is_registers = record {
-  named = λ e. apart 0 9 (sym (ap length e)) (omega arith);
-  no_help = λ e. apart 104 114 (sym (first_byte (codes "registers") (codes "help") e)) (omega arith);
-  no_version = λ e. apart 114 118 (first_byte (codes "registers") (codes "version") e) (omega arith);
+  own = registers_own;
   has = omega arith;
   parser_is = λ d. refl;
   id_is = λ d. refl;
@@ -279,9 +306,7 @@ second_is_registers = record {
 
 third_is_budget : IsNumberAt 2 layout_rules (codes "budget") greatest_budget
 third_is_budget = record {
-  named = λ e. apart 0 6 (sym (ap length e)) (omega arith);
-  no_help = λ e. apart 98 104 (first_byte (codes "budget") (codes "help") e) (omega arith);
-  no_version = λ e. apart 98 118 (first_byte (codes "budget") (codes "version") e) (omega arith);
+  own = budget_own;
   has = omega arith;
   parser_is = λ d. refl;
   id_is = λ d. refl;
@@ -302,3 +327,82 @@ registers_in_range = number_in_range 1 layout_rules (codes "registers") greatest
 pub budget_in_range : (old : Command) (m : ArgMatches) → IsParsedFrom old m → app_of old ≡ layout_app → (t : Text) → one_text (found_of m) (codes "budget") ≡ Some t
     → is_number_to greatest_budget t ≡ true
 budget_in_range = number_in_range 2 layout_rules (codes "budget") greatest_budget third_is_budget layout_app refl refl
+
+-- ---- `build`
+
+abbrev build_rules : List Rule
+build_rules = name_rule (codes "source") ∷ name_rule (codes "image") ∷ registers_rule ∷ budget_rule ∷ step_rule ∷ []
+
+build_plain : (j : ℕ) (d : Rule) → j < 5 → (slice_index_or build_rules j d).is_simple ≡ true
+build_plain zero d lt = refl
+build_plain (suc zero) d lt = refl
+build_plain (suc (suc zero)) d lt = refl
+build_plain (suc (suc (suc zero))) d lt = refl
+build_plain (suc (suc (suc (suc zero)))) d lt = refl
+build_plain (suc (suc (suc (suc (suc j))))) d lt = absurd (omega arith)
+
+third_is_registers : IsNumberAt 2 build_rules (codes "registers") greatest_registers
+third_is_registers = record {
+  own = registers_own;
+  has = omega arith;
+  parser_is = λ d. refl;
+  id_is = λ d. refl;
+  one = only;
+  simple = build_plain;
+}
+  where
+    only : (j : ℕ) (d : Rule) → j < 5 → bytes_eq (slice_index_or build_rules j d).id (codes "registers") ≡ true → j ≡ 2
+    only zero d lt same = absurd (true≢false (sym same))
+    only (suc zero) d lt same = absurd (true≢false (sym same))
+    only (suc (suc zero)) d lt same = refl
+    only (suc (suc (suc zero))) d lt same = absurd (true≢false (sym same))
+    only (suc (suc (suc (suc zero)))) d lt same = absurd (true≢false (sym same))
+    only (suc (suc (suc (suc (suc j))))) d lt same = absurd (omega arith)
+
+fourth_is_budget : IsNumberAt 3 build_rules (codes "budget") greatest_budget
+fourth_is_budget = record {
+  own = budget_own;
+  has = omega arith;
+  parser_is = λ d. refl;
+  id_is = λ d. refl;
+  one = only;
+  simple = build_plain;
+}
+  where
+    only : (j : ℕ) (d : Rule) → j < 5 → bytes_eq (slice_index_or build_rules j d).id (codes "budget") ≡ true → j ≡ 3
+    only zero d lt same = absurd (true≢false (sym same))
+    only (suc zero) d lt same = absurd (true≢false (sym same))
+    only (suc (suc zero)) d lt same = absurd (true≢false (sym same))
+    only (suc (suc (suc zero))) d lt same = refl
+    only (suc (suc (suc (suc zero)))) d lt same = absurd (true≢false (sym same))
+    only (suc (suc (suc (suc (suc j))))) d lt same = absurd (omega arith)
+
+fifth_is_step : IsNumberAt 4 build_rules (codes "step") greatest_step
+fifth_is_step = record {
+  own = step_own;
+  has = omega arith;
+  parser_is = λ d. refl;
+  id_is = λ d. refl;
+  one = only;
+  simple = build_plain;
+}
+  where
+    only : (j : ℕ) (d : Rule) → j < 5 → bytes_eq (slice_index_or build_rules j d).id (codes "step") ≡ true → j ≡ 4
+    only zero d lt same = absurd (true≢false (sym same))
+    only (suc zero) d lt same = absurd (true≢false (sym same))
+    only (suc (suc zero)) d lt same = absurd (true≢false (sym same))
+    only (suc (suc (suc zero))) d lt same = absurd (true≢false (sym same))
+    only (suc (suc (suc (suc zero)))) d lt same = refl
+    only (suc (suc (suc (suc (suc j))))) d lt same = absurd (omega arith)
+
+pub build_registers_in_range : (old : Command) (m : ArgMatches) → IsParsedFrom old m → app_of old ≡ build_app → (t : Text) → one_text (found_of m) (codes "registers") ≡ Some t
+    → is_number_to greatest_registers t ≡ true
+build_registers_in_range = number_in_range 2 build_rules (codes "registers") greatest_registers third_is_registers build_app refl refl
+
+pub build_budget_in_range : (old : Command) (m : ArgMatches) → IsParsedFrom old m → app_of old ≡ build_app → (t : Text) → one_text (found_of m) (codes "budget") ≡ Some t
+    → is_number_to greatest_budget t ≡ true
+build_budget_in_range = number_in_range 3 build_rules (codes "budget") greatest_budget fourth_is_budget build_app refl refl
+
+pub step_in_range : (old : Command) (m : ArgMatches) → IsParsedFrom old m → app_of old ≡ build_app → (t : Text) → one_text (found_of m) (codes "step") ≡ Some t
+    → is_number_to greatest_step t ≡ true
+step_in_range = number_in_range 4 build_rules (codes "step") greatest_step fifth_is_step build_app refl refl

@@ -1,4 +1,5 @@
 pub mod AskedLemmas
 pub mod PlainLemmas
 pub mod LayoutLemmas
+pub mod BuildLemmas
 pub mod BoundLemmas

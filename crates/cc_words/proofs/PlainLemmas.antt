@@ -14,9 +14,9 @@ use Rattle.clap.specs.declared.builder.value_parser.Reading.TheVariants as readi
 use Rattle.clap.specs.Kinds.{or_else, value_kinds}
 use Rattle.clap.specs.Walk.{is_empty}
 use Rattle.clap.proofs.OnLiterals.{clap_on_literals}
-use Rattle.cc_words.specs.Asked.{Asked, ToBuild, ToRun, ToEvaluate, ToExecute, ToLayOut, asked, asked_to, asked_to_build, asked_to_evaluate, asked_to_execute, asked_to_lay_out, asked_to_run, build_of, exec_of, is_number_to, is_plain_word, is_taken, layout_of, means_of, number_of, number_to, numbered_of, run_of}
-use Rattle.cc_words.specs.Commands.{build_app, exec_app, greatest_budget, greatest_registers, greatest_steps, greatest_turns, layout_app, means_app, numbered_app, run_app, steps_rule, turns_rule}
-use Rattle.cc_words.specs.Plain.{AsksFor, AsksWithin, BuildsNoOtherNames, ExecutesWithSteps, ExecutesWithStepsAttached, ExecutesWithStepsFirst, IsWithinBounds, MeansWithTurns, MeansWithTurnsAttached, MeansWithTurnsFirst, RunsWithSteps, RunsWithStepsAttached, RunsWithStepsFirst}
+use Rattle.cc_words.specs.Asked.{Asked, ToBuild, ToCheck, ToRun, ToEvaluate, ToExecute, ToLayOut, asked, asked_to, asked_to_build, asked_to_check, asked_to_evaluate, asked_to_execute, asked_to_lay_out, asked_to_run, build_of, check_of, exec_of, is_number_to, is_plain_word, is_taken, layout_of, means_of, number_of, number_to, numbered_of, run_of}
+use Rattle.cc_words.specs.Commands.{build_app, check_app, exec_app, greatest_budget, greatest_registers, greatest_step, greatest_steps, greatest_turns, layout_app, means_app, numbered_app, run_app, steps_rule, turns_rule}
+use Rattle.cc_words.specs.Plain.{AsksFor, AsksWithin, BuildsNoOtherNames, ChecksNoOtherNames, ExecutesWithSteps, ExecutesWithStepsAttached, ExecutesWithStepsFirst, IsWithinBounds, MeansWithTurns, MeansWithTurnsAttached, MeansWithTurnsFirst, RunsWithSteps, RunsWithStepsAttached, RunsWithStepsFirst}
 
 -- the word is no `--`, no `--name` and no `-n`
 abbrev pub IsNoFlag : Text → Type 0
@@ -40,11 +40,11 @@ taken : (name a b : Text) → IsNoFlag a → IsNoFlag b → is_taken build_app (
 unfolding clap_on_literals
 taken name a b fa fb = rw (fa.0, fa.1, fa.2, fb.0, fb.1, fb.2) refl
 
-names : (name a b : Text) → IsNoFlag a → IsNoFlag b → build_of (matches_of build_app (name ∷ a ∷ b ∷ [])) ≡ Some (ToBuild a b)
+names : (name a b : Text) → IsNoFlag a → IsNoFlag b → build_of (matches_of build_app (name ∷ a ∷ b ∷ [])) ≡ Some (ToBuild a b 1 200000 1)
 unfolding clap_on_literals
 names name a b fa fb = rw (fa.0, fa.1, fa.2, fb.0, fb.1, fb.2) refl
 
-pub two_names : (a b : Text) → is_plain_word a ≡ true → is_plain_word b ≡ true → asked (codes "build" ∷ a ∷ b ∷ []) ≡ Some (ToBuild a b)
+pub two_names : (a b : Text) → is_plain_word a ≡ true → is_plain_word b ≡ true → asked (codes "build" ∷ a ∷ b ∷ []) ≡ Some (ToBuild a b 1 200000 1)
 unfolding asked_to
 two_names a b pa pb = rw (taken (codes "build") a b (no_flag a pa) (no_flag b pb)) (names (codes "build") a b (no_flag a pa) (no_flag b pb))
 
@@ -70,6 +70,42 @@ other_names = (
   not_taken (codes "build" ∷ []) no_names,
   λ a pa. not_taken (codes "build" ∷ a ∷ []) (one_name a (no_flag a pa)),
   λ a b pa pb c rest pc. not_taken (codes "build" ∷ a ∷ b ∷ c ∷ rest) (more_names a b c rest (no_flag a pa) (no_flag b pb) (no_flag c pc)),
+)
+
+-- `check` of two names, of fewer, and of more
+checked : (a b : Text) → IsNoFlag a → IsNoFlag b → is_taken check_app (codes "check" ∷ a ∷ b ∷ []) ≡ true
+unfolding clap_on_literals
+checked a b fa fb = rw (fa.0, fa.1, fa.2, fb.0, fb.1, fb.2) refl
+
+checked_names : (a b : Text) → IsNoFlag a → IsNoFlag b → check_of (matches_of check_app (codes "check" ∷ a ∷ b ∷ [])) ≡ Some (ToCheck a b)
+unfolding clap_on_literals
+checked_names a b fa fb = rw (fa.0, fa.1, fa.2, fb.0, fb.1, fb.2) refl
+
+pub check_two_names : (a b : Text) → is_plain_word a ≡ true → is_plain_word b ≡ true → asked (codes "check" ∷ a ∷ b ∷ []) ≡ Some (ToCheck a b)
+unfolding asked_to
+check_two_names a b pa pb = rw (checked a b (no_flag a pa) (no_flag b pb)) (checked_names a b (no_flag a pa) (no_flag b pb))
+
+not_checked : (words : List Text) → is_taken check_app words ≡ false → asked_to_check words ≡ None
+unfolding asked_to
+not_checked words e = ap (λ b. cond b (check_of (matches_of check_app words)) None) e
+
+no_names_checked : is_taken check_app (codes "check" ∷ []) ≡ false
+unfolding clap_on_literals
+no_names_checked = refl
+
+one_name_checked : (a : Text) → IsNoFlag a → is_taken check_app (codes "check" ∷ a ∷ []) ≡ false
+unfolding clap_on_literals
+one_name_checked a fa = rw (fa.0, fa.1, fa.2) refl
+
+more_names_checked : (a b c : Text) (rest : List Text) → IsNoFlag a → IsNoFlag b → IsNoFlag c → is_taken check_app (codes "check" ∷ a ∷ b ∷ c ∷ rest) ≡ false
+unfolding clap_on_literals
+more_names_checked a b c rest fa fb fc = rw (fa.0, fa.1, fa.2, fb.0, fb.1, fb.2, fc.0, fc.1, fc.2) refl
+
+pub check_other_names : ChecksNoOtherNames
+check_other_names = (
+  not_checked (codes "check" ∷ []) no_names_checked,
+  λ a pa. not_checked (codes "check" ∷ a ∷ []) (one_name_checked a (no_flag a pa)),
+  λ a b pa pb c rest pc. not_checked (codes "check" ∷ a ∷ b ∷ c ∷ rest) (more_names_checked a b c rest (no_flag a pa) (no_flag b pb) (no_flag c pc)),
 )
 
 pub number_in : (greatest : ℕ) (m : Text) → is_number_to greatest m ≡ true → number_to greatest m ≡ Some (digits_value 10 (without_leading_plus m))
@@ -121,7 +157,7 @@ or_nothing (k ∷ ks) = refl
 abbrev pub number_fault : ValueParser → Text → Kinds
 number_fault p m = or_else (value_kinds false p m) []
 
-number_fault_by : (p : ValueParser) (m : Text) (t : Bool) → accepts false p m ≡ t → is_empty (number_fault p m) ≡ t
+pub number_fault_by : (p : ValueParser) (m : Text) (t : Bool) → accepts false p m ≡ t → is_empty (number_fault p m) ≡ t
 number_fault_by p m true e = rw e refl
 number_fault_by p m false e = rw e refl
 
@@ -373,29 +409,49 @@ numbered_bounded first second number greatest what within rows = names (first_of
     names (Some i) (Some p) None e = tt
     names (Some i) (Some p) (Some n) e = within i p n (bounded (one_of number rows) n e)
 
-build_bounded : (rows : List Row) → IfSome (build_of rows) IsWithinBounds
-build_bounded rows = names (first_of (codes "source") rows) (first_of (codes "image") rows)
+given_bounded : (number : Text) (greatest : ℕ) (rows : List Row) (n : ℕ) → number_of number greatest rows ≡ Some n → (1 ≤ n) × (n ≤ greatest)
+given_bounded number greatest rows = bounded (one_of number rows)
   where
-    names : (s i : Option Text) → IfSome (option_and_then (λ source. option_map (ToBuild source) i) s) IsWithinBounds
-    names None i = tt
-    names (Some s) None = tt
-    names (Some s) (Some i) = tt
+    bounded : (o : Option Text) (n : ℕ) → option_and_then (number_to greatest) o ≡ Some n → (1 ≤ n) × (n ≤ greatest)
+    bounded None n e = cc
+    bounded (Some t) n e = number_bounded greatest t n e
+
+build_bounded : (rows : List Row) → IfSome (build_of rows) IsWithinBounds
+build_bounded rows = parts (first_of (codes "source") rows) (first_of (codes "image") rows) (number_of (codes "registers") greatest_registers rows) (number_of (codes "budget") greatest_budget rows)
+    (number_of (codes "step") greatest_step rows) refl refl refl
+  where
+    parts : (s i : Option Text) (m n d : Option ℕ) → number_of (codes "registers") greatest_registers rows ≡ m → number_of (codes "budget") greatest_budget rows ≡ n → number_of (codes "step") greatest_step rows ≡ d
+        → IfSome (option_and_then (λ source. option_and_then (λ image. option_and_then (λ registers. option_and_then (λ budget. option_map (ToBuild source image registers budget) d) n) m) i) s) IsWithinBounds
+    parts None i m n d e f g = tt
+    parts (Some s) None m n d e f g = tt
+    parts (Some s) (Some i) None n d e f g = tt
+    parts (Some s) (Some i) (Some m) None d e f g = tt
+    parts (Some s) (Some i) (Some m) (Some n) None e f g = tt
+    parts (Some s) (Some i) (Some m) (Some n) (Some d) e f g =
+        let first = given_bounded (codes "registers") greatest_registers rows m e in
+        let second = given_bounded (codes "budget") greatest_budget rows n f in
+        let third = given_bounded (codes "step") greatest_step rows d g in
+        (first.0, first.1, second.0, second.1, third.0, third.1)
+
+check_bounded : (rows : List Row) → IfSome (check_of rows) IsWithinBounds
+check_bounded rows = names (first_of (codes "image") rows) (first_of (codes "certificate") rows)
+  where
+    names : (i d : Option Text) → IfSome (option_and_then (λ image. option_map (ToCheck image) d) i) IsWithinBounds
+    names None d = tt
+    names (Some i) None = tt
+    names (Some i) (Some d) = tt
 
 layout_bounded : (rows : List Row) → IfSome (layout_of rows) IsWithinBounds
 layout_bounded rows = parts (first_of (codes "sequence") rows) (number_of (codes "registers") greatest_registers rows) (number_of (codes "budget") greatest_budget rows) refl refl
   where
-    bounded : (greatest : ℕ) (o : Option Text) (n : ℕ) → option_and_then (number_to greatest) o ≡ Some n → (1 ≤ n) × (n ≤ greatest)
-    bounded greatest None n e = cc
-    bounded greatest (Some t) n e = number_bounded greatest t n e
-
     parts : (s : Option Text) (m n : Option ℕ) → number_of (codes "registers") greatest_registers rows ≡ m → number_of (codes "budget") greatest_budget rows ≡ n
         → IfSome (option_and_then (λ sequence. option_and_then (λ registers. option_map (ToLayOut sequence registers) n) m) s) IsWithinBounds
     parts None m n e f = tt
     parts (Some s) None n e f = tt
     parts (Some s) (Some m) None e f = tt
     parts (Some s) (Some m) (Some n) e f =
-        let first = bounded greatest_registers (one_of (codes "registers") rows) m e in
-        let second = bounded greatest_budget (one_of (codes "budget") rows) n f in
+        let first = given_bounded (codes "registers") greatest_registers rows m e in
+        let second = given_bounded (codes "budget") greatest_budget rows n f in
         (first.0, first.1, second.0, second.1)
 
 -- what holds of what is asked for, where the words are taken
@@ -406,15 +462,16 @@ taken_only false o h = tt
 pub within_asked : AsksWithin
 unfolding asked_to
 within_asked [] = tt
-within_asked (name ∷ rest) = go (bytes_eq name (codes "build")) (bytes_eq name (codes "run")) (bytes_eq name (codes "means")) (bytes_eq name (codes "exec")) (bytes_eq name (codes "layout"))
+within_asked (name ∷ rest) = go (bytes_eq name (codes "build")) (bytes_eq name (codes "run")) (bytes_eq name (codes "means")) (bytes_eq name (codes "exec")) (bytes_eq name (codes "layout")) (bytes_eq name (codes "check"))
   where
     words : List Text
     words = name ∷ rest
 
-    go : (b r m x l : Bool) → IfSome (cond b (asked_to_build words) (cond r (asked_to_run words) (cond m (asked_to_evaluate words) (cond x (asked_to_execute words) (cond l (asked_to_lay_out words) None))))) IsWithinBounds
-    go true r m x l = taken_only (is_taken build_app words) (build_of (matches_of build_app words)) (build_bounded (matches_of build_app words))
-    go false true m x l = taken_only (is_taken run_app words) (run_of (matches_of run_app words)) (numbered_bounded _ _ _ greatest_steps ToRun (λ a b n h. h) (matches_of run_app words))
-    go false false true x l = taken_only (is_taken means_app words) (means_of (matches_of means_app words)) (numbered_bounded _ _ _ greatest_turns ToEvaluate (λ a b n h. h) (matches_of means_app words))
-    go false false false true l = taken_only (is_taken exec_app words) (exec_of (matches_of exec_app words)) (numbered_bounded _ _ _ greatest_steps ToExecute (λ a b n h. h) (matches_of exec_app words))
-    go false false false false true = taken_only (is_taken layout_app words) (layout_of (matches_of layout_app words)) (layout_bounded (matches_of layout_app words))
-    go false false false false false = tt
+    go : (b r m x l k : Bool) → IfSome (cond b (asked_to_build words) (cond r (asked_to_run words) (cond m (asked_to_evaluate words) (cond x (asked_to_execute words) (cond l (asked_to_lay_out words) (cond k (asked_to_check words) None)))))) IsWithinBounds
+    go true r m x l k = taken_only (is_taken build_app words) (build_of (matches_of build_app words)) (build_bounded (matches_of build_app words))
+    go false true m x l k = taken_only (is_taken run_app words) (run_of (matches_of run_app words)) (numbered_bounded _ _ _ greatest_steps ToRun (λ a b n h. h) (matches_of run_app words))
+    go false false true x l k = taken_only (is_taken means_app words) (means_of (matches_of means_app words)) (numbered_bounded _ _ _ greatest_turns ToEvaluate (λ a b n h. h) (matches_of means_app words))
+    go false false false true l k = taken_only (is_taken exec_app words) (exec_of (matches_of exec_app words)) (numbered_bounded _ _ _ greatest_steps ToExecute (λ a b n h. h) (matches_of exec_app words))
+    go false false false false true k = taken_only (is_taken layout_app words) (layout_of (matches_of layout_app words)) (layout_bounded (matches_of layout_app words))
+    go false false false false false true = taken_only (is_taken check_app words) (check_of (matches_of check_app words)) (check_bounded (matches_of check_app words))
+    go false false false false false false = tt

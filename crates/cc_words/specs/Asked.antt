@@ -8,8 +8,9 @@ use Rattle.std.specs.declared.alloc.Global.{Global}
 use Rattle.clap.specs.ValueTests.{is_unsigned_in}
 use Rattle.clap.specs.Walk.{is_empty}
 use Rattle.clap.specs.Words.{App, Row, Text, fault_of, first_of, matches_of, one_of}
-use Rattle.cc_words.specs.Commands.{build_app, exec_app, greatest_budget, greatest_registers}
-use Rattle.cc_words.specs.Commands.{greatest_steps, greatest_turns, layout_app, means_app, run_app}
+use Rattle.cc_words.specs.Commands.{build_app, check_app, exec_app, layout_app, means_app, run_app}
+use Rattle.cc_words.specs.Commands.{greatest_budget, greatest_registers, greatest_step}
+use Rattle.cc_words.specs.Commands.{greatest_steps, greatest_turns}
 use Rattle.cc_words.specs.declared.asked.Request.{Request}
 use Rattle.cc_words.specs.declared.asked.Request.TheVariants as request
 
@@ -17,23 +18,28 @@ use Rattle.cc_words.specs.declared.asked.Request.TheVariants as request
 abbrev pub texts_of : List (String Global) → List Text
 texts_of words = map string_bytes words
 
--- what is asked for: to build an image of a source, to run an image on ports for at most so many
--- steps, to evaluate a source on ports with at most so many turns, to compile a source and run it so,
--- or to search a layout of a sequence for so many registers within so large a budget
+-- what is asked for: to build an image of a source, with layouts for so many registers, each searched
+-- within so large a budget, at such a step, to run an image on ports for at most so many steps, to
+-- evaluate a source on ports with at most so many turns, to compile a source and run it so, to search a
+-- layout of a sequence for so many registers within so large a budget, or to check an image by a
+-- certificate
 pub data Asked : Type 0 where
-  ToBuild : Text → Text → Asked
+  ToBuild : Text → Text → ℕ → ℕ → ℕ → Asked
   ToRun : Text → Text → ℕ → Asked
   ToEvaluate : Text → Text → ℕ → Asked
   ToExecute : Text → Text → ℕ → Asked
   ToLayOut : Text → ℕ → ℕ → Asked
+  ToCheck : Text → Text → Asked
 
 -- a request, as what it asks for
 abbrev pub told : Request → Asked
-told (request.Build asked) = ToBuild asked.source.now asked.image.now
+told (request.Build asked) =
+    ToBuild asked.source.now asked.image.now asked.registers asked.budget asked.step
 told (request.Run asked) = ToRun asked.image.now asked.ports.now asked.steps
 told (request.Means asked) = ToEvaluate asked.source.now asked.ports.now asked.turns
 told (request.Exec asked) = ToExecute asked.source.now asked.ports.now asked.steps
 told (request.Layout asked) = ToLayOut asked.sequence.now asked.registers asked.budget
+told (request.Check asked) = ToCheck asked.image.now asked.certificate.now
 
 -- the text writes a number in decimal, from 1 to the greatest; a plus may stand first
 abbrev pub is_number_to : ℕ → Text → Bool
@@ -50,8 +56,13 @@ number_of number greatest rows = option_and_then (number_to greatest) (one_of nu
 
 -- what the matches of `build` ask for
 abbrev pub build_of : List Row → Option Asked
-build_of rows = option_and_then (λ source.
-    option_map (ToBuild source) (first_of (codes "image") rows))
+build_of rows = option_and_then (λ source. option_and_then (λ image.
+    option_and_then (λ registers. option_and_then (λ budget.
+    option_map (ToBuild source image registers budget)
+    (number_of (codes "step") greatest_step rows))
+    (number_of (codes "budget") greatest_budget rows))
+    (number_of (codes "registers") greatest_registers rows))
+    (first_of (codes "image") rows))
     (first_of (codes "source") rows)
 
 -- what the matches of a command of two names and a number ask for
@@ -82,6 +93,12 @@ layout_of rows = option_and_then (λ sequence. option_and_then (λ registers.
     (number_of (codes "registers") greatest_registers rows))
     (first_of (codes "sequence") rows)
 
+-- what the matches of `check` ask for
+abbrev pub check_of : List Row → Option Asked
+check_of rows = option_and_then (λ image.
+    option_map (ToCheck image) (first_of (codes "certificate") rows))
+    (first_of (codes "image") rows)
+
 -- `clap` takes the words as those of the command
 abbrev pub is_taken : App → List Text → Bool
 is_taken app words = is_empty (fault_of app words)
@@ -105,12 +122,16 @@ asked_to_execute = asked_to exec_app exec_of
 abbrev pub asked_to_lay_out : List Text → Option Asked
 asked_to_lay_out = asked_to layout_app layout_of
 
+abbrev pub asked_to_check : List Text → Option Asked
+asked_to_check = asked_to check_app check_of
+
 abbrev pub asked_by : Text → List Text → Option Asked
 asked_by name words = if bytes_eq name (codes "build") then asked_to_build words
     else (if bytes_eq name (codes "run") then asked_to_run words
     else (if bytes_eq name (codes "means") then asked_to_evaluate words
     else (if bytes_eq name (codes "exec") then asked_to_execute words
-    else (if bytes_eq name (codes "layout") then asked_to_lay_out words else None))))
+    else (if bytes_eq name (codes "layout") then asked_to_lay_out words
+    else (if bytes_eq name (codes "check") then asked_to_check words else None)))))
 
 -- what the words ask for, if anything: the first word chooses the command
 abbrev pub asked : List Text → Option Asked

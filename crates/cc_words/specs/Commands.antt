@@ -19,6 +19,10 @@ greatest_registers = 4
 abbrev pub greatest_budget : ℕ
 greatest_budget = 1000000
 
+-- the greatest step that the layouts of an image may be at
+abbrev pub greatest_step : ℕ
+greatest_step = 8
+
 -- a name that has to be there
 abbrev pub name_rule : Text → Rule
 name_rule id = record (new_rule id) { required = true }
@@ -55,19 +59,27 @@ registers_rule = letter_rule (codes "registers") 114 (codes "1") greatest_regist
 abbrev pub budget_rule : Rule
 budget_rule = number_rule (codes "budget") (codes "200000") greatest_budget
 
--- `build SRC IMG`
+-- `--step D`
+abbrev pub step_rule : Rule
+step_rule = number_rule (codes "step") (codes "1") greatest_step
+
+-- a command of two names
+abbrev pub named_app : Text → Text → Text → App
+named_app name first second = with_rule
+    (with_rule (new_app name) (name_rule first))
+    (name_rule second)
+
+-- `build SRC IMG [-r N] [--budget B] [--step D]`
 abbrev pub build_app : App
 build_app = with_rule
-    (with_rule (new_app (codes "build")) (name_rule (codes "source")))
-    (name_rule (codes "image"))
+    (with_rule
+    (with_rule (named_app (codes "build") (codes "source") (codes "image")) registers_rule)
+    budget_rule)
+    step_rule
 
 -- a command of two names and an option
 abbrev pub numbered_app : Text → Text → Text → Rule → App
-numbered_app name first second number = with_rule
-    (with_rule
-    (with_rule (new_app name) (name_rule first))
-    (name_rule second))
-    number
+numbered_app name first second number = with_rule (named_app name first second) number
 
 -- `run IMG PORTS [--steps M]`
 abbrev pub run_app : App
@@ -80,6 +92,10 @@ means_app = numbered_app (codes "means") (codes "source") (codes "ports") turns_
 -- `exec SRC PORTS [--steps M]`
 abbrev pub exec_app : App
 exec_app = numbered_app (codes "exec") (codes "source") (codes "ports") steps_rule
+
+-- `check IMG CERT`
+abbrev pub check_app : App
+check_app = named_app (codes "check") (codes "image") (codes "certificate")
 
 -- `layout SEQ [-r N] [--budget B]`
 abbrev pub layout_app : App

@@ -2,9 +2,10 @@
 use Rattle.std.specs.Prelude.{◌≡◌, ◌≢◌, ◌≤◌, ◌++◌, ℕ, ⊤, true, false, List, [], ◌∷◌, IfSome, codes}
 use Rattle.std.specs.Str.Parse.{digits_value, without_leading_plus}
 use Rattle.clap.specs.Words.{Text}
-use Rattle.cc_words.specs.Asked.{Asked, ToBuild, ToRun, ToEvaluate, ToExecute, ToLayOut}
+use Rattle.cc_words.specs.Asked.{Asked, ToBuild, ToRun, ToEvaluate, ToExecute, ToLayOut, ToCheck}
 use Rattle.cc_words.specs.Asked.{Asks, AsksNothing, asked, is_number_to, is_plain_word}
-use Rattle.cc_words.specs.Commands.{greatest_budget, greatest_registers, greatest_steps, greatest_turns}
+use Rattle.cc_words.specs.Commands.{greatest_budget, greatest_registers, greatest_step}
+use Rattle.cc_words.specs.Commands.{greatest_steps, greatest_turns}
 
 -- a fact of any two words that look like no option
 abbrev pub OnPlain : (Text → Text → Type 0) → Type 0
@@ -13,7 +14,7 @@ OnPlain P =
 
 -- `build SRC IMG`
 abbrev pub BuildsTwoNames : Type 0
-BuildsTwoNames = OnPlain (λ a b. Asks (codes "build" ∷ a ∷ b ∷ []) (ToBuild a b))
+BuildsTwoNames = OnPlain (λ a b. Asks (codes "build" ∷ a ∷ b ∷ []) (ToBuild a b 1 200000 1))
 
 -- `build` with fewer names, or with more, whatever follows
 abbrev pub BuildsNoOtherNames : Type 0
@@ -30,12 +31,55 @@ RunsTwoNames = OnPlain (λ a b. Asks (codes "run" ∷ a ∷ b ∷ []) (ToRun a b
 abbrev pub MeansTwoNames : Type 0
 MeansTwoNames = OnPlain (λ a b. Asks (codes "means" ∷ a ∷ b ∷ []) (ToEvaluate a b 10000))
 
+-- this holds of the number that a text writes, and the words ask for nothing where it writes none
+-- from 1 to the greatest
+abbrev pub WithNumber : ℕ → (ℕ → Type 0) → Text → List Text → Type 0
+WithNumber greatest P text words = (is_number_to greatest text ≡ true
+    → P (digits_value 10 (without_leading_plus text)))
+    × (is_number_to greatest text ≡ false → AsksNothing words)
+
 -- the words ask for what the number makes it that a text writes, and for nothing where it writes
 -- none from 1 to the greatest
 abbrev pub AsksFor : ℕ → (ℕ → Asked) → Text → List Text → Type 0
-AsksFor greatest what text words = (is_number_to greatest text ≡ true
-    → Asks words (what (digits_value 10 (without_leading_plus text))))
-    × (is_number_to greatest text ≡ false → AsksNothing words)
+AsksFor greatest what text words = WithNumber greatest (λ n. Asks words (what n)) text words
+
+-- `build SRC IMG -r N`, where N looks like no option
+abbrev pub BuildsWithRegisters : Type 0
+BuildsWithRegisters = OnPlain (λ a b. (text : Text) → is_plain_word text ≡ true
+    → AsksFor greatest_registers (λ registers. ToBuild a b registers 200000 1) text
+    (codes "build" ∷ a ∷ b ∷ codes "-r" ∷ text ∷ []))
+
+-- `build SRC IMG --budget B`
+abbrev pub BuildsWithBudget : Type 0
+BuildsWithBudget = OnPlain (λ a b. (text : Text) → is_plain_word text ≡ true
+    → AsksFor greatest_budget (λ budget. ToBuild a b 1 budget 1) text
+    (codes "build" ∷ a ∷ b ∷ codes "--budget" ∷ text ∷ []))
+
+-- `build SRC IMG --step D`
+abbrev pub BuildsWithStep : Type 0
+BuildsWithStep = OnPlain (λ a b. (text : Text) → is_plain_word text ≡ true
+    → AsksFor greatest_step (ToBuild a b 1 200000) text
+    (codes "build" ∷ a ∷ b ∷ codes "--step" ∷ text ∷ []))
+
+-- `build SRC IMG --step=D`
+abbrev pub BuildsWithStepAttached : Type 0
+BuildsWithStepAttached = OnPlain (λ a b. (text : Text)
+    → AsksFor greatest_step (ToBuild a b 1 200000) text
+    (codes "build" ∷ a ∷ b ∷ (codes "--step=" ++ text) ∷ []))
+
+-- the words ask for an image for the registers, within the budget and at the step that three texts
+-- write, and for nothing where one of them writes no number of its range
+abbrev pub BuildsFor : Text → Text → Text → Text → Text → List Text → Type 0
+BuildsFor a b registers budget step words = WithNumber greatest_registers (λ n.
+    WithNumber greatest_budget (λ m. AsksFor greatest_step (ToBuild a b n m) step words)
+    budget words)
+    registers words
+
+-- `build SRC IMG -r N --budget B --step D`, where N, B and D look like no options
+abbrev pub BuildsWithAll : Type 0
+BuildsWithAll = OnPlain (λ a b. OnPlain (λ n m. (d : Text) → is_plain_word d ≡ true
+    → BuildsFor a b n m d
+    (codes "build" ∷ a ∷ b ∷ codes "-r" ∷ n ∷ codes "--budget" ∷ m ∷ codes "--step" ∷ d ∷ [])))
 
 -- the words ask for a run of the steps that a text writes
 abbrev pub RunsFor : Text → Text → Text → List Text → Type 0
@@ -151,10 +195,9 @@ LaysOutWithBudgetAttached = (a text : Text) → is_plain_word a ≡ true
 -- the words ask for a layout for the registers and within the budget that two texts write, and for
 -- nothing where one of them writes no number of its range
 abbrev pub LaysOutFor : Text → Text → Text → List Text → Type 0
-LaysOutFor a registers budget words = (is_number_to greatest_registers registers ≡ true
-    → AsksFor greatest_budget
-    (ToLayOut a (digits_value 10 (without_leading_plus registers))) budget words)
-    × (is_number_to greatest_registers registers ≡ false → AsksNothing words)
+LaysOutFor a registers budget words = WithNumber greatest_registers
+    (λ n. AsksFor greatest_budget (ToLayOut a n) budget words)
+    registers words
 
 -- `layout SEQ -r N --budget B`, where N and B look like no options
 abbrev pub LaysOutWithBoth : Type 0
@@ -171,15 +214,30 @@ abbrev pub LaysOutWithBothTurned : Type 0
 LaysOutWithBothTurned = OnPlain (λ n b. (a : Text) → is_plain_word a ≡ true
     → LaysOutFor a n b (codes "layout" ∷ a ∷ codes "--budget" ∷ b ∷ codes "-r" ∷ n ∷ []))
 
--- a run is of 1 to 100,000,000 steps, a loop of an evaluation has 1 to 1,000,000 turns, and a search
--- for a layout is for 1 to 4 registers within a budget of 1 to 1,000,000 nodes
+-- `check IMG CERT`
+abbrev pub ChecksTwoNames : Type 0
+ChecksTwoNames = OnPlain (λ a b. Asks (codes "check" ∷ a ∷ b ∷ []) (ToCheck a b))
+
+-- `check` with fewer names, or with more, whatever follows
+abbrev pub ChecksNoOtherNames : Type 0
+ChecksNoOtherNames = AsksNothing (codes "check" ∷ [])
+    × ((a : Text) → is_plain_word a ≡ true → AsksNothing (codes "check" ∷ a ∷ []))
+    × OnPlain (λ a b. (c : Text) (rest : List Text) → is_plain_word c ≡ true
+    → AsksNothing (codes "check" ∷ a ∷ b ∷ c ∷ rest))
+
+-- a run is of 1 to 100,000,000 steps, a loop of an evaluation has 1 to 1,000,000 turns, a search for a
+-- layout is for 1 to 4 registers within a budget of 1 to 1,000,000 nodes, and those of a build are so at
+-- a step of 1 to 8
 abbrev pub IsWithinBounds : Asked → Type 0
-IsWithinBounds (ToBuild source image) = ⊤
+IsWithinBounds (ToBuild source image registers budget step) = (1 ≤ registers)
+    × (registers ≤ greatest_registers) × (1 ≤ budget) × (budget ≤ greatest_budget)
+    × (1 ≤ step) × (step ≤ greatest_step)
 IsWithinBounds (ToRun image ports steps) = (1 ≤ steps) × (steps ≤ greatest_steps)
 IsWithinBounds (ToEvaluate source ports turns) = (1 ≤ turns) × (turns ≤ greatest_turns)
 IsWithinBounds (ToExecute source ports steps) = (1 ≤ steps) × (steps ≤ greatest_steps)
 IsWithinBounds (ToLayOut sequence registers budget) = (1 ≤ registers)
     × (registers ≤ greatest_registers) × (1 ≤ budget) × (budget ≤ greatest_budget)
+IsWithinBounds (ToCheck image certificate) = ⊤
 
 -- and that holds of whatever is asked for
 abbrev pub AsksWithin : Type 0

@@ -3,6 +3,7 @@ ghost use Rattle.std.specs.Prelude.{◌≡◌, IfOk, option_map};
 ghost use Rattle.cc_words.specs.Asked.{asked, texts_of, told};
 
 use crate::build::{self, Build};
+use crate::check::{self, Check};
 use crate::exec::{self, Exec};
 use crate::layout::{self, Layout};
 use crate::means::{self, Means};
@@ -18,6 +19,7 @@ pub enum Request<'a> {
     Means(Means<'a>),
     Exec(Exec<'a>),
     Layout(Layout<'a>),
+    Check(Check<'a>),
 }
 
 /// What the words behind the program's name ask for, or `None` where they are refused. The first
@@ -34,6 +36,7 @@ pub fn requested<'a>(alloc: Global, words: &'a [String]) -> Result<Option<Reques
         "means" => means::request(alloc, words),
         "exec" => exec::request(alloc, words),
         "layout" => layout::request(alloc, words),
+        "check" => check::request(alloc, words),
         _ => Ok(None),
     }
 }

@@ -6,7 +6,7 @@ ghost use Rattle.cc_words.specs.Commands.{exec_app, greatest_steps};
 
 use crate::asked::Request;
 use crate::commands::{parsed, required};
-use crate::run::steps;
+use crate::options::steps;
 use clap::{ArgMatches, Command};
 use std::alloc::{AllocError, Global};
 use word_base::NoMemory;

@@ -1,12 +1,13 @@
 //! `layout SEQ [-r N] [--budget B]`.
-ghost use Rattle.std.specs.Prelude.{◌≡◌, ℕ, List, Some, true, false, IfOk, codes, option_map};
-ghost use Rattle.clap.specs.Words.{app_of, found_of, one_text, rows_of, rule_of};
+ghost use Rattle.std.specs.Prelude.{◌≡◌, ℕ, List, Some, true, IfOk, codes, option_map};
+ghost use Rattle.clap.specs.Words.{app_of, found_of, one_text, rows_of};
 ghost use Rattle.cc_words.specs.Asked.{asked_to_lay_out, is_number_to, layout_of, texts_of, told};
-ghost use Rattle.cc_words.specs.Commands.{budget_rule, greatest_budget, greatest_registers, layout_app, registers_rule};
+ghost use Rattle.cc_words.specs.Commands.{greatest_budget, greatest_registers, layout_app};
 
 use crate::asked::Request;
 use crate::commands::{parsed, required};
-use clap::{Arg, ArgMatches, Command, value_parser};
+use crate::options::{budget, registers};
+use clap::{ArgMatches, Command};
 use std::alloc::{AllocError, Global};
 use word_base::NoMemory;
 
@@ -19,28 +20,6 @@ pub struct Layout<'a> {
     pub registers: u8,
     /// How many nodes the search may visit.
     pub budget: u32,
-}
-
-/// `-r N`.
-pub(crate) fn registers<'a>(alloc: Global) -> Arg<'a>
-    ensures rule { rule_of result ≡ registers_rule }
-    ensures own { result.global ≡ false }
-{
-    Arg::new(alloc, "registers")
-        .short('r')
-        .default_value("1")
-        .value_parser(value_parser!(u64).range(1..=4))
-}
-
-/// `--budget B`.
-pub(crate) fn budget<'a>(alloc: Global) -> Arg<'a>
-    ensures rule { rule_of result ≡ budget_rule }
-    ensures own { result.global ≡ false }
-{
-    Arg::new(alloc, "budget")
-        .long("budget")
-        .default_value("200000")
-        .value_parser(value_parser!(u64).range(1..=1_000_000))
 }
 
 // `layout SEQ [-r N] [--budget B]`.

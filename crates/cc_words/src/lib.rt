@@ -3,15 +3,18 @@
 
 mod asked;
 mod build;
+mod check;
 mod commands;
 mod exec;
 mod layout;
 mod means;
+mod options;
 mod plain;
 mod run;
 
 pub use asked::{Request, requested};
 pub use build::Build;
+pub use check::Check;
 pub use exec::Exec;
 pub use layout::Layout;
 pub use means::Means;

@@ -1,5 +1,7 @@
 //! What the usual words ask for.
 ghost use Rattle.cc_words.specs.Plain.{AsksWithin, BuildsNoOtherNames, BuildsTwoNames, RunsTwoNames, MeansTwoNames};
+ghost use Rattle.cc_words.specs.Plain.{BuildsWithRegisters, BuildsWithBudget, BuildsWithStep, BuildsWithStepAttached, BuildsWithAll};
+ghost use Rattle.cc_words.specs.Plain.{ChecksTwoNames, ChecksNoOtherNames};
 ghost use Rattle.cc_words.specs.Plain.{RunsWithSteps, RunsWithStepsAttached, RunsWithStepsFirst};
 ghost use Rattle.cc_words.specs.Plain.{ExecutesTwoNames, ExecutesWithSteps, ExecutesWithStepsAttached, ExecutesWithStepsFirst};
 ghost use Rattle.cc_words.specs.Plain.{MeansWithTurns, MeansWithTurnsAttached, MeansWithTurnsFirst};
@@ -9,11 +11,17 @@ ghost use Rattle.cc_words.specs.Plain.{LaysOutWithBudgetAttached, LaysOutWithBot
 
 /// The words that hold no option but those of their command ask for what one would say, and no words
 /// ask for a run of other than 1 to 100,000,000 steps, for an evaluation of other than 1 to 1,000,000
-/// turns, or for a layout for other than 1 to 4 registers or within a budget of other than 1 to
-/// 1,000,000 nodes. It does nothing: its clauses are what callers cite.
+/// turns, for a layout or an image for other than 1 to 4 registers or within a budget of other than 1 to
+/// 1,000,000 nodes, or for an image at a step of other than 1 to 8. It does nothing: its clauses are what
+/// callers cite.
 pub fn plain_words()
     ensures build { BuildsTwoNames }
     ensures build_other { BuildsNoOtherNames }
+    ensures build_registers { BuildsWithRegisters }
+    ensures build_budget { BuildsWithBudget }
+    ensures step { BuildsWithStep }
+    ensures step_attached { BuildsWithStepAttached }
+    ensures registers_budget_and_step { BuildsWithAll }
     ensures run { RunsTwoNames }
     ensures steps { RunsWithSteps }
     ensures steps_first { RunsWithStepsFirst }
@@ -37,5 +45,7 @@ pub fn plain_words()
     ensures registers_and_budget { LaysOutWithBoth }
     ensures both_first { LaysOutWithBothFirst }
     ensures budget_and_registers { LaysOutWithBothTurned }
+    ensures check { ChecksTwoNames }
+    ensures check_other { ChecksNoOtherNames }
     ensures range { AsksWithin }
 {}

@@ -1,12 +1,13 @@
 //! `run IMG PORTS [--steps M]`.
-ghost use Rattle.std.specs.Prelude.{◌≡◌, ℕ, List, Some, true, false, IfOk, codes, option_map};
-ghost use Rattle.clap.specs.Words.{app_of, found_of, one_text, rows_of, rule_of};
+ghost use Rattle.std.specs.Prelude.{◌≡◌, ℕ, List, Some, true, IfOk, codes, option_map};
+ghost use Rattle.clap.specs.Words.{app_of, found_of, one_text, rows_of};
 ghost use Rattle.cc_words.specs.Asked.{asked_to_run, is_number_to, run_of, texts_of, told};
-ghost use Rattle.cc_words.specs.Commands.{greatest_steps, run_app, steps_rule};
+ghost use Rattle.cc_words.specs.Commands.{greatest_steps, run_app};
 
 use crate::asked::Request;
 use crate::commands::{parsed, required};
-use clap::{Arg, ArgMatches, Command, value_parser};
+use crate::options::steps;
+use clap::{ArgMatches, Command};
 use std::alloc::{AllocError, Global};
 use word_base::NoMemory;
 
@@ -19,17 +20,6 @@ pub struct Run<'a> {
     pub ports: &'a str,
     /// After how many steps the run is cut off.
     pub steps: u64,
-}
-
-/// `--steps M`.
-pub(crate) fn steps<'a>(alloc: Global) -> Arg<'a>
-    ensures rule { rule_of result ≡ steps_rule }
-    ensures own { result.global ≡ false }
-{
-    Arg::new(alloc, "steps")
-        .long("steps")
-        .default_value("1000000")
-        .value_parser(value_parser!(u64).range(1..=100_000_000))
 }
 
 // `run IMG PORTS [--steps M]`.

@@ -1,5 +1,5 @@
 -- Lists that arrange scalars.
-use Rattle.std.proofs.Common.{rules, ◌≡◌, ◌≢◌, ℕ, ◌<◌, ◌≤◌, ◌==◌, Bool, true, false, List, length, count_by, sym, ap, subst, ◌∙◌, arith}
+use Rattle.std.proofs.Common.{rules, ◌≡◌, ℕ, ◌<◌, ◌≤◌, ◌==◌, Bool, true, false, List, length, count_by, sym, ap, subst, ◌∙◌, arith}
 use Rattle.std.specs.Prelude.{◌↔◌, IsTrue, All}
 use Rattle.std.specs.List.{concat}
 use Rattle.lay_model.specs.Arrangements.{Arranges}
@@ -12,9 +12,6 @@ always P p = (λ t. p, λ q. let yes : IsTrue true = search rules in yes)
 
 pub not_few : (scalars : ℕ) (lists : List (List ℕ)) → 64 < scalars → IsTrue false ↔ Arranges scalars lists
 not_few scalars lists many = never (Arranges scalars lists) (λ a. omega (arith, a.few))
-
-pub not_counted : (scalars count : ℕ) (all : List ℕ) (lists : List (List ℕ)) → all ≡ concat lists → count ≡ length all → count ≢ scalars → IsTrue false ↔ Arranges scalars lists
-not_counted scalars count all lists e n other = never (Arranges scalars lists) (λ a. other (n ∙ ap length e ∙ a.all))
 
 pub not_filled : (scalars : ℕ) (lists : List (List ℕ)) → (All (λ list. 1 ≤ length list) lists → ⊥) → IsTrue false ↔ Arranges scalars lists
 not_filled scalars lists none = never (Arranges scalars lists) (λ a. none a.some)

@@ -3,6 +3,7 @@ pub mod Turns
 pub mod Places
 pub mod Exact
 pub mod Written
+pub mod Spelling
 pub mod MarkLines
 pub mod Steps
 pub mod Layouts

@@ -24,9 +24,6 @@ pub record NumbersSoFar (bytes rest kept : List ℕ) : Type 0 where
   pub off : IsSpacedOff rest
   pub are_kept : kept ≡ capped numbers
 
-pub numbers_start : (bytes : List ℕ) → IsSpacedOff bytes → NumbersSoFar bytes bytes []
-numbers_start bytes p = record { numbers = []; fit = tt {0}; text = refl; off = p; are_kept = refl }
-
 fit-push : (xs : List ℕ) (x : ℕ) → Fit xs → x < 2 ^ 64 → Fit (xs ++ x ∷ [])
 fit-push [] x a lt = (lt, tt {0})
 fit-push (y ∷ xs) x a lt = (a.0, fit-push xs x a.1 lt)
@@ -43,9 +40,6 @@ numbers_more bytes rest after kept new n s lt p e pushed = record {
   off = p;
   are_kept = pushed ∙ ap (λ k. k ++ min n 255 ∷ []) s.are_kept ∙ sym (map-append (λ m. min m 255) s.numbers (n ∷ []));
 }
-
-pub numbers_end : (bytes rest kept : List ℕ) → NumbersSoFar bytes rest kept → rest ≡ [] → Spells bytes kept
-numbers_end bytes rest kept s none = record { numbers = s.numbers; fit = s.fit; text = s.text ∙ ap (λ t. spaced s.numbers ++ t) none ∙ append-nil (spaced s.numbers); is_kept = s.are_kept }
 
 spaced_off : (numbers rest : List ℕ) → IsSpacedOff rest → IsSpacedOff (spaced numbers ++ rest)
 spaced_off [] rest p = p

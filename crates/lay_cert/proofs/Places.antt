@@ -1,5 +1,5 @@
 -- Lines lead on, or the next one can't stand there.
-use Rattle.std.proofs.Common.{◌≡◌, ◌≢◌, ℕ, ◌+◌, ◌-◌, ◌<◌, ◌^◌, Bool, List, [], ◌∷◌, ◌++◌, length, refl, sym, ap, subst, ◌∙◌, arith, append_assoc, length-append}
+use Rattle.std.proofs.Common.{◌≡◌, ◌≢◌, ℕ, ◌+◌, ◌-◌, ◌<◌, ◌^◌, Bool, List, [], ◌∷◌, ◌++◌, refl, sym, ap, subst, ◌∙◌, arith, append_assoc, length-append}
 use Rattle.std.specs.Prelude.{decimal}
 use Rattle.std.proofs.lemmas.Fmt.{decimal_injective}
 use Rattle.lay_text.proofs.Numbers.{same_behind}
@@ -87,6 +87,3 @@ not_it line text other more none w e is = none more (subst (Lacks 10) is w) (e �
 
 pub number_same : (word line : List ℕ) (m n : ℕ) → m < 2 ^ 64 → n < 2 ^ 64 → line ≡ word ++ decimal m → line ≡ word ++ decimal n → m ≡ n
 number_same word line m n lt less e f = decimal_injective m n lt less (same_behind word (decimal m) (decimal n) (sym e ∙ f))
-
-pub moved : (number : ℕ) (text line rest : List ℕ) → Lacks 10 line → text ≡ with_feed line ++ rest → Moves (record { number = number; text = text }) line (record { number = number + 1; text = rest })
-moved number text line rest w e = record { whole = w; cut = e; next = refl; shorter = omega (arith, ap length e, length-append (with_feed line) rest, length-append line (10 ∷ [])) }

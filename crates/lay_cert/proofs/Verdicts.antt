@@ -1,10 +1,8 @@
 -- What a yes says of a frame, and verdicts that were worked out by another program or by hand.
-use Rattle.std.proofs.Common.{◌≡◌, ℕ, Bool, true, false, cond, List, [], ◌∷◌, refl, ap, ap₂, sym, ◌∙◌}
-use Rattle.std.specs.Prelude.{◌==◌, ℤ, pos, negsuc, codes}
+use Rattle.std.proofs.Common.{◌≡◌, ℕ, Bool, true, false, cond, [], ◌∷◌, refl, ap, ap₂, sym, ◌∙◌}
+use Rattle.std.specs.Prelude.{◌==◌, pos, negsuc, codes}
 use Rattle.std.proofs.lemmas.Bool.{both_ways, eqb-true, eq-eqb, ne_eqb}
-use Rattle.lay_model.specs.Sequences.{Sequence}
 use Rattle.lay_cost.specs.Cost.{arranged_cost}
-use Rattle.lay_tree.specs.declared.answer.Mark.{Mark}
 use Rattle.lay_tree.specs.declared.answer.Mark.TheVariants.{Branched, Closed}
 use Rattle.lay_tree.specs.Replays.{Replay, Fits, IsTooLow, HasNoShape, replay, Replays}
 use Rattle.lay_cert.specs.declared.certificate.Claim.{Claim}

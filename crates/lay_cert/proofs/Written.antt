@@ -245,7 +245,7 @@ good_lists : (n : ℕ) (lists : List (List ℕ)) → n ≤ 64 → AllByRecursion
 good_lists n [] few a = tt {0}
 good_lists n (l ∷ ls) few a = (below_number n l few (recursion_from_All (λ s. s < n) l a.0), good_lists n ls few a.1)
 
-lines-append : (xs ys : List (List ℕ)) → lines_text (xs ++ ys) ≡ lines_text xs ++ lines_text ys
+pub lines-append : (xs ys : List (List ℕ)) → lines_text (xs ++ ys) ≡ lines_text xs ++ lines_text ys
 lines-append [] ys = refl
 lines-append (x ∷ xs) ys = ap (λ t. with_feed x ++ t) (lines-append xs ys) ∙ sym (append_assoc (with_feed x) (lines_text xs) (lines_text ys))
 

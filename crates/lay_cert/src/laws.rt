@@ -1,5 +1,5 @@
 //! The laws of certificates.
-ghost use Rattle.std.specs.Prelude.{◌≡◌, List, All};
+ghost use Rattle.std.specs.Prelude.{◌≡◌, ◌⊎◌, ℕ, List, All};
 ghost use Rattle.lay_model.specs.Sequences.{IsSequence};
 ghost use Rattle.lay_cost.specs.Cost.{arranged_cost, Least};
 ghost use Rattle.lay_cert.specs.Frames.{Frame, IsFrame, AreWhole};
@@ -13,6 +13,13 @@ ghost use Rattle.lay_cert.specs.CertReading.{Reads};
 pub fn written_certificates_are_read()
     ensures written { (fs : List Frame) → AreWhole fs → Reads (cert_text fs) fs }
     ensures old { (fs : List Frame) → AreWhole fs → All (λ f. f.seq.step ≡ 1) fs → Reads (old_text fs) fs }
+{}
+
+/// Bytes that are read as a certificate are its text, of version 2, or of version 1 where each step is 1; and its numbers have their bits. It does nothing: its
+/// clauses are what callers cite.
+pub fn read_certificates_are_written()
+    ensures one_spelling { (bytes : List ℕ) (fs : List Frame) → Reads bytes fs → (bytes ≡ cert_text fs) ⊎ ((bytes ≡ old_text fs) × All (λ f. f.seq.step ≡ 1) fs) }
+    ensures whole { (bytes : List ℕ) (fs : List Frame) → Reads bytes fs → AreWhole fs }
 {}
 
 /// Where the replay of a frame says yes, its layout costs what is claimed, and no placement over its registers costs less.

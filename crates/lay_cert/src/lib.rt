@@ -16,7 +16,7 @@ mod writing;
 
 pub use certificate::{CertFrame, Certificate, Claim, FrameParts};
 pub use fault::CertFault;
-pub use laws::{written_certificates_are_read, yes_means_least};
+pub use laws::{read_certificates_are_written, written_certificates_are_read, yes_means_least};
 pub use reading::read_cert;
 pub use replaying::{Replay, Verdict};
 pub use writing::write_cert;

@@ -1,7 +1,7 @@
 //! The marks of a log.
-ghost use Rattle.std.specs.Prelude.{◌≡◌, ◌≢◌, ◌<◌, ◌≤◌, ℕ, List, length, MatchOption, MatchResult, IfOk, IsTrue};
+ghost use Rattle.std.specs.Prelude.{◌≡◌, ◌≢◌, ◌<◌, ◌≤◌, length, MatchOption, IfOk};
 ghost use Rattle.lay_tree.specs.declared.answer.Mark.{Mark};
-ghost use Rattle.lay_cert.specs.CertText.{mark_byte, mark_bytes};
+ghost use Rattle.lay_cert.specs.CertText.{mark_byte};
 ghost use Rattle.lay_cert.specs.Marks.{held, is_short};
 ghost use Rattle.lay_cert.specs.LineReading.{ReadsMarks};
 

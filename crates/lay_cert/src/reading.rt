@@ -1,7 +1,7 @@
 //! Reading certificates.
 ghost use Rattle.std.specs.Prelude.{◌≡◌, ◌≢◌, ◌⊎◌, ◌≤◌, ℕ, List, [], ◌∷◌, ◌++◌, Bool, length, MatchOption, MatchResult, IfOk, IfErr, IfSome};
 ghost use Rattle.word_base.specs.Name.{IsName};
-ghost use Rattle.lay_cert.specs.Frames.{Frame};
+ghost use Rattle.lay_cert.specs.Frames.{Frame, AreWhole};
 ghost use Rattle.lay_cert.specs.CertReading.{Unread, Inside, Finished, Named, Between, Reads, Says};
 ghost use Rattle.lay_cert.specs.LineReading.{Stands};
 ghost use Rattle.lay_cert.specs.declared.fault.CertFault.{CertFault};
@@ -104,6 +104,8 @@ pub fn read_cert(alloc: Global, bytes: &[u8]) -> Result<Certificate, CertFault>
     requires { length bytes.now ≤ 536870912 }
     // What is read is what the bytes say.
     ensures reads { IfOk result (Reads bytes.now) }
+    // Its frames are frames, and their numbers have their bits.
+    ensures whole { IfOk result AreWhole }
     // What bytes say is read, unless memory is wanting.
     ensures written { (fs : List Frame) → Reads bytes.now fs → MatchResult result (λ found. found ≡ fs) (λ fault. fault ≡ faults.NoMemory) }
     // Which fault it is, and where.

@@ -46,7 +46,7 @@ impl Replay {
         ensures { IfOk result (λ r. r ≡ frame.now.registers) }
     {
         Ok(Replay {
-            log: LogReplay::new(alloc, frame.seq(), frame.registers())?,
+            log: LogReplay::new(alloc, frame.registers())?,
         })
     }
 

@@ -1,5 +1,5 @@
 //! How often scalars are neighbours.
-ghost use Rattle.std.specs.Prelude.{◌≡◌, ◌<◌, ◌≤◌, ◌+◌, ◌*◌, ◌^◌, filter, length, All, IfOk, IfSome, if◌then◌else◌};
+ghost use Rattle.std.specs.Prelude.{◌≡◌, ◌<◌, ◌≤◌, ◌+◌, ◌*◌, ◌^◌, filter, length, replicate, All, IfOk, IfSome, if◌then◌else◌};
 ghost use Rattle.std.specs.List.{list_any};
 ghost use Rattle.lay_cost.specs.Restricted as sets;
 ghost use Rattle.lay_cost.specs.Restricted.{in_bits};
@@ -36,15 +36,22 @@ impl Model for WeightTable {
 pub fn weights(alloc: Global, seq: &Sequence, set: u64) -> Result<WeightTable, NoMemory>
     ensures { IfOk result (λ table. AreWeights seq.now (in_bits set) table) }
 {
-    let mut table = WeightTable {
-        weights: vec![in alloc; 0; TABLE]?,
-        rows: 0,
-    };
+    let mut table = WeightTable::zeros(alloc)?;
     table.refill(seq, set);
     Ok(table)
 }
 
 impl WeightTable {
+    /// The table in which each weight is 0.
+    pub fn zeros(alloc: Global) -> Result<WeightTable, NoMemory>
+        ensures { IfOk result (λ table. table ≡ replicate 4096 0) }
+    {
+        Ok(WeightTable {
+            weights: vec![in alloc; 0; TABLE]?,
+            rows: 0,
+        })
+    }
+
     /// The weight of two scalars, in either order. It is 0 for a scalar and itself, and where one isn't in the set.
     pub fn at(&self, a: u8, b: u8) -> u64
         requires a_below { a < 64 }
@@ -52,6 +59,16 @@ impl WeightTable {
         ensures { result ≡ weight_at self.now a b }
     {
         self.weights[place(a, b)]
+    }
+
+    /// The same numbers again, in a table of its own.
+    pub fn copy(&self, alloc: Global) -> Result<WeightTable, NoMemory>
+        ensures { IfOk result (λ table. table ≡ self.now) }
+    {
+        Ok(WeightTable {
+            weights: self.weights.to_vec(alloc)?,
+            rows: self.rows,
+        })
     }
 
     /// Makes it the table of this sequence and set. It takes no memory.

@@ -17,7 +17,7 @@ use Rattle.lay_node.specs.declared.position.Position.{Position}
 use Rattle.lay_node.specs.Levels.{is_free, free_below, greatest_among, greatest_in_all, HasGreatest}
 use Rattle.lay_node.specs.Numbers.{needs_weights, needs_greatest, kept_with, kept_in, kept_at, most_beside}
 use Rattle.lay_node.specs.Strings.{node_of}
-use Rattle.lay_node.specs.Positions.{no_level, level_at, here, greatest_needed, IsLevel, IsAtWith, IsAt, SameBelow, SamePlace}
+use Rattle.lay_node.specs.Positions.{no_level, level_at, here, greatest_needed, IsLevel, IsAtWith, IsAt, IsCopy, SameBelow, SamePlace}
 use Rattle.lay_node.proofs.Unplaced.{unplaced_scalar, placed_more, greatest_minus}
 use Rattle.lay_node.proofs.Needs.{greatest_weigh}
 use Rattle.lay_node.proofs.Children.{has_unplaced}
@@ -161,6 +161,23 @@ same_at seq old new at_it same =
       weights = λ some x y lx ly. ap (λ w. weight_at w x y) l.weights ∙ at_it.level.weights some x y lx ly;
       greatest = λ ranks t lt out. l.greatest t ∙ at_it.level.greatest ranks t lt out;
     }))
+
+pub copy_here : (old new : Position) → IsCopy old new → here new ≡ here old
+copy_here old new copy = ap node_of copy.string
+
+-- and so does a copy
+pub copy_at : (seq : Sequence) (old new : Position) → IsAt seq old → IsCopy old new → IsAt seq new
+copy_at seq old new at_it copy = same_at seq old new at_it (record {
+  registers = copy.registers;
+  string = copy.string;
+  placed = copy.placed;
+  outside = copy.outside;
+  count = ap length copy.levels;
+  levels = λ i lt. record {
+    weights = ap (λ ls. (level_at ls i).weights) copy.levels;
+    greatest = λ s. ap (λ ls. slice_index (level_at ls i).greatest s) copy.levels;
+  };
+})
 
 pub same_itself : (d : Position) → SamePlace d d
 same_itself d = record {

@@ -1,5 +1,5 @@
 -- Nodes whose scalars are below a number and stand there once each: what is kept of them is small, and what complete ones cost.
-use Rattle.std.proofs.Common.{◌≡◌, ℕ, zero, suc, ◌+◌, ◌*◌, ◌-◌, ◌^◌, ◌<◌, ◌≤◌, Bool, true, false, cond, not, List, [], ◌∷◌, ◌++◌, filter, length, refl, ap, ap₂, sym, subst, ◌∙◌, arith, inl, inr, ne_eqb, append-nil, lt-ltb}
+use Rattle.std.proofs.Common.{◌≡◌, ℕ, zero, suc, ◌+◌, ◌*◌, ◌-◌, ◌^◌, ◌<◌, ◌≤◌, Bool, true, false, cond, not, List, [], ◌∷◌, ◌++◌, filter, length, refl, ap, sym, subst, ◌∙◌, arith, ne_eqb, append-nil, lt-ltb}
 use Rattle.std.specs.Prelude.{◌==◌, nat_lt, All, sum_by, count_by, if◌then◌else◌}
 use Rattle.std.specs.List.{concat, range_with_len, list_any}
 use Rattle.std.proofs.Math.Nat.{mul-le-mul_left}
@@ -15,7 +15,6 @@ use Rattle.lay_cost.specs.Cost.{arranged_cost, block_cost}
 use Rattle.lay_cost.specs.Restricted.{loads}
 use Rattle.lay_cost.specs.Parts.{Node, node_lists, part_cost_of, lists_of, IsString, StandOnce, AreMembers}
 use Rattle.lay_cost.specs.Weights as costs
-use Rattle.lay_cost.specs.Weights.{weight_between}
 use Rattle.lay_cost.proofs.Bounds.{block_cost_le, kept_cost_le}
 use Rattle.lay_cost.proofs.Pairs.{load_le}
 use Rattle.lay_cost.proofs.Adding.{part_by_blocks, apart_from}

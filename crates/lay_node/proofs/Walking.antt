@@ -2,7 +2,7 @@
 use Rattle.std.proofs.Common.{◌≡◌, ℕ, zero, suc, ◌+◌, ◌-◌, ◌^◌, ◌<◌, ◌≤◌, max, Bool, true, false, cond, not, List, [], ◌∷◌, ◌++◌, map, filter, length, refl, ap, ap₂, sym, subst, ◌∙◌, arith, inl, inr, append-nil, append_assoc, lt_of_lt_of_le}
 use Rattle.std.specs.Prelude.{◌==◌, ◌&&◌, ◌⊎◌, All, slice_index, slice_index_or, slice_set, Option, Some, None, IfSome, is_some, if◌then◌else◌, nat_lt}
 use Rattle.std.specs.List.{concat, range_with_len}
-use Rattle.std.proofs.lemmas.Bool.{both_ways, cases_eq, cases_lt, not-true, and_parts, cond-true, cond-false}
+use Rattle.std.proofs.lemmas.Bool.{cases_eq, cases_lt, not-true}
 use Rattle.std.proofs.lemmas.List.{map-append, set-set, set-get_or}
 use Rattle.std.proofs.lemmas.List.Elements.{filter-append, All-head, All-tail, All-weaker}
 use Rattle.lay_model.specs.Sequences.{Sequence}

@@ -59,6 +59,14 @@ greatest_needed seq p = needs_greatest p.registers seq (here p)
 abbrev pub IsAt : Sequence → Position → Type 0
 IsAt seq p = IsAtWith (needs_weights seq) (greatest_needed seq p) seq p
 
+-- it is at the same place, and knows the same
+pub record IsCopy (old new : Position) : Type 0 where
+  pub registers : new.registers ≡ old.registers
+  pub string : new.string.items ≡ old.string.items
+  pub placed : new.placed ≡ old.placed
+  pub outside : new.outside ≡ old.outside
+  pub levels : new.levels.items ≡ old.levels.items
+
 -- it is where it was, and knows what it did where fewer lists than a number are closed
 pub record SameBelow (closes : ℕ) (old new : Position) : Type 0 where
   pub registers : new.registers ≡ old.registers

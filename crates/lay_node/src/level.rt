@@ -1,12 +1,12 @@
 //! What depends on the closed lists.
-ghost use Rattle.std.specs.Prelude.{◌≡◌, ◌<◌, ◌≤◌, ℕ, ◌^◌, max, true, sum_by, slice_index, slice_set, IfSome};
+ghost use Rattle.std.specs.Prelude.{◌≡◌, ◌<◌, ◌≤◌, ℕ, ◌^◌, max, true, sum_by, slice_index, slice_set, IfOk, IfSome};
 ghost use Rattle.std.specs.List.{range_with_len};
 ghost use Rattle.lay_cost.specs.Restricted.{in_bits};
 ghost use Rattle.lay_cost.specs.Weights.{AreWeights, weight_at};
 ghost use Rattle.lay_tree.specs.Bound.{sum_of_pairs};
 ghost use Rattle.lay_node.specs.Levels.{is_free, free_below, greatest_among, greatest_in_all, HasGreatest, SameOfOthers, beside_last};
 
-use lay_cost::{WeightTable, weights};
+use lay_cost::WeightTable;
 use lay_model::Sequence;
 use std::alloc::Global;
 use word_base::NoMemory;
@@ -21,10 +21,20 @@ pub(crate) struct Level {
 
 impl Level {
     /// With room for weights, of which none is known yet.
-    pub(crate) fn new(alloc: Global, seq: &Sequence) -> Result<Self, NoMemory> {
+    pub(crate) fn new(alloc: Global) -> Result<Self, NoMemory> {
         Ok(Level {
-            weights: weights(alloc, seq, 0)?,
+            weights: WeightTable::zeros(alloc)?,
             greatest: [0; 64],
+        })
+    }
+
+    /// The same numbers again.
+    pub(crate) fn copy(&self, alloc: Global) -> Result<Self, NoMemory>
+        ensures { IfOk result (λ level. level ≡ self.now) }
+    {
+        Ok(Level {
+            weights: self.weights.copy(alloc)?,
+            greatest: self.greatest,
         })
     }
 

@@ -10,7 +10,7 @@ ghost use Rattle.lay_cost.specs.Parts.{node_lists, part_cost_of, IsString};
 ghost use Rattle.lay_tree.specs.Tree.{is_complete, is_empty, has_closes_left, with_scalar};
 ghost use Rattle.lay_node.specs.Levels.{is_free};
 ghost use Rattle.lay_node.specs.Numbers.{kept_in, kept_at, kept_found, needs_weights, kept_reaches, kept_bound, may_close, by_loads, AreSmall};
-ghost use Rattle.lay_node.specs.Positions.{here, greatest_needed, IsAt, IsAtWith, HasLevels, Knows, Enters, Leaves, Weighs, Closes, Reopens};
+ghost use Rattle.lay_node.specs.Positions.{here, greatest_needed, IsAt, IsAtWith, HasLevels, IsCopy, Knows, Enters, Leaves, Weighs, Closes, Reopens};
 
 use crate::kept::Kept;
 use crate::level::Level;
@@ -36,7 +36,7 @@ pub struct Position {
 
 impl Position {
     /// With room for walks over so many registers. A walk begins by `begin`.
-    pub fn new(alloc: Global, seq: &Sequence, registers: u8) -> Result<Self, NoMemory>
+    pub fn new(alloc: Global, registers: u8) -> Result<Self, NoMemory>
         ensures registers { IfOk result (λ p. p.registers ≡ registers) }
         ensures levels { IfOk result HasLevels }
     {
@@ -45,7 +45,20 @@ impl Position {
             string: ArrayVec::new(),
             placed: [false; 64],
             outside: 0,
-            levels: levels(alloc, seq, registers)?,
+            levels: levels(alloc, registers)?,
+        })
+    }
+
+    /// The same place again, for a walk of its own.
+    pub fn copy(&self, alloc: Global) -> Result<Self, NoMemory>
+        ensures { IfOk result (IsCopy self.now) }
+    {
+        Ok(Position {
+            registers: self.registers,
+            string: self.string.clone()?,
+            placed: self.placed,
+            outside: self.outside,
+            levels: copies_of(alloc, &self.levels)?,
         })
     }
 
@@ -309,14 +322,24 @@ impl Position {
 }
 
 // A level for each number of closed lists.
-fn levels(alloc: Global, seq: &Sequence, registers: u8) -> Result<Vec<Level>, NoMemory>
+fn levels(alloc: Global, registers: u8) -> Result<Vec<Level>, NoMemory>
     ensures { IfOk result (λ levels. length levels.items ≡ registers) }
 {
     let mut levels = Vec::new(alloc);
     for _closes in 0..registers {
-        levels.push(Level::new(alloc, seq)?)?;
+        levels.push(Level::new(alloc)?)?;
     }
     Ok(levels)
+}
+
+fn copies_of(alloc: Global, levels: &[Level]) -> Result<Vec<Level>, NoMemory>
+    ensures { IfOk result (λ copies. copies.items ≡ levels.now) }
+{
+    let mut copies = Vec::new(alloc);
+    for level in levels {
+        copies.push(level.copy(alloc)?)?;
+    }
+    Ok(copies)
 }
 
 // The scalars that aren't placed, by bits.

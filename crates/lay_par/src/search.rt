@@ -6,7 +6,7 @@ ghost use Rattle.lay_search.specs.Rounds.{IsBest};
 use crate::job::Job;
 use crate::pieces::{Round, run_round};
 use lay_model::Sequence;
-use lay_search::{Best, Opening, close_search, open_search, round_end};
+use lay_search::{Best, Opening, Root, close_search, open_search, round_end};
 use lay_tree::Answer;
 use std::alloc::Global;
 use std::thread::Threads;
@@ -92,17 +92,17 @@ fn search_pieces<R: Threads + Sync, G: Gate + Sync>(
     requires start { IsBest seq.now start }
     ensures { IfOk result (λ answer. answer ≡ tree.search_pieces registers seq.now quota start.arrangement) }
 {
+    let root = Root::new(alloc, seq, registers)?;
     let pieces = seq.scalars();
     let mut best = start;
     let mut ends = Vec::new(alloc);
     for turn in 0..pieces.div_ceil(4) {
         let first = turn * 4;
         let round = Round {
-            registers,
             quota,
             end: round_end(first, pieces),
         };
-        let mut more = run_round(rt, alloc, gate, seq, round, first, &best)?;
+        let mut more = run_round(rt, alloc, gate, seq, &root, round, first, &best)?;
         best.take(alloc, &more)?;
         ends.append(&mut more)?;
     }

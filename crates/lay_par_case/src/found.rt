@@ -1,10 +1,10 @@
 //! What the two searches find.
-use crate::meeting::Meeting;
 use lay_model::Sequence;
 use lay_par::{Job, search_all};
 use lay_search::search;
 use lay_text::{SeqFault, read_sequence};
 use lay_tree::Answer;
+use meeting_gate::Meeting;
 use std::alloc::Global;
 use std::thread::Threads;
 use word_base::NoMemory;

@@ -5,7 +5,6 @@
 #![tactic(auto)]
 
 mod found;
-mod meeting;
 
 use crate::found::both;
 use std::io;

@@ -10,7 +10,6 @@ use Rattle.lay_tree.specs.Search.{reaches}
 use Rattle.lay_tree.specs.Replays.{Fits, IsTooLow, HasNoShape, replay_from, replay}
 use Rattle.lay_replay.specs.declared.verdict.Fault.{Fault}
 use Rattle.lay_replay.specs.declared.verdict.Fault.TheVariants as faults
-use Rattle.lay_replay.specs.LogVerdicts.{replay_at}
 use Rattle.lay_replay.specs.Walks.{from_mark, FitTo, FailAt}
 
 by_one : (n : ℕ) → suc n ≡ n + 1
@@ -27,13 +26,7 @@ low_at k seq c at n ns marks is = rw (is, replay_from) refl
 branched_at : (k : ℕ) (seq : Sequence) (c at : ℕ) (n : Node) (ns : List Node) (marks : List Mark) → is_complete seq n ≡ false → replay_from k seq c at (n ∷ ns) (Branched ∷ marks) ≡ replay_from k seq c (suc at) (children k seq n ++ ns) marks
 branched_at k seq c at n ns marks is = rw (is, replay_from) refl
 
-complete_at : (k : ℕ) (seq : Sequence) (c at : ℕ) (n : Node) (ns : List Node) (marks : List Mark) → is_complete seq n ≡ true → replay_from k seq c at (n ∷ ns) (Branched ∷ marks) ≡ HasNoShape at
-complete_at k seq c at n ns marks is = rw (is, replay_from) refl
-
 -- ---- by the mark that is read
-
-pub absent_fails : (k : ℕ) (seq : Sequence) (c : ℕ) (marks : List Mark) (n : Node) (at : ℕ) → drop at marks ≡ [] → FailAt k seq c marks (n ∷ []) at (faults.NoShape at)
-absent_fails k seq c marks n at none rest = ap (replay_from k seq c at (n ∷ rest)) none
 
 pub closed_fits : (k : ℕ) (seq : Sequence) (c : ℕ) (marks : List Mark) (n : Node) (at : ℕ) → drop at marks ≡ Closed ∷ drop (at + 1) marks → reaches (bound k seq n) c ≡ true → FitTo k seq c marks (n ∷ []) at (at + 1)
 closed_fits k seq c marks n at is reached rest =
@@ -41,9 +34,6 @@ closed_fits k seq c marks n at is reached rest =
 
 pub closed_fails : (k : ℕ) (seq : Sequence) (c : ℕ) (marks : List Mark) (n : Node) (at : ℕ) → drop at marks ≡ Closed ∷ drop (at + 1) marks → reaches (bound k seq n) c ≡ false → FailAt k seq c marks (n ∷ []) at (faults.TooLow at (bound k seq n))
 closed_fails k seq c marks n at is low rest = ap (replay_from k seq c at (n ∷ rest)) is ∙ low_at k seq c at n rest (drop (at + 1) marks) low
-
-pub complete_fails : (k : ℕ) (seq : Sequence) (c : ℕ) (marks : List Mark) (n : Node) (at : ℕ) → drop at marks ≡ Branched ∷ drop (at + 1) marks → is_complete seq n ≡ true → FailAt k seq c marks (n ∷ []) at (faults.NoShape at)
-complete_fails k seq c marks n at is complete rest = ap (replay_from k seq c at (n ∷ rest)) is ∙ complete_at k seq c at n rest (drop (at + 1) marks) complete
 
 branched_on : (k : ℕ) (seq : Sequence) (c : ℕ) (marks : List Mark) (n : Node) (at : ℕ) (rest : List Node) → drop at marks ≡ Branched ∷ drop (at + 1) marks → is_complete seq n ≡ false → from_mark k seq c marks at (n ∷ rest) ≡ from_mark k seq c marks (at + 1) (children k seq n ++ rest)
 branched_on k seq c marks n at rest is incomplete =
@@ -56,9 +46,6 @@ pub branched_fails : (k : ℕ) (seq : Sequence) (c : ℕ) (marks : List Mark) (n
 branched_fails k seq c marks n at fault is incomplete below rest = branched_on k seq c marks n at rest is incomplete ∙ below rest
 
 -- ---- nodes and others behind them
-
-pub none_fit : (k : ℕ) (seq : Sequence) (c : ℕ) (marks : List Mark) (at : ℕ) → FitTo k seq c marks [] at at
-none_fit k seq c marks at rest = refl
 
 pub fit_then : (k : ℕ) (seq : Sequence) (c : ℕ) (marks : List Mark) (xs ys : List Node) (at middle to : ℕ) → FitTo k seq c marks xs at middle → FitTo k seq c marks ys middle to → FitTo k seq c marks (xs ++ ys) at to
 fit_then k seq c marks xs ys at middle to first second rest = ap (from_mark k seq c marks at) (append_assoc xs ys rest) ∙ first (ys ++ rest) ∙ second rest
@@ -76,6 +63,3 @@ all_fit k seq c marks to fit none = fit [] ∙ ap (replay_from k seq c to []) no
 
 pub left_over : (k : ℕ) (seq : Sequence) (c : ℕ) (marks : List Mark) (to : ℕ) (m : Mark) (ms : List Mark) → FitTo k seq c marks (root ∷ []) 0 to → drop to marks ≡ m ∷ ms → replay k seq c marks ≡ HasNoShape to
 left_over k seq c marks to m ms fit more = fit [] ∙ ap (replay_from k seq c to []) more
-
-pub one_fails : (k : ℕ) (seq : Sequence) (c : ℕ) (marks : List Mark) (fault : Fault) → FailAt k seq c marks (root ∷ []) 0 fault → replay k seq c marks ≡ replay_at fault
-one_fails k seq c marks fault fail = fail []

@@ -1,5 +1,5 @@
 -- What a walk by a log has come to.
-use Rattle.std.proofs.Common.{◌≡◌, ℕ, ◌+◌, ◌*◌, ◌<◌, ◌≤◌, Bool, true, false, not, List, [], ◌∷◌, ◌++◌, length, drop, refl, ap, ap₂, sym, subst, ◌∙◌, arith, append-nil}
+use Rattle.std.proofs.Common.{◌≡◌, ℕ, ◌+◌, ◌*◌, ◌<◌, ◌≤◌, true, false, not, List, [], ◌∷◌, ◌++◌, length, drop, refl, ap, ap₂, sym, subst, ◌∙◌, arith, append-nil}
 use Rattle.std.specs.Prelude.{◌&&◌, if◌then◌else◌, All, sum_by, ℤ, pos, Result, Ok, Err, IsErrAnd, MatchResult}
 use Rattle.std.specs.List.{concat}
 use Rattle.std.proofs.lemmas.List.FromFn.{length-range_with_len}
@@ -18,7 +18,7 @@ use Rattle.lay_node.specs.declared.position.Position.{Position}
 use Rattle.lay_node.specs.Numbers.{kept_in, kept_at, kept_bound}
 use Rattle.lay_node.specs.Strings.{node_of}
 use Rattle.lay_node.specs.Positions.{here, SameBelow}
-use Rattle.lay_node.proofs.Descending.{same_itself, same_then}
+use Rattle.lay_node.proofs.Descending.{same_then}
 use Rattle.lay_node.proofs.Children.{empty_kept, bound_is}
 use Rattle.lay_node.proofs.Rooting.{root_unplaced}
 use Rattle.lay_node.proofs.Walking.{below_in, below_next, below_skip, children_begin, complete_of, incomplete_of}
@@ -26,7 +26,7 @@ use Rattle.lay_replay.specs.declared.verdict.Fault.{Fault}
 use Rattle.lay_replay.specs.declared.verdict.Fault.TheVariants as faults
 use Rattle.lay_replay.specs.declared.walk.Walk.{Walk}
 use Rattle.lay_replay.specs.Walks.{FitTo, FailAt, Reads, Fits, FitsHere, Fails}
-use Rattle.lay_replay.proofs.Marks.{closed_fits, closed_fails, branched_fits, branched_fails, none_fit, fit_then, fail_then, fail_before}
+use Rattle.lay_replay.proofs.Marks.{closed_fits, closed_fails, branched_fits, branched_fails, fit_then, fail_then, fail_before}
 
 pub match_both : {A E : Type 0} (P Q : A → Type 0) (F G : E → Type 0) (r : Result A E) → ((x : A) → P x → Q x) → ((e : E) → F e → G e) → MatchResult r P F → MatchResult r Q G
 match_both P Q F G (Ok x) f g h = f x h
@@ -37,9 +37,6 @@ stopped P F (Ok a) e is h = absurd is
 stopped P F (Err d) e is h = subst F (sym is) h
 
 -- ---- nodes and others behind them
-
-pub fits_none : (seq : Sequence) (c : ℕ) (marks : List Mark) (w : Walk) → FitsHere seq c marks [] w w
-fits_none seq c marks w = record { fit = none_fit w.position.registers seq c marks w.next; place = same_itself w.position }
 
 pub fits_then : (seq : Sequence) (c : ℕ) (marks : List Mark) (xs ys : List Node) (a b d : Walk) → FitsHere seq c marks xs a b → FitsHere seq c marks ys b d → FitsHere seq c marks (xs ++ ys) a d
 fits_then seq c marks xs ys a b d first second = record {

@@ -29,17 +29,19 @@ impl Model for LogReplay {
 }
 
 impl LogReplay {
-    /// With room for logs over so many registers, 1 at least. The sequence may be another one than that of the logs.
-    pub fn new(alloc: Global, seq: &Sequence, registers: u8) -> Result<Self, NoMemory>
+    /// With room for logs over so many registers, 1 at least.
+    pub fn new(alloc: Global, registers: u8) -> Result<Self, NoMemory>
         requires { 1 ≤ registers }
         ensures { IfOk result (λ r. r ≡ registers) }
     {
         Ok(LogReplay {
-            walk: Walk::new(alloc, seq, registers)?,
+            walk: Walk::new(alloc, registers)?,
         })
     }
 
-    /// Whether the marks are the log of a search that shows that no layout costs less. It takes no memory, and each replay begins at the root anew.
+    /// Goes down the tree of the sequence by the marks, each node before its children, and says whether they fit: a node marked `Branched` isn't complete, and
+    /// all its children follow; one marked `Closed` has a bound of at least the cost; and no mark is missing or left over. Where they fit, no layout costs less.
+    /// Else it names the first mark that doesn't. It takes no memory, and each replay begins at the root anew.
     pub fn replay(&mut self, seq: &Sequence, cost: u64, marks: &[Mark]) -> LogVerdict
         ensures verdict { result ≡ verdict_of (tree.replay self.old seq.now cost marks.now) }
         ensures again { self.new ≡ self.old }

@@ -1,5 +1,5 @@
 //! The way down the tree and up again, by the marks of a log.
-ghost use Rattle.std.specs.Prelude.{◌≡◌, ◌<◌, ◌≤◌, ◌+◌, ℕ, false, true, List, [], ◌∷◌, drop, length, IfOk, MatchResult};
+ghost use Rattle.std.specs.Prelude.{◌≡◌, ◌<◌, ◌≤◌, ◌+◌, false, true, [], ◌∷◌, drop, length, IfOk, MatchResult};
 ghost use Rattle.std.specs.List.{concat};
 ghost use Rattle.lay_cost.specs.Placements.{has};
 ghost use Rattle.lay_cost.specs.Parts.{node_lists};
@@ -7,7 +7,7 @@ ghost use Rattle.lay_tree.specs.Tree.{root, is_complete, is_empty, has_closes_le
 ghost use Rattle.lay_tree.specs.Bound.{bound};
 ghost use Rattle.lay_tree.specs.Replays as logs;
 ghost use Rattle.lay_node.specs.Numbers.{kept_in, kept_at, kept_found};
-ghost use Rattle.lay_node.specs.Positions.{here, greatest_needed, HasLevels, IsAt, IsAtWith, Knows};
+ghost use Rattle.lay_node.specs.Positions.{here, greatest_needed, HasLevels, IsAt, IsAtWith};
 ghost use Rattle.lay_replay.specs.LogVerdicts.{replay_at};
 ghost use Rattle.lay_replay.specs.Walks.{Reads, Fits, FitsHere, Fails};
 ghost use Rattle.lay_replay.specs.declared.verdict.Fault.TheVariants as faults;
@@ -29,12 +29,12 @@ pub(crate) struct Walk {
 }
 
 impl Walk {
-    pub(crate) fn new(alloc: Global, seq: &Sequence, registers: u8) -> Result<Self, NoMemory>
+    pub(crate) fn new(alloc: Global, registers: u8) -> Result<Self, NoMemory>
         ensures registers { IfOk result (λ w. w.position.registers ≡ registers) }
         ensures levels { IfOk result (λ w. HasLevels w.position) }
     {
         Ok(Walk {
-            position: Position::new(alloc, seq, registers)?,
+            position: Position::new(alloc, registers)?,
             next: 0,
         })
     }

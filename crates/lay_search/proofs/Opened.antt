@@ -2,7 +2,6 @@
 use Rattle.std.proofs.Common.{◌≡◌, ℕ, zero, suc, ◌≤◌, Bool, true, false, List, [], ◌∷◌, map, length, refl, ap, ap₂, sym, ◌∙◌, arith, append-nil}
 use Rattle.std.specs.Prelude.{◌||◌}
 use Rattle.std.specs.List.{range_with_len}
-use Rattle.std.proofs.lemmas.Bool.{or_parts}
 use Rattle.std.proofs.lemmas.List.{length-map}
 use Rattle.std.proofs.lemmas.List.FromFn.{length-range_with_len}
 use Rattle.lay_model.specs.Sequences.{Sequence}
@@ -14,12 +13,11 @@ use Rattle.lay_tree.specs.Tree.{root, with_scalar, is_complete, is_empty, childr
 use Rattle.lay_tree.specs.Bound.{bound}
 use Rattle.lay_tree.specs.Greedy.{starting_lists}
 use Rattle.lay_tree.specs.Search.{reaches, search_from, search_answer, search_pieces, quota_of}
-use Rattle.lay_node.specs.declared.kept.Kept.{Kept}
-use Rattle.lay_node.specs.declared.position.Position.{Position}
 use Rattle.lay_node.specs.Numbers.{kept_in, kept_reaches}
-use Rattle.lay_node.specs.Positions.{Knows}
 use Rattle.lay_node.proofs.Children.{empty_kept, bound_reaches}
 use Rattle.lay_node.proofs.Rooting.{root_unplaced}
+use Rattle.lay_search.specs.declared.root.Root.{Root}
+use Rattle.lay_search.specs.Roots.{IsRoot}
 
 pub root_incomplete : (seq : Sequence) → (seq.scalars ≡ 0 → ⊥) → is_complete seq root ≡ false
 root_incomplete seq some = ap is_empty (root_unplaced seq) ∙ by seq.scalars some
@@ -42,11 +40,11 @@ or_false false = refl
 pub settled_none : (k : ℕ) (seq : Sequence) (cost : ℕ) → seq.scalars ≡ 0 → true ≡ (reaches (bound k seq root) cost || is_complete seq root)
 settled_none k seq cost none = sym (ap (λ b. reaches (bound k seq root) cost || b) (root_complete seq none) ∙ or_true (reaches (bound k seq root) cost))
 
-pub settled_some : (k : ℕ) (seq : Sequence) (cost : ℕ) (old new : Position) (kept : Kept) (result : Bool) → (seq.scalars ≡ 0 → ⊥) → old.registers ≡ k → Knows seq old new kept → result ≡ kept_reaches new.registers seq.step kept cost → result ≡ (reaches (bound k seq root) cost || is_complete seq root)
-settled_some k seq cost old new kept result some over knows is =
+pub settled_some : (k : ℕ) (seq : Sequence) (cost : ℕ) (r : Root) (result : Bool) → (seq.scalars ≡ 0 → ⊥) → r.position.registers ≡ k → IsRoot seq r → result ≡ kept_reaches r.position.registers seq.step r.kept cost → result ≡ (reaches (bound k seq root) cost || is_complete seq root)
+settled_some k seq cost r result some over is_root is =
     is
-    ∙ ap (λ r. kept_reaches r seq.step kept cost) (knows.registers ∙ over)
-    ∙ ap (λ j. kept_reaches k seq.step j cost) (knows.numbers ∙ ap (λ r. kept_in r seq root) (knows.registers ∙ over) ∙ empty_kept k seq root refl)
+    ∙ ap (λ n. kept_reaches n seq.step r.kept cost) over
+    ∙ ap (λ j. kept_reaches k seq.step j cost) (is_root.numbers ∙ ap (λ n. kept_in n seq root) over ∙ empty_kept k seq root refl)
     ∙ bound_reaches k seq root cost (root_incomplete seq some)
     ∙ sym (ap (λ b. reaches (bound k seq root) cost || b) (root_incomplete seq some) ∙ or_false (reaches (bound k seq root) cost))
 

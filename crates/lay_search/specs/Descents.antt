@@ -8,7 +8,8 @@ use Rattle.lay_tree.specs.declared.answer.Mark.{Mark}
 use Rattle.lay_tree.specs.declared.answer.Mark.TheVariants.{Closed}
 use Rattle.lay_tree.specs.Bound.{bound}
 use Rattle.lay_tree.specs.Search.{Visited, visit, reaches}
-use Rattle.lay_node.specs.Positions.{here, HasLevels, SameBelow}
+use Rattle.lay_node.specs.declared.position.Position.{Position}
+use Rattle.lay_node.specs.Positions.{here, SameBelow}
 use Rattle.lay_search.specs.declared.descent.Descent.{Descent}
 use Rattle.lay_search.specs.declared.descent.Ending.{Ending}
 use Rattle.lay_search.specs.declared.descent.Ending.TheVariants.{Finished, OutOfMarks}
@@ -77,10 +78,9 @@ pub record Offers (string : List ℕ) (costs : ℕ) (old new : Descent) : Type 0
   pub quota : new.quota ≡ old.quota
   pub place : new.position ≡ old.position
 
--- a search over so many registers, with so many marks and a best layout with its cost, that hasn't begun
-pub record IsNew (count marks_at_most : ℕ) (string : List ℕ) (costs : ℕ) (d : Descent) : Type 0 where
-  pub registers : d.position.registers ≡ count
-  pub levels : HasLevels d.position
+-- a search from a place, with so many marks and a best layout with its cost, that has visited nothing
+pub record IsNew (place : Position) (marks_at_most : ℕ) (string : List ℕ) (costs : ℕ) (d : Descent) : Type 0 where
+  pub position : d.position ≡ place
   pub quota : d.quota ≡ marks_at_most
   pub best : d.best.items ≡ string
   pub cost : d.cost ≡ costs

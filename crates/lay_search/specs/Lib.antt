@@ -3,3 +3,4 @@ pub mod Descents
 pub mod Ends
 pub mod Openings
 pub mod Rounds
+pub mod Roots

@@ -47,24 +47,23 @@ pub(crate) struct Descent {
 }
 
 impl Descent {
-    /// With a best layout, given as a string, and its cost. Its position has to begin yet.
+    /// From a place in the tree, with a best layout, given as a string, and its cost.
     pub(crate) fn new(
         alloc: Global,
-        seq: &Sequence,
-        registers: u8,
+        position: Position,
         quota: u32,
         best: Vec<u8>,
         cost: u64,
-    ) -> Result<Self, NoMemory>
-        ensures { IfOk result (λ d. IsNew registers quota best.items cost d) }
+    ) -> Self
+        ensures { IsNew position quota best.items cost result }
     {
-        Ok(Descent {
-            position: Position::new(alloc, seq, registers)?,
+        Descent {
+            position,
             quota: quota as usize,
             best,
             cost,
             marks: Vec::new(alloc),
-        })
+        }
     }
 
     fn is_full(&self) -> bool

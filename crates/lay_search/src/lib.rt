@@ -6,6 +6,7 @@ mod closing;
 mod descent;
 mod opening;
 mod pieces;
+mod root;
 mod rounds;
 
 pub use closing::close_search;
@@ -13,4 +14,5 @@ pub use lay_greedy::greedy;
 pub use lay_tree::{Answer, Log, Mark, PieceEnd};
 pub use opening::{Opening, open_search};
 pub use pieces::run_piece;
+pub use root::Root;
 pub use rounds::{Best, round_end, search};

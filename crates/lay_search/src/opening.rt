@@ -6,10 +6,10 @@ ghost use Rattle.lay_tree.specs.Search as tree;
 ghost use Rattle.lay_tree.specs.Search.{reaches};
 ghost use Rattle.lay_search.specs.Openings.{Opens};
 
+use crate::root::Root;
 use lay_cost::cost;
 use lay_greedy::greedy;
 use lay_model::{Arrangement, Sequence};
-use lay_node::Position;
 use lay_tree::{Answer, Log, Mark};
 use std::alloc::Global;
 use word_base::NoMemory;
@@ -67,9 +67,8 @@ fn is_settled(alloc: Global, seq: &Sequence, registers: u8, cost: u64) -> Result
     if seq.scalars() == 0 {
         return Ok(true);
     }
-    let mut position = Position::new(alloc, seq, registers)?;
-    let kept = position.begin(seq);
-    Ok(position.reaches(seq, kept, cost))
+    let root = Root::new(alloc, seq, registers)?;
+    Ok(root.position.reaches(seq, root.kept, cost))
 }
 
 // How many marks a piece may write.

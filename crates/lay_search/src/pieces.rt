@@ -10,6 +10,7 @@ ghost use Rattle.lay_search.specs.Descents.{is_finished};
 ghost use Rattle.lay_search.specs.Ends.{IsEnd};
 
 use crate::descent::{Descent, Ending};
+use crate::root::Root;
 use lay_cost::CLOSE;
 use lay_model::{Arrangement, ScalarList, Sequence};
 use lay_tree::{Log, PieceEnd};
@@ -34,14 +35,12 @@ pub fn run_piece(
     requires cost { cost ≡ arranged_cost seq.now arrangement.now }
     ensures { IfOk result (λ end. IsEnd seq.now (piece_end registers seq.now quota arrangement.now (with_scalar root number)) end) }
 {
-    let best = string_of(alloc, arrangement.lists())?;
-    let mut descent = Descent::new(alloc, seq, registers, quota, best, cost)?;
-    let kept = descent.position.begin(seq);
-    let ending = descent.visit_scalar(seq, kept, number)?;
-    end_of(alloc, descent, ending)
+    let root = Root::new(alloc, seq, registers)?;
+    root.run_piece(alloc, seq, quota, number, arrangement, cost)
 }
 
-fn end_of(alloc: Global, descent: Descent, ending: Ending) -> Result<PieceEnd, NoMemory>
+/// What a piece shows, when its search has ended.
+pub(crate) fn end_of(alloc: Global, descent: Descent, ending: Ending) -> Result<PieceEnd, NoMemory>
     requires { Arranges (length (concat (lists_of descent.best.items))) (lists_of descent.best.items) }
     ensures { IfOk result (λ end. end ≡ record { arrangement = lists_of descent.best.items; cost = descent.cost; finished = is_finished ending; log = descent.marks.items }) }
 {
@@ -55,8 +54,8 @@ fn end_of(alloc: Global, descent: Descent, ending: Ending) -> Result<PieceEnd, N
     })
 }
 
-// The lists of an arrangement with a close between two of them.
-fn string_of(alloc: Global, lists: &[ScalarList]) -> Result<Vec<u8>, NoMemory>
+/// The lists of an arrangement with a close between two of them.
+pub(crate) fn string_of(alloc: Global, lists: &[ScalarList]) -> Result<Vec<u8>, NoMemory>
     requires { All (λ list. 1 ≤ length list) lists.now }
     ensures { IfOk result (λ string. string.items ≡ join_with_byte 255 lists.now) }
 {

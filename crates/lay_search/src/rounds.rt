@@ -1,13 +1,12 @@
 //! A whole search, in rounds of pieces.
-ghost use Rattle.std.specs.Prelude.{◌≡◌, ◌≤◌, ◌+◌, ◌-◌, fold, IfOk};
-ghost use Rattle.lay_model.specs.Arrangements.{Arranges};
-ghost use Rattle.lay_cost.specs.Cost.{arranged_cost};
+ghost use Rattle.std.specs.Prelude.{◌≡◌, ◌≤◌, ◌+◌, fold, IfOk};
 ghost use Rattle.lay_tree.specs.Search as tree;
+ghost use Rattle.lay_search.specs.Roots.{IsRoot};
 ghost use Rattle.lay_search.specs.Rounds.{IsBest, offered, Ran, round_length};
 
 use crate::closing::close_search;
 use crate::opening::{Opening, open_search};
-use crate::pieces::run_piece;
+use crate::root::Root;
 use lay_model::{Arrangement, ScalarList, Sequence};
 use lay_tree::{Answer, PieceEnd};
 use std::alloc::Global;
@@ -48,10 +47,11 @@ fn search_pieces(
     requires start { IsBest seq.now start }
     ensures { IfOk result (λ answer. answer ≡ tree.search_pieces registers seq.now quota start.arrangement) }
 {
+    let root = Root::new(alloc, seq, registers)?;
     let mut best = start;
     let mut ends = Vec::new(alloc);
     for round in 0..seq.scalars().div_ceil(4) {
-        let mut more = run_round(alloc, seq, registers, quota, round * 4, &best)?;
+        let mut more = run_round(alloc, seq, &root, quota, round * 4, &best)?;
         best.take(alloc, &more)?;
         ends.append(&mut more)?;
     }
@@ -62,28 +62,21 @@ fn search_pieces(
 fn run_round(
     alloc: Global,
     seq: &Sequence,
-    registers: u8,
+    root: &Root,
     quota: u32,
     first: u8,
     best: &Best,
 ) -> Result<Vec<PieceEnd>, NoMemory>
-    requires registers { 1 ≤ registers }
+    requires root { IsRoot seq.now root.now }
     requires first { first ≤ seq.now.scalars }
     requires best { IsBest seq.now best.now }
-    ensures { IfOk result (λ ends. Ran registers seq.now quota best.now.arrangement first (round_length first seq.now.scalars) ends.items) }
+    ensures { IfOk result (λ ends. Ran root.now.position.registers seq.now quota best.now.arrangement first (round_length first seq.now.scalars) ends.items) }
 {
-    let end = round_end(first, seq.scalars());
+    let last = round_end(first, seq.scalars());
     let mut ends = Vec::new(alloc);
-    for number in first..end {
-        ends.push(run_piece(
-            alloc,
-            seq,
-            registers,
-            quota,
-            number,
-            &best.arrangement,
-            best.cost,
-        )?)?;
+    for number in first..last {
+        let end = root.run_piece(alloc, seq, quota, number, &best.arrangement, best.cost)?;
+        ends.push(end)?;
     }
     Ok(ends)
 }

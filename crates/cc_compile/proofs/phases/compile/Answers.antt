@@ -1,22 +1,32 @@
-use Rattle.std.proofs.Common.{◌≢◌}
+use Rattle.std.proofs.Common.{◌≢◌, List, refl, sym, subst}
+use Rattle.std.specs.Prelude.{All}
 use Rattle.c_tree.specs.ProgramView.{program_of}
+use Rattle.c25_isa.specs.Image.{Contents}
+use Rattle.lay_cert.specs.Frames.{Frame}
+use Rattle.cc_frames.specs.Frames.{ClaimsHold}
+use Rattle.cc_image.specs.Images.{HasFrames, HasImage}
 use Rattle.cc_fault.specs.PartFaults.{of_translation_fault}
 use Rattle.cc_fault.specs.SourceFaults.{HasFault}
+use Rattle.cc_fault.specs.declared.fault.BuildFault.{BuildFault}
 use Rattle.cc_fault.specs.declared.fault.BuildFault.TheVariants as faults
-use Rattle.cc_thin.proofs.ThinImages.{image_agrees}
 use Rattle.cc_compile.proofs.FaultLemmas.{no_image, passed_on}
 use Rattle.cc_compile.proofs.phases.compile.Goals as goal
 
-pub returns-in_err-image-clause-refused : goal.returns-in_err-image-clause-refused
-returns-in_err-image-clause-refused c =
-    let fault = c.in_err-image.field-0.0 in
-    passed_on c.from_residual-in_err-image.result (of_translation_fault fault) (λ why. why ≢ faults.NoMemory → HasFault c.args.source.now why) c.from_residual-in_err-image.ensures.1
-    (no_image c.args.source.now (program_of c.in_ok-program.program) fault c.in_ok-program.ensures.typed c.in_err-image.ensures.refused)
+pub returns-in_err-translated-clause-refused : goal.returns-in_err-translated-clause-refused
+returns-in_err-translated-clause-refused g c =
+    let fault = c.in_err-translated.field-0.0 in
+    passed_on c.from_residual-in_err-translated.result (of_translation_fault fault) (λ (why : BuildFault). why ≢ faults.NoMemory → HasFault c.args.options c.args.source.now why) c.from_residual-in_err-translated.ensures.1
+    (no_image c.args.options c.args.source.now (program_of c.in_ok-program.program) fault c.in_ok-program.ensures.typed c.in_err-translated.ensures.refused)
+
+pub returns-in_err-with_rows-clause-refused : goal.returns-in_err-with_rows-clause-refused
+returns-in_err-with_rows-clause-refused g c =
+    passed_on c.from_residual-in_err-with_rows.result faults.NoMemory (λ (why : BuildFault). why ≢ faults.NoMemory → HasFault c.args.options c.args.source.now why) c.from_residual-in_err-with_rows.ensures.1 (λ some. absurd (some refl))
 
 pub returns-clause-built : goal.returns-clause-built
-returns-clause-built c =
+returns-clause-built g c =
     let has = c.in_ok-program.ensures.typed in
     let program = program_of c.in_ok-program.program in
+    let image = subst (λ (i : Contents). HasImage c.args.options program i) (sym c.in_ok-with_rows.ensures.image) c.in_ok-translated.ensures.image in
     record {
       tokens = has.0;
       source = has.1;
@@ -24,6 +34,10 @@ returns-clause-built c =
       lexes = has.2;
       is_source = has.3;
       typed = has.4;
-      has = c.in_ok-image.ensures.image;
-      agrees = λ thin. image_agrees program c.in_ok-image.image thin c.in_ok-image.ensures.image;
+      has = image;
+      framed = subst (λ (fs : List Frame). HasFrames c.args.options program fs) (sym c.in_ok-with_rows.ensures.certificate) c.in_ok-translated.ensures.frames;
+      agrees = λ thin. c.thin_images_agree.ensures c.args.options program _ c.requires.options thin image;
     }
+
+pub returns-clause-claims : goal.returns-clause-claims
+returns-clause-claims g c = subst (λ (fs : List Frame). All ClaimsHold fs) (sym c.in_ok-with_rows.ensures.certificate) c.in_ok-translated.ensures.claims

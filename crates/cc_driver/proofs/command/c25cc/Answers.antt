@@ -1,4 +1,4 @@
-use Rattle.std.proofs.Common.{lit<, refl, subst}
+use Rattle.std.proofs.Common.{lit<, refl, subst, rules}
 use Rattle.cc_words.specs.Asked.{Asked, texts_of}
 use Rattle.cc_text.specs.Refusals.{OfMemory}
 use Rattle.cc_driver.specs.World.{shelves, sinks}
@@ -10,7 +10,8 @@ use Rattle.cc_driver.proofs.command.c25cc.Goals as goal
 pub answer-requires : goal.answer-requires
 answer-requires g c =
     let this = rw c.in-Ok-Some.field-0-is at c.in-Ok-Some.ensures in
-    bounded (texts_of c.args.words.now) _ this
+    let within = bounded (texts_of c.args.words.now) _ this in
+    search (rules, within)
 
 pub returns-in-Ok-None-clause-statuses : goal.returns-in-Ok-None-clause-statuses
 returns-in-Ok-None-clause-statuses g c = (2, lit< tt, refl)

@@ -1,8 +1,9 @@
-use Rattle.std.proofs.Common.{None, refl}
+use Rattle.std.proofs.Common.{[], refl}
 use Rattle.std.proofs.lemmas.Result.{IfOk-weaker, IfErr-weaker}
 use Rattle.cc_words.specs.Asked.{ToLayOut}
 use Rattle.cc_driver.specs.World.{shelves}
 use Rattle.cc_driver.specs.Work.{WorkRefused, AtFetch}
+use Rattle.cc_driver.proofs.StoreLemmas.{none_stored}
 use Rattle.cc_driver.proofs.WorkLemmas.{files_refuse, passed_on}
 use Rattle.cc_driver.proofs.layout.answer.Goals as goal
 
@@ -17,10 +18,9 @@ returns-clause-done g c =
     let same = c.deref.ensures.value in
     IfOk-weaker c.searched.result _ _ (λ a holds. record {
       fetched = c.in_ok-bytes.ensures.asked;
-      stored = None;
+      texts = [];
       comes = (record { bytes = c.in_ok-bytes.bytes.items; fetched = c.in_ok-bytes.ensures.fetched; holds = holds }, refl);
-      holds = λ t. tt {0};
-      faults = c.in_ok-bytes.ensures.stored.faults;
+      stored = none_stored _ _ _ c.in_ok-bytes.ensures.stored;
     }) (rw same at c.searched.ensures.done)
 
 pub returns-clause-refused : goal.returns-clause-refused

@@ -10,7 +10,7 @@ returns-in_err-program-clause-refused c =
     let text = rw c.deref.ensures.value at c.in-Ok.ensures.text in
     let none = rw c.deref-2.ensures.value at c.in_err-program.ensures.refused in
     passed_for c.from_residual.result (of_build_fault fault)
-    (λ why. why ≢ OfMemory → MeansRefused c.args.asked.now.ports.now c.args.files.now.bytes.items c.args.files.now.ports.items why) c.from_residual.ensures.1
+    (λ why. why ≢ OfMemory → MeansRefused c.args.asked.now.ports.now c.args.files.now.bytes.items c.args.files.now.more.items why) c.from_residual.ensures.1
     (λ some.
     let is = build_fault_of fault (of_build_fault fault) refl some in
     SourceThen _ text fault (none is.0) is.1)

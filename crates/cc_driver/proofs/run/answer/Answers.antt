@@ -1,7 +1,8 @@
-use Rattle.std.proofs.Common.{None, refl}
+use Rattle.std.proofs.Common.{[], refl}
 use Rattle.std.proofs.lemmas.Result.{IfOk-weaker, IfErr-weaker}
 use Rattle.cc_words.specs.Asked.{ToRun}
 use Rattle.cc_driver.specs.World.{shelves}
+use Rattle.cc_driver.proofs.StoreLemmas.{none_stored}
 use Rattle.cc_driver.proofs.WorkLemmas.{files_refuse}
 use Rattle.cc_driver.proofs.run.answer.Goals as goal
 
@@ -9,30 +10,29 @@ pub returns-clause-done : goal.returns-clause-done
 returns-clause-done g c =
     IfOk-weaker c.run.result _ _ (λ a holds. record {
       fetched = c.in_ok-files.ensures.asked;
-      stored = None;
+      texts = [];
       comes = (
         record {
           bytes = c.in_ok-files.files.bytes.items;
-          more = c.in_ok-files.files.ports.items;
+          more = c.in_ok-files.files.more.items;
           fetched = c.in_ok-files.ensures.file;
-          also = c.in_ok-files.ensures.ports;
+          also = c.in_ok-files.ensures.other;
           holds = holds;
         },
         refl,
       );
-      holds = λ t. tt {0};
-      faults = c.in_ok-files.ensures.stored.faults;
+      stored = none_stored _ _ _ c.in_ok-files.ensures.stored;
     }) c.run.ensures.done
 
 pub returns-clause-refused : goal.returns-clause-refused
 returns-clause-refused g c =
     IfErr-weaker c.run.result _ _ (λ r refused.
     files_refuse (ToRun c.args.asked.now.image.now c.args.asked.now.ports.now c.args.asked.now.steps) (shelves g.F.Shelf.tells (g.F.Shelf.stock c.args.shelf.now) (g.F.Shelf.stock c.fetch_both.new.shelf)) _
-    c.in_ok-files.ensures.asked ((c.in_ok-files.files.bytes.items, c.in_ok-files.ensures.file), ((c.in_ok-files.files.ports.items, c.in_ok-files.ensures.ports), tt {0})) c.in_ok-files.ensures.stored
+    c.in_ok-files.ensures.asked ((c.in_ok-files.files.bytes.items, c.in_ok-files.ensures.file), ((c.in_ok-files.files.more.items, c.in_ok-files.ensures.other), tt {0})) c.in_ok-files.ensures.stored
     (λ some. record {
       bytes = c.in_ok-files.files.bytes.items;
-      more = c.in_ok-files.files.ports.items;
+      more = c.in_ok-files.files.more.items;
       fetched = c.in_ok-files.ensures.file;
-      also = c.in_ok-files.ensures.ports;
+      also = c.in_ok-files.ensures.other;
       holds = refused some;
     })) c.run.ensures.refused

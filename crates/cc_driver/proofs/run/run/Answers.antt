@@ -1,11 +1,11 @@
-use Rattle.cc_driver.specs.Run.{BadPorts}
+use Rattle.cc_driver.specs.Run.{BadImage, BadPorts}
 use Rattle.cc_driver.proofs.WorkLemmas.{image_fault_of, port_fault_of}
 use Rattle.cc_driver.proofs.run.run.Goals as goal
 
 pub returns-in-Err-clause-refused : goal.returns-in-Err-clause-refused
 returns-in-Err-clause-refused c = λ some.
     let says = rw c.deref.ensures.value at c.in-Err.ensures.fault in
-    image_fault_of _ _ _ _ c.in-Err.fault _ says c.of_image.ensures some
+    BadImage (image_fault_of _ _ c.in-Err.fault _ says c.of_image.ensures some)
 
 pub returns-in-Err-read_ports-clause-refused : goal.returns-in-Err-read_ports-clause-refused
 returns-in-Err-read_ports-clause-refused c = λ some.

@@ -1,7 +1,9 @@
-use Rattle.std.proofs.Common.{◌∙◌, ap, option_map}
-use Rattle.clap.specs.Words.{found_of}
-use Rattle.cc_words.specs.Asked.{told}
-use Rattle.cc_words.proofs.AskedLemmas.{both_names, no_image, no_source}
+use Rattle.std.proofs.Common.{◌∙◌, refl, ap, arith, option_map, Some, None, codes}
+use Rattle.std.specs.Str.Parse.{ParsesUnsigned, ExplainsUnsignedError, HasUnsignedDigitsIfOk}
+use Rattle.clap.specs.Words.{found_of, rows_of}
+use Rattle.cc_words.specs.Asked.{number_of, told}
+use Rattle.cc_words.specs.Commands.{greatest_budget, greatest_registers, greatest_step}
+use Rattle.cc_words.proofs.AskedLemmas.{build_found, no_image, no_source, number_given}
 use Rattle.cc_words.proofs.build.found.Goals as goal
 
 pub returns-in_err-source : goal.returns-in_err-source
@@ -13,6 +15,45 @@ returns-in_err-image c =
     ap (option_map told) c.from_residual-in_err-image.ensures
     ∙ no_image (found_of c.args.matches.now) c.in_ok-source.source.now c.in_ok-source.ensures c.in_err-image.ensures
 
+pub returns-in_err-registers : goal.returns-in_err-registers
+returns-in_err-registers c =
+    ap (option_map told) c.from_residual-in_err-registers.ensures
+    ∙ build_found (found_of c.args.matches.now) c.in_ok-source.source.now c.in_ok-image.image.now None (number_of (codes "budget") greatest_budget (rows_of (found_of c.args.matches.now)))
+    (number_of (codes "step") greatest_step (rows_of (found_of c.args.matches.now))) c.in_ok-source.ensures c.in_ok-image.ensures
+    (number_given 8 greatest_registers (omega arith) (λ bs r. ParsesUnsigned 8 10 bs r × ExplainsUnsignedError 10 bs r × HasUnsignedDigitsIfOk bs r) (λ u x g. g.0)
+    (found_of c.args.matches.now) (codes "registers") None c.requires.registers c.in_err-registers.ensures.none c.in_err-registers.ensures.value)
+    refl refl
+
+pub returns-in_err-budget : goal.returns-in_err-budget
+returns-in_err-budget c =
+    ap (option_map told) c.from_residual-in_err-budget.ensures
+    ∙ build_found (found_of c.args.matches.now) c.in_ok-source.source.now c.in_ok-image.image.now (Some c.in_ok-registers.registers) None
+    (number_of (codes "step") greatest_step (rows_of (found_of c.args.matches.now))) c.in_ok-source.ensures c.in_ok-image.ensures
+    (number_given 8 greatest_registers (omega arith) (λ bs r. ParsesUnsigned 8 10 bs r × ExplainsUnsignedError 10 bs r × HasUnsignedDigitsIfOk bs r) (λ u x g. g.0)
+    (found_of c.args.matches.now) (codes "registers") (Some c.in_ok-registers.registers) c.requires.registers c.in_ok-registers.ensures.none c.in_ok-registers.ensures.value)
+    (number_given 32 greatest_budget (omega arith) (λ bs r. ParsesUnsigned 32 10 bs r × ExplainsUnsignedError 10 bs r × HasUnsignedDigitsIfOk bs r) (λ u x g. g.0)
+    (found_of c.args.matches.now) (codes "budget") None c.requires.budget c.in_err-budget.ensures.none c.in_err-budget.ensures.value)
+    refl
+
+pub returns-in_err-step : goal.returns-in_err-step
+returns-in_err-step c =
+    ap (option_map told) c.from_residual-in_err-step.ensures
+    ∙ build_found (found_of c.args.matches.now) c.in_ok-source.source.now c.in_ok-image.image.now (Some c.in_ok-registers.registers) (Some c.in_ok-budget.budget) None
+    c.in_ok-source.ensures c.in_ok-image.ensures
+    (number_given 8 greatest_registers (omega arith) (λ bs r. ParsesUnsigned 8 10 bs r × ExplainsUnsignedError 10 bs r × HasUnsignedDigitsIfOk bs r) (λ u x g. g.0)
+    (found_of c.args.matches.now) (codes "registers") (Some c.in_ok-registers.registers) c.requires.registers c.in_ok-registers.ensures.none c.in_ok-registers.ensures.value)
+    (number_given 32 greatest_budget (omega arith) (λ bs r. ParsesUnsigned 32 10 bs r × ExplainsUnsignedError 10 bs r × HasUnsignedDigitsIfOk bs r) (λ u x g. g.0)
+    (found_of c.args.matches.now) (codes "budget") (Some c.in_ok-budget.budget) c.requires.budget c.in_ok-budget.ensures.none c.in_ok-budget.ensures.value)
+    (number_given 8 greatest_step (omega arith) (λ bs r. ParsesUnsigned 8 10 bs r × ExplainsUnsignedError 10 bs r × HasUnsignedDigitsIfOk bs r) (λ u x g. g.0)
+    (found_of c.args.matches.now) (codes "step") None c.requires.step c.in_err-step.ensures.none c.in_err-step.ensures.value)
+
 pub returns : goal.returns
 returns c =
-    both_names (found_of c.args.matches.now) c.in_ok-source.source.now c.in_ok-image.image.now c.in_ok-source.ensures c.in_ok-image.ensures
+    build_found (found_of c.args.matches.now) c.in_ok-source.source.now c.in_ok-image.image.now (Some c.in_ok-registers.registers) (Some c.in_ok-budget.budget) (Some c.in_ok-step.step)
+    c.in_ok-source.ensures c.in_ok-image.ensures
+    (number_given 8 greatest_registers (omega arith) (λ bs r. ParsesUnsigned 8 10 bs r × ExplainsUnsignedError 10 bs r × HasUnsignedDigitsIfOk bs r) (λ u x g. g.0)
+    (found_of c.args.matches.now) (codes "registers") (Some c.in_ok-registers.registers) c.requires.registers c.in_ok-registers.ensures.none c.in_ok-registers.ensures.value)
+    (number_given 32 greatest_budget (omega arith) (λ bs r. ParsesUnsigned 32 10 bs r × ExplainsUnsignedError 10 bs r × HasUnsignedDigitsIfOk bs r) (λ u x g. g.0)
+    (found_of c.args.matches.now) (codes "budget") (Some c.in_ok-budget.budget) c.requires.budget c.in_ok-budget.ensures.none c.in_ok-budget.ensures.value)
+    (number_given 8 greatest_step (omega arith) (λ bs r. ParsesUnsigned 8 10 bs r × ExplainsUnsignedError 10 bs r × HasUnsignedDigitsIfOk bs r) (λ u x g. g.0)
+    (found_of c.args.matches.now) (codes "step") (Some c.in_ok-step.step) c.requires.step c.in_ok-step.ensures.none c.in_ok-step.ensures.value)

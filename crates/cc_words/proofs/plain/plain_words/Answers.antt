@@ -1,11 +1,17 @@
+use Rattle.cc_words.proofs.BuildLemmas.{all_behind, budget_behind as build_budget_behind, registers_behind as build_registers_behind, step_attached, step_behind}
 use Rattle.cc_words.proofs.LayoutLemmas.{budget_attached, budget_behind, budget_first, layout_both, layout_both_first, layout_both_turned, layout_one_name, layout_other_names, registers_attached, registers_behind, registers_first}
-use Rattle.cc_words.proofs.PlainLemmas.{exec_steps_attached, exec_steps_behind, exec_steps_first, exec_two_names, means_two_names, other_names, run_two_names, steps_attached, steps_behind, steps_first, turns_attached, turns_behind, turns_first, two_names, within_asked}
+use Rattle.cc_words.proofs.PlainLemmas.{check_other_names, check_two_names, exec_steps_attached, exec_steps_behind, exec_steps_first, exec_two_names, means_two_names, other_names, run_two_names, steps_attached, steps_behind, steps_first, turns_attached, turns_behind, turns_first, two_names, within_asked}
 use Rattle.cc_words.proofs.plain.plain_words.Goals as goal
 
 pub returns : goal.returns
 returns c = record {
   build = two_names;
   build_other = other_names;
+  build_registers = build_registers_behind;
+  build_budget = build_budget_behind;
+  step = step_behind;
+  step_attached = step_attached;
+  registers_budget_and_step = all_behind;
   run = run_two_names;
   steps = steps_behind;
   steps_first = steps_first;
@@ -29,5 +35,7 @@ returns c = record {
   registers_and_budget = layout_both;
   both_first = layout_both_first;
   budget_and_registers = layout_both_turned;
+  check = check_two_names;
+  check_other = check_other_names;
   range = within_asked;
 }

@@ -1,5 +1,6 @@
 use Rattle.std.proofs.lemmas.Result.{err_from_is_err_and}
 use Rattle.lay_cert.proofs.Exact.{reads_same, says_not_read, says_same}
+use Rattle.lay_cert.proofs.Spelling.{read_whole}
 use Rattle.lay_cert.proofs.reading.read_cert.Goals as goal
 
 pub returns-in_err-frames-clause-written : goal.returns-in_err-frames-clause-written
@@ -17,3 +18,6 @@ returns-clause-written c = λ fs r. reads_same c.args.bytes.now c.in_ok-frames.f
 
 pub returns-clause-only : goal.returns-clause-only
 returns-clause-only c = λ fault some says. some (says_not_read c.args.bytes.now c.in_ok-frames.frames.items c.in_ok-frames.ensures fault says)
+
+pub returns-clause-whole : goal.returns-clause-whole
+returns-clause-whole c = read_whole c.args.bytes.now c.in_ok-frames.frames.items c.in_ok-frames.ensures

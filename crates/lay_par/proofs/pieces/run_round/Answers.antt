@@ -7,7 +7,7 @@ use Rattle.lay_par.proofs.pieces.run_round.Goals as goal
 
 pub returns : goal.returns
 returns g c =
-    let k = c.args.round.registers in
+    let k = c.args.root.now.position.registers in
     let seq = c.args.seq.now in
     let quota = c.args.round.quota in
     let best = c.args.best.now.arrangement in

@@ -27,7 +27,7 @@ loop-turn-preserved g c =
     let ends = c.loop-turn.ends.items in
     let more = c.in_ok-more.more.items in
     let count : min 4 (c.round_end.result - r * 4) ≡ round_length (r * 4) seq.scalars = omega (arith, c.round_end.ensures, c.scalars-pieces.ensures.scalars) in
-    let ran = subst (λ n. Ran k seq quota b.arrangement (r * 4) n more) count c.in_ok-more.ensures in
+    let ran = subst (λ n. Ran n seq quota b.arrangement (r * 4) (round_length (r * 4) seq.scalars) more) c.in_ok-root.ensures.registers (subst (λ n. Ran c.in_ok-root.root.position.registers seq quota b.arrangement (r * 4) n more) count c.in_ok-more.ensures) in
     let taken : c.take.new.self ≡ fold offered b more = c.in_ok-take.ensures ∙ ap (fold offered b) c.deref.ensures.value in
     let all : c.append.new.self.items ≡ ends ++ more = c.in_ok-append.ensures.items in
     record {

@@ -8,11 +8,11 @@ use Rattle.lay_search.proofs.opening.is_settled.Goals as goal
 
 pub reaches-requires-clause-small : goal.reaches-requires-clause-small
 reaches-requires-clause-small c =
-    let knows = c.begin-kept.ensures in
+    let is_root = c.in_ok-root.ensures.root in
     let seq = c.args.seq.now in
-    let p = c.begin-kept.new.self in
-    let small = found_small (needs_weights seq) (greatest_needed seq p) seq (here p) knows.place.sequence (proper_string seq.scalars p.string.items knows.place.string) in
-    subst (λ k. AreSmall k) (sym (knows.numbers ∙ ap (kept_in p.registers seq) (sym knows.nothing))) small
+    let p = c.in_ok-root.root.position in
+    let small = found_small (needs_weights seq) (greatest_needed seq p) seq (here p) is_root.place.sequence (proper_string seq.scalars p.string.items is_root.place.string) in
+    subst (λ k. AreSmall k) (sym (is_root.numbers ∙ ap (kept_in p.registers seq) (sym is_root.nothing))) small
 
 pub returns : goal.returns
-returns c = settled_some c.args.registers c.args.seq.now c.args.cost c.in_ok-position.position c.begin-kept.new.self c.begin-kept.result c.reaches.result (λ e. absurd (omega (arith, e, c.scalars.ensures.scalars, c.if-scalars-eq0.false))) c.in_ok-position.ensures.registers c.begin-kept.ensures c.reaches.ensures
+returns c = settled_some c.args.registers c.args.seq.now c.args.cost c.in_ok-root.root c.reaches.result (λ e. absurd (omega (arith, e, c.scalars.ensures.scalars, c.if-scalars-eq0.false))) c.in_ok-root.ensures.registers c.in_ok-root.ensures.root c.reaches.ensures

@@ -6,5 +6,5 @@ use Rattle.lay_search.proofs.rounds.run_round.Goals as goal
 
 pub loop-number-preserved : goal.loop-number-preserved
 loop-number-preserved c =
-    subst (λ ends. Ran c.args.registers c.args.seq.now c.args.quota c.args.best.now.arrangement c.args.first (c.loop-number.number + 1 - c.args.first) ends) (sym c.in_ok-push.ensures.items)
-    (ran_next c.args.registers c.args.seq.now c.args.quota c.args.best.now.arrangement c.args.first c.loop-number.number c.loop-number.ends.items c.in_ok-run_piece.field-0 c.loop-number.auto.number c.loop-number.invariant c.in_ok-run_piece.ensures)
+    subst (λ ends. Ran c.args.root.now.position.registers c.args.seq.now c.args.quota c.args.best.now.arrangement c.args.first (c.loop-number.number + 1 - c.args.first) ends) (sym c.in_ok-push.ensures.items)
+    (ran_next c.args.root.now.position.registers c.args.seq.now c.args.quota c.args.best.now.arrangement c.args.first c.loop-number.number c.loop-number.ends.items c.in_ok-end.end c.loop-number.auto.number c.loop-number.invariant c.in_ok-end.ensures)

@@ -5,7 +5,7 @@ use Rattle.lay_tree.specs.declared.answer.Answer.{Answer}
 use Rattle.lay_tree.specs.Tree.{root, children}
 use Rattle.lay_tree.specs.Search.{rounds, search_pieces}
 use Rattle.lay_search.specs.Openings.{outcome_of, answer_by}
-use Rattle.lay_search.specs.Rounds.{IsBest, pieces_from, offered, round_length}
+use Rattle.lay_search.specs.Rounds.{IsBest, pieces_from, offered, Ran, round_length}
 use Rattle.lay_search.proofs.Visiting.{if_ok}
 use Rattle.lay_search.proofs.Rounding.{searched_by, round_best, next_round, ran_length, first_round, last_round}
 use Rattle.lay_search.proofs.rounds.search_pieces.Goals as goal
@@ -26,7 +26,7 @@ loop-round-preserved c =
     let b = c.loop-round.best in
     let ends = c.loop-round.ends.items in
     let more = c.in_ok-more.more.items in
-    let ran = c.in_ok-more.ensures in
+    let ran = subst (λ n. Ran n seq quota b.arrangement (r * 4) (round_length (r * 4) seq.scalars) more) c.in_ok-root.ensures.registers c.in_ok-more.ensures in
     let taken : c.take.new.self ≡ fold offered b more = c.in_ok-take.ensures ∙ ap (fold offered b) c.deref.ensures.value in
     let all : c.append.new.self.items ≡ ends ++ more = c.in_ok-append.ensures.items in
     record {

@@ -1,5 +1,5 @@
 -- Each node's mark is read before those of what is below it.
-use Rattle.std.proofs.Common.{◌≡◌, [], ◌∷◌, ◌+◌, ◌<◌, true, false, not, length, ap, ap₂, sym, subst, ◌∙◌, arith, w64, length-append}
+use Rattle.std.proofs.Common.{◌≡◌, [], ◌∷◌, ◌+◌, ◌<◌, false, not, length, ap, ap₂, sym, subst, ◌∙◌, arith, w64, length-append}
 use Rattle.std.specs.Prelude.{◌&&◌, is_some}
 use Rattle.std.specs.List.{concat}
 use Rattle.std.proofs.lemmas.Bool.{and_parts, not-true, ltb-true}

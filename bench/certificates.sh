@@ -1,0 +1,61 @@
+#!/usr/bin/env bash
+# How fast searches in threads, the replay of their logs and the reading of certificates are.
+#
+#     bench/certificates.sh [PROGRAM]
+#
+# A source whose function accesses 24 scalars 400 times is built with a budget of 1,000,000 nodes, on one processor and on four, and its
+# certificate is checked on one. A certificate of 100 MB of marks is read, and one of 100 MB of blocks. The accesses are made by a
+# generator with a fixed seed, so that two machines do the same.
+set -eu
+program=${1:-$(cd "$(dirname "${BASH_SOURCE[0]}")/.." && pwd)/c25cc}
+room=$(mktemp -d)
+trap 'rm -rf "$room"' EXIT
+cd "$room"
+
+# source SCALARS STATEMENTS: a function of so many scalars, of which random ones are added to one another.
+source_of() {
+    awk -v scalars="$1" -v statements="$2" 'BEGIN {
+        seed = 12345
+        printf "int main(void){"
+        for (s = 0; s < scalars; s++) printf "int s%d = 0;", s
+        for (i = 0; i < statements; i++) {
+            seed = seed * 16807 % 2147483647; a = int(seed / 65536) % scalars
+            seed = seed * 16807 % 2147483647; b = int(seed / 65536) % scalars
+            printf "s%d += s%d;", a, b
+            if (i % 25 == 24) printf "__out(1, s%d);", a
+        }
+        printf "return 0;}\n"
+    }'
+}
+
+# timed WHAT WORD..: the seconds of a command.
+timed() {
+    local started took
+    started=$(date +%s%N)
+    "${@:2}" > answer || true
+    took=$((($(date +%s%N) - started) / 1000000))
+    printf '%-40s %4d.%03d  %s\n' "$1" $((took / 1000)) $((took % 1000)) "$(head -n 1 answer | head -c 90)"
+}
+
+source_of 24 200 > a.c
+timed 'build, one processor' taskset -c 0 "$program" build a.c one.img --budget 1000000
+timed 'build, four processors' "$program" build a.c four.img --budget 1000000
+cmp one.img.crt four.img.crt
+source_of 11 200 > b.c
+timed 'build, eleven scalars' taskset -c 0 "$program" build b.c b.img --budget 1000000
+grep '^marks' b.img.crt
+timed 'check, eleven scalars' taskset -c 0 "$program" check b.img b.img.crt
+
+{
+    printf 'C25 CERTIFICATE 2\nframe f\nregisters 1\nstep 1\nscalars 1\nblock 1 0\nlist 0310 0\ncost 1\nclaim best 0 1\nmarks 98461536\n'
+    awk 'BEGIN { line = sprintf("%64s", ""); gsub(/ /, "b", line); for (i = 0; i < 1538461; i++) print line; printf "%.32s\n", line }'
+    printf 'endframe\nend\n'
+} > marks.crt
+ls -l marks.crt | awk '{ print $5, "bytes" }'
+timed 'read, marks' "$program" check b.img marks.crt
+{
+    printf 'C25 CERTIFICATE 2\nframe f\nregisters 1\nstep 1\nscalars 1\n'
+    awk 'BEGIN { for (i = 0; i < 10000000; i++) print "block 1 0" }'
+    printf 'list 0310 0\ncost 10000000\nclaim best 0 1\nmarks 0\nendframe\nend\n'
+} > blocks.crt
+timed 'read, blocks' "$program" check b.img blocks.crt

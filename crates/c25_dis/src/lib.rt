@@ -1,0 +1,12 @@
+//! The disassembler: words as assembler text.
+#![tactic(auto)]
+
+mod hex;
+mod laws;
+mod line;
+mod operands;
+mod part;
+mod writing;
+
+pub use laws::lines_stand_for_words;
+pub use writing::listing;

@@ -1,0 +1,7 @@
+mod Examples
+pub mod AddressLemmas
+pub mod BlockLemmas
+pub mod NumberLemmas
+pub mod FindingLemmas
+pub mod LineLemmas
+pub mod Meanings

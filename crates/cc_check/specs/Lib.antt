@@ -1,0 +1,4 @@
+pub mod Findings
+pub mod CheckText
+pub mod Checks
+pub mod Memory

@@ -1,0 +1,15 @@
+//! Checks of program images against certificates: whether the words of each function are what its frame says of them.
+#![tactic(auto)]
+
+mod addresses;
+mod blocks;
+mod checking;
+mod finding;
+mod frames;
+mod laws;
+mod lines;
+mod numbers;
+
+pub use checking::{Checked, check};
+pub use finding::Finding;
+pub use laws::optimal_means;

@@ -1,0 +1,106 @@
+-- The layouts of a program's frames as planning, emission and certificates want them.
+use Rattle.std.proofs.Common.{◌≡◌, ◌≤◌, ◌<◌, ◌+◌, ◌∙◌, ℕ, zero, suc, List, [], ◌∷◌, length, map, refl, sym, ap, ap₂, subst, arith}
+use Rattle.std.specs.Prelude.{All, Option, Some, None, slice_get, option_map}
+use Rattle.std.proofs.lemmas.List.{get_or-map, length-map}
+use Rattle.std.proofs.lemmas.List.Elements.{All-cons, All-nil}
+use Rattle.std.proofs.lemmas.Option.{slice_get-map}
+use Rattle.word_base.specs.Name.{IsName}
+use Rattle.tree_code.specs.WordTree.{FunctionCode, ProgramCode}
+use Rattle.tree_code.specs.WellFormedCode.{IsCode}
+use Rattle.acc_code.specs.declared.program.AccFunction.{AccFunction}
+use Rattle.acc_code.specs.AccTree.{FunctionItems}
+use Rattle.acc_code.specs.AccView.{function_items_of}
+use Rattle.acc_code.specs.AccSequence.{IsInFrame}
+use Rattle.acc_select.specs.IsSelected.{IsEmittable}
+use Rattle.acc_select.specs.Selected.{selected, selected_function}
+use Rattle.lay_model.specs.Sequences.{IsSequence}
+use Rattle.lay_model.specs.Arrangements.{Arranges}
+use Rattle.lay_cost.specs.Cost as costs
+use Rattle.lay_cert.specs.Frames.{IsFrame}
+use Rattle.mem_plan.specs.declared.data_plan.DataPlan.{DataPlan}
+use Rattle.mem_plan.specs.declared.data_plan.FramePlan.{FramePlan}
+use Rattle.mem_plan.specs.Plan.{AreArranged, IsArranged, IsPlan, list_bases, frame_of, frames_from, frames_start, plan_of}
+use Rattle.cc_frames.specs.declared.options.Options.{Options}
+use Rattle.cc_frames.specs.Frames.{AreOptions, AreBased, accesses_of, layout_of, frames_of}
+use Rattle.cc_image.specs.Images.{layouts}
+use Rattle.cc_image.proofs.PieceLemmas.{known_names}
+
+-- the elements of a list
+some_at : {A : Type 0} (xs : List A) (k : ℕ) → k < length xs → (x : A) × (slice_get xs k ≡ Some x)
+some_at [] k within = absurd (omega (arith, within))
+some_at (x ∷ xs) zero within = (x, refl)
+some_at (x ∷ xs) (suc k) within = some_at xs k (omega (arith, within))
+
+within_of : {A : Type 0} (xs : List A) (k : ℕ) (x : A) → slice_get xs k ≡ Some x → k < length xs
+within_of [] k x is = cc
+within_of (y ∷ xs) zero x is = omega arith
+within_of (y ∷ xs) (suc k) x is = let h = within_of xs k x is in omega (arith, h)
+
+same_some : {A : Type 0} (a b : A) → Some a ≡ Some b → a ≡ b
+same_some a b e = cc
+
+each_of : {A : Type 0} (P : A → Type 0) (xs : List A) → ((k : ℕ) (x : A) → slice_get xs k ≡ Some x → P x) → All P xs
+each_of P [] h = All-nil P
+each_of P (x ∷ xs) h = All-cons P x xs (h 0 x refl) (each_of P xs (λ k y is. h (suc k) y is))
+
+one_of : {A : Type 0} (P : A → Type 0) (xs : List A) (k : ℕ) (x : A) → All P xs → slice_get xs k ≡ Some x → P x
+one_of P [] k x all is = cc
+one_of P (y ∷ xs) zero x all is = subst P (same_some y x is) (all 0 y (omega arith))
+one_of P (y ∷ xs) (suc k) x all is = one_of P xs k x (λ j d within. all (suc j) d (omega (arith, within))) is
+
+-- each function's scalars are those of its frame
+pub all_in_frames : (p : ProgramCode) (gs : List FunctionItems) → IsEmittable p gs → All IsInFrame gs
+all_in_frames p gs is = each_of IsInFrame gs (λ k g there.
+    let f = some_at p.functions k (subst (λ n. k < n) is.count (within_of gs k g there)) in
+    (is.each k f.0 g f.1 there).frame)
+
+-- what laws say of layouts
+abbrev pub Arranging : Options → Type 0
+Arranging o = (f : FunctionItems) → IsSequence (accesses_of o f) → costs.IsArranged (accesses_of o f) o.registers (layout_of o f)
+
+from_listed : (o : Options) (found : Option FunctionItems) (lists : List (List ℕ)) → option_map (layout_of o) found ≡ Some lists → (g : FunctionItems) × (found ≡ Some g) × (layout_of o g ≡ lists)
+from_listed o (Some g) lists is = (g, refl, same_some (layout_of o g) lists is)
+from_listed o None lists is = cc
+
+pub all_arranged : (o : Options) (p : ProgramCode) (gs : List FunctionItems) → AreOptions o → Arranging o → IsEmittable p gs → All (λ f. IsSequence (accesses_of o f)) gs → AreArranged p.functions (map (layout_of o) gs)
+all_arranged o p gs options arranging is sequences = record {
+  count = length-map gs (layout_of o) ∙ is.count;
+  each = λ n f lists there listed.
+      let found = from_listed o (slice_get gs n) lists (sym (slice_get-map (layout_of o) gs n) ∙ listed) in
+      let g = found.0 in
+      let arranged = arranging g (one_of (λ f. IsSequence (accesses_of o f)) gs n g sequences found.1) in
+      let same = (is.each n f g there found.1).scalars in
+      subst (IsArranged f) found.2 (record {
+        arranges = subst (λ m. Arranges m (layout_of o g)) same arranged.arranges;
+        few = omega (arith, arranged.few, options.few_registers);
+      });
+}
+
+-- each plan has a base for each list
+bases_count : (at : ℕ) (lists : List (List ℕ)) → length (list_bases at lists) ≡ length lists
+bases_count at [] = refl
+bases_count at (l ∷ ls) = ap suc (bases_count (at + length l) ls)
+
+frames_based : (o : Options) (start : ℕ) (begin : ℕ → ℕ) (n : ℕ) (fs : List FunctionCode) (gs : List FunctionItems) → length gs ≡ length fs
+    → map (λ (plan : FramePlan). length plan.bases) (frames_from start begin n fs (map (layout_of o) gs)) ≡ map (λ f. length (layout_of o f)) gs
+frames_based o start begin n [] [] same = refl
+frames_based o start begin n [] (g ∷ gs) same = absurd (omega (arith, same))
+frames_based o start begin n (f ∷ fs) [] same = absurd (omega (arith, same))
+frames_based o start begin n (f ∷ fs) (g ∷ gs) same =
+    ap₂ (λ (m : ℕ) ms. m ∷ ms) (bases_count (start + begin n) (layout_of o g)) (frames_based o start begin (suc n) fs gs (omega (arith, same)))
+
+pub all_based : (o : Options) (p : ProgramCode) (plan : DataPlan) → IsPlan p (layouts o p) plan → AreBased o (selected p) plan.frames
+all_based o p plan is =
+    subst (λ (q : DataPlan). AreBased o (selected p) q.frames) (sym is.is) (frames_based o (frames_start p) is.begin 0 p.functions (selected p) (length-map p.functions selected_function))
+
+-- the functions have names
+named : (fs : List FunctionCode) → All IsName (map (λ (f : FunctionCode). f.name) fs) → All (λ (g : FunctionItems). IsName g.name) (map selected_function fs)
+named [] are = All-nil (λ (g : FunctionItems). IsName g.name)
+named (f ∷ fs) are = All-cons (λ (g : FunctionItems). IsName g.name) (selected_function f) (map selected_function fs) (are 0 f.name (omega arith)) (named fs (λ k d within. are (suc k) d (omega (arith, within))))
+
+pub all_named : (p : ProgramCode) → ∥ IsCode p ∥₁ → All (λ (g : FunctionItems). IsName g.name) (selected p)
+all_named p known = named p.functions (known_names p known)
+
+-- functions in memory
+pub in_memory : (P : FunctionItems → Type 0) (fs : List AccFunction) → All P (map function_items_of fs) → All (λ (f : AccFunction). P (function_items_of f)) fs
+in_memory P fs h = λ k d within. subst P (get_or-map function_items_of fs k d (function_items_of d) within) (h k (function_items_of d) (subst (λ n. k < n) (sym (length-map fs function_items_of)) within))

@@ -1,0 +1,13 @@
+use Rattle.std.proofs.Common.{sym, subst}
+use Rattle.std.specs.Prelude.{All}
+use Rattle.acc_code.specs.declared.program.AccFunction.{AccFunction}
+use Rattle.acc_code.specs.AccSequence.{IsInFrame}
+use Rattle.acc_code.specs.AccView.{function_items_of, functions_of}
+use Rattle.tree_code.specs.ProgramView.{tree_of}
+use Rattle.cc_image.proofs.LayoutLemmas.{in_memory, all_in_frames}
+use Rattle.cc_image.proofs.phases.functions.Goals as goal
+
+pub returns-clause-in_frames : goal.returns-clause-in_frames
+returns-clause-in_frames c =
+    subst (All (λ (f : AccFunction). IsInFrame (function_items_of f))) (sym c.as_slice.ensures)
+    (in_memory IsInFrame c.args.chosen.now.code.functions (all_in_frames (tree_of c.args.chosen.now.tree) (functions_of c.args.chosen.now.code) c.requires))

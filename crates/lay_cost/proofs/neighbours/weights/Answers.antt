@@ -1,6 +1,0 @@
--- A new table has no number above 0.
-use Rattle.lay_cost.proofs.Pairs.{zero_rows}
-use Rattle.lay_cost.proofs.neighbours.weights.Goals as goal
-
-pub invariant_of-table : goal.invariant_of-table
-invariant_of-table c = zero_rows c.in_ok-vec.field-0.items (c.in_ok-vec.ensures.items_if_clones_equal (λ y h. h))
