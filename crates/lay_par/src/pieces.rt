@@ -1,5 +1,5 @@
 //! The pieces of a round, at once.
-ghost use Rattle.std.specs.Prelude.{◌<◌, ◌≤◌, ◌+◌, ◌-◌, min, IfOk};
+ghost use Rattle.std.specs.Prelude.{◌<◌, ◌≤◌, ◌-◌, IfOk};
 ghost use Rattle.std.specs.Thread.{IsSync};
 ghost use Rattle.lay_tree.specs.Tree as tree;
 ghost use Rattle.lay_tree.specs.Tree.{with_scalar};
@@ -15,102 +15,127 @@ use std::alloc::Global;
 use std::thread::{Threads, join};
 use word_base::{Gate, NoMemory};
 
-/// What the pieces of a round have in common: how many marks each piece may write, and the number behind the last one.
+/// With so few scalars all pieces of a round end sooner than a thread begins.
+const FEW_SCALARS: u8 = 6;
+
+/// Pieces of a round, from the first up to before the end, each with the same number of marks that it may write.
 #[derive(Clone, Copy)]
-pub(crate) struct Round {
+pub(crate) struct Pieces {
     pub(crate) quota: u32,
+    pub(crate) first: u8,
     pub(crate) end: u8,
 }
 
-/// The ends of the pieces of a round, four at most, from this one on, each with the same best arrangement at first. The first two are
-/// the halves of one join, as are the last two.
+/// The ends of the pieces of a round, each with the same best arrangement at first. Of two or more the first two are the halves of one
+/// join, and so are the third and the fourth where the pieces are long.
 pub(crate) fn run_round<R: Threads + Sync, G: Gate + Sync>(
     rt: &R,
     alloc: Global,
     gate: &G,
     seq: &Sequence,
     root: &Root,
-    round: Round,
-    first: u8,
+    pieces: Pieces,
     best: &Best,
 ) -> Result<Vec<PieceEnd>, NoMemory>
     requires root { IsRoot seq.now root.now }
-    requires end { round.end ≤ seq.now.scalars }
-    requires first { first ≤ 64 }
+    requires order { pieces.first ≤ pieces.end }
+    requires end { pieces.end ≤ seq.now.scalars }
     requires best { IsBest seq.now best.now }
-    ensures { IfOk result (λ ends. Ran root.now.position.registers seq.now round.quota best.now.arrangement first (min 4 (round.end - first)) ends.items) }
+    ensures { IfOk result (λ ends. Ran root.now.position.registers seq.now pieces.quota best.now.arrangement pieces.first (pieces.end - pieces.first) ends.items) }
 {
-    let third = first + 2;
-    let (lower, upper) = join(
+    if pieces.end - pieces.first <= 2 || seq.scalars() <= FEW_SCALARS {
+        return run_halves(rt, alloc, gate, seq, root, pieces, best);
+    }
+    let third = pieces.first + 2;
+    let lower = Pieces {
+        end: third,
+        ..pieces
+    };
+    let upper = Pieces {
+        first: third,
+        ..pieces
+    };
+    let (first, second) = join(
         rt,
         move || -> Result<Vec<PieceEnd>, NoMemory>
-            requires { IsSync R.row × IsSync G.row × IsRoot seq.now root.now × (round.end ≤ seq.now.scalars) × (first ≤ 64) × IsBest seq.now best.now }
-            ensures { IfOk result (λ ends. Ran root.entry.now.position.registers seq.entry.now round.quota best.entry.now.arrangement first (min 2 (round.end - first)) ends.items) }
-        { run_pair(rt, alloc, gate, seq, root, round, first, best) },
+            requires { IsSync R.row × IsSync G.row × IsRoot seq.now root.now × (lower.first ≤ lower.end) × (lower.end ≤ seq.now.scalars) × IsBest seq.now best.now }
+            ensures { IfOk result (λ ends. Ran root.entry.now.position.registers seq.entry.now lower.quota best.entry.now.arrangement lower.first (lower.end - lower.first) ends.items) }
+        { run_halves(rt, alloc, gate, seq, root, lower, best) },
         move || -> Result<Vec<PieceEnd>, NoMemory>
-            requires { IsSync R.row × IsSync G.row × IsRoot seq.now root.now × (round.end ≤ seq.now.scalars) × (third ≤ 66) × IsBest seq.now best.now }
-            ensures { IfOk result (λ ends. Ran root.entry.now.position.registers seq.entry.now round.quota best.entry.now.arrangement third (min 2 (round.end - third)) ends.items) }
-        { run_pair(rt, alloc, gate, seq, root, round, third, best) },
+            requires { IsSync R.row × IsSync G.row × IsRoot seq.now root.now × (upper.first ≤ upper.end) × (upper.end ≤ seq.now.scalars) × IsBest seq.now best.now }
+            ensures { IfOk result (λ ends. Ran root.entry.now.position.registers seq.entry.now upper.quota best.entry.now.arrangement upper.first (upper.end - upper.first) ends.items) }
+        { run_halves(rt, alloc, gate, seq, root, upper, best) },
     );
-    let mut ends = lower?;
-    let mut more = upper?;
+    let mut ends = first?;
+    let mut more = second?;
     ends.append(&mut more)?;
     Ok(ends)
 }
 
-// The ends of two pieces, or of those that the round has, from this one on.
-fn run_pair<R: Threads + Sync, G: Gate + Sync>(
+// The first piece is one half of a join, and those behind it are the other one. A piece alone needs no join.
+fn run_halves<R: Threads + Sync, G: Gate + Sync>(
     rt: &R,
     alloc: Global,
     gate: &G,
     seq: &Sequence,
     root: &Root,
-    round: Round,
-    first: u8,
+    pieces: Pieces,
     best: &Best,
 ) -> Result<Vec<PieceEnd>, NoMemory>
     requires root { IsRoot seq.now root.now }
-    requires end { round.end ≤ seq.now.scalars }
-    requires first { first ≤ 66 }
+    requires order { pieces.first ≤ pieces.end }
+    requires end { pieces.end ≤ seq.now.scalars }
     requires best { IsBest seq.now best.now }
-    ensures { IfOk result (λ ends. Ran root.now.position.registers seq.now round.quota best.now.arrangement first (min 2 (round.end - first)) ends.items) }
+    ensures { IfOk result (λ ends. Ran root.now.position.registers seq.now pieces.quota best.now.arrangement pieces.first (pieces.end - pieces.first) ends.items) }
 {
-    let second = first + 1;
-    let (lower, upper) = join(
+    if pieces.end - pieces.first < 2 {
+        return run_in_turn(alloc, gate, seq, root, pieces, best);
+    }
+    let second = pieces.first + 1;
+    let lower = Pieces {
+        end: second,
+        ..pieces
+    };
+    let upper = Pieces {
+        first: second,
+        ..pieces
+    };
+    let (first, others) = join(
         rt,
         move || -> Result<Vec<PieceEnd>, NoMemory>
-            requires { IsRoot seq.now root.now × (round.end ≤ seq.now.scalars) × IsBest seq.now best.now }
-            ensures { IfOk result (λ ends. Ran root.entry.now.position.registers seq.entry.now round.quota best.entry.now.arrangement first (min 1 (round.end - first)) ends.items) }
-        { run_at(alloc, gate, seq, root, round, first, best) },
+            requires { IsRoot seq.now root.now × (lower.first ≤ lower.end) × (lower.end ≤ seq.now.scalars) × IsBest seq.now best.now }
+            ensures { IfOk result (λ ends. Ran root.entry.now.position.registers seq.entry.now lower.quota best.entry.now.arrangement lower.first (lower.end - lower.first) ends.items) }
+        { run_in_turn(alloc, gate, seq, root, lower, best) },
         move || -> Result<Vec<PieceEnd>, NoMemory>
-            requires { IsRoot seq.now root.now × (round.end ≤ seq.now.scalars) × IsBest seq.now best.now }
-            ensures { IfOk result (λ ends. Ran root.entry.now.position.registers seq.entry.now round.quota best.entry.now.arrangement second (min 1 (round.end - second)) ends.items) }
-        { run_at(alloc, gate, seq, root, round, second, best) },
+            requires { IsRoot seq.now root.now × (upper.first ≤ upper.end) × (upper.end ≤ seq.now.scalars) × IsBest seq.now best.now }
+            ensures { IfOk result (λ ends. Ran root.entry.now.position.registers seq.entry.now upper.quota best.entry.now.arrangement upper.first (upper.end - upper.first) ends.items) }
+        { run_in_turn(alloc, gate, seq, root, upper, best) },
     );
-    let mut ends = lower?;
-    let mut more = upper?;
+    let mut ends = first?;
+    let mut more = others?;
     ends.append(&mut more)?;
     Ok(ends)
 }
 
-// The end of this piece, where the round has it.
-fn run_at<G: Gate>(
+// One piece behind another.
+fn run_in_turn<G: Gate>(
     alloc: Global,
     gate: &G,
     seq: &Sequence,
     root: &Root,
-    round: Round,
-    number: u8,
+    pieces: Pieces,
     best: &Best,
 ) -> Result<Vec<PieceEnd>, NoMemory>
     requires root { IsRoot seq.now root.now }
-    requires end { round.end ≤ seq.now.scalars }
+    requires order { pieces.first ≤ pieces.end }
+    requires end { pieces.end ≤ seq.now.scalars }
     requires best { IsBest seq.now best.now }
-    ensures { IfOk result (λ ends. Ran root.now.position.registers seq.now round.quota best.now.arrangement number (min 1 (round.end - number)) ends.items) }
+    ensures { IfOk result (λ ends. Ran root.now.position.registers seq.now pieces.quota best.now.arrangement pieces.first (pieces.end - pieces.first) ends.items) }
 {
     let mut ends = Vec::new(alloc);
-    if number < round.end {
-        ends.push(run_gated(alloc, gate, seq, root, round, number, best)?)?;
+    for number in pieces.first..pieces.end {
+        let end = run_gated(alloc, gate, seq, root, pieces.quota, number, best)?;
+        ends.push(end)?;
     }
     Ok(ends)
 }
@@ -121,24 +146,17 @@ fn run_gated<G: Gate>(
     gate: &G,
     seq: &Sequence,
     root: &Root,
-    round: Round,
+    quota: u32,
     number: u8,
     best: &Best,
 ) -> Result<PieceEnd, NoMemory>
     requires root { IsRoot seq.now root.now }
     requires number { number < seq.now.scalars }
     requires best { IsBest seq.now best.now }
-    ensures { IfOk result (λ end. IsEnd seq.now (piece_end root.now.position.registers seq.now round.quota best.now.arrangement (with_scalar tree.root number)) end) }
+    ensures { IfOk result (λ end. IsEnd seq.now (piece_end root.now.position.registers seq.now quota best.now.arrangement (with_scalar tree.root number)) end) }
 {
     gate.enter(u32::from(number));
-    let end = root.run_piece(
-        alloc,
-        seq,
-        round.quota,
-        number,
-        &best.arrangement,
-        best.cost,
-    );
+    let end = root.run_piece(alloc, seq, quota, number, &best.arrangement, best.cost);
     gate.leave(u32::from(number));
     end
 }

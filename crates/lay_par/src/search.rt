@@ -4,7 +4,7 @@ ghost use Rattle.lay_tree.specs.Search as tree;
 ghost use Rattle.lay_search.specs.Rounds.{IsBest};
 
 use crate::job::Job;
-use crate::pieces::{Round, run_round};
+use crate::pieces::{Pieces, run_round};
 use lay_model::Sequence;
 use lay_search::{Best, Opening, Root, close_search, open_search, round_end};
 use lay_tree::Answer;
@@ -98,11 +98,12 @@ fn search_pieces<R: Threads + Sync, G: Gate + Sync>(
     let mut ends = Vec::new(alloc);
     for turn in 0..pieces.div_ceil(4) {
         let first = turn * 4;
-        let round = Round {
+        let round = Pieces {
             quota,
+            first,
             end: round_end(first, pieces),
         };
-        let mut more = run_round(rt, alloc, gate, seq, &root, round, first, &best)?;
+        let mut more = run_round(rt, alloc, gate, seq, &root, round, &best)?;
         best.take(alloc, &more)?;
         ends.append(&mut more)?;
     }

@@ -1,5 +1,5 @@
--- The pieces of both halves.
-use Rattle.std.proofs.Common.{◌+◌, ◌-◌, min, sym, subst}
+-- The pieces of both parts.
+use Rattle.std.proofs.Common.{◌+◌, ◌-◌, ◌≤◌, sym, subst, arith}
 use Rattle.std.proofs.lemmas.Result.{IfOk-at_ok}
 use Rattle.lay_search.specs.Rounds.{Ran}
 use Rattle.lay_par.proofs.Halves.{ran_joined}
@@ -9,10 +9,13 @@ pub returns : goal.returns
 returns g c =
     let k = c.args.root.now.position.registers in
     let seq = c.args.seq.now in
-    let quota = c.args.round.quota in
+    let quota = c.args.pieces.quota in
     let best = c.args.best.now.arrangement in
-    let first = c.args.first in
-    let end = c.args.round.end in
-    let lower = IfOk-at_ok (λ ends. Ran k seq quota best first (min 2 (end - first)) ends.items) c.in_ok-ends.was c.join-lower.ensures.first in
-    let upper = IfOk-at_ok (λ ends. Ran k seq quota best (first + 2) (min 2 (end - (first + 2))) ends.items) c.in_ok-more.was c.join-lower.ensures.second in
-    subst (λ ends. Ran k seq quota best first (min 4 (end - first)) ends) (sym c.in_ok-append.ensures.items) (ran_joined k seq quota best first 2 2 end c.in_ok-ends.ends.items c.in_ok-more.more.items lower upper)
+    let first = c.args.pieces.first in
+    let end = c.args.pieces.end in
+    let middle = c.args.pieces.first + 2 in
+    let from : first ≤ middle = omega arith in
+    let to : middle ≤ end = omega (arith, c.if-pieces-le2.false) in
+    let lower = IfOk-at_ok (λ ends. Ran k seq quota best first (middle - first) ends.items) c.in_ok-ends.was c.join-first.ensures.first in
+    let upper = IfOk-at_ok (λ ends. Ran k seq quota best middle (end - middle) ends.items) c.in_ok-more.was c.join-first.ensures.second in
+    subst (λ ends. Ran k seq quota best first (end - first) ends) (sym c.in_ok-append.ensures.items) (ran_joined k seq quota best first middle end c.in_ok-ends.ends.items c.in_ok-more.more.items from to lower upper)
