@@ -11,7 +11,7 @@ use Rattle.c25_isa.specs.Agrees.{Agrees}
 use Rattle.c25_isa.specs.Image.{Contents}
 use Rattle.lay_cert.specs.Frames.{Frame}
 use Rattle.cc_frames.specs.declared.options.Options.{Options}
-use Rattle.cc_image.specs.Images.{HasFrames, HasImage}
+use Rattle.cc_image.specs.Images.{AccessAs, HasFrames, HasImage}
 use Rattle.cc_thin.specs.Thin.{IsThinProgram}
 
 -- the bytes have a tree, this a typed program, and that has the image and the frames, which are laid out as is chosen. Where the program is a thin
@@ -25,4 +25,6 @@ pub record IsBuilt (o : Options) (bytes : List ℕ) (image : Contents) (frames :
   pub typed : IsTyped source program
   pub has : HasImage o program image
   pub framed : HasFrames o program frames
+  -- each frame is laid out for the accesses of its function in the source
+  pub accesses : AccessAs o.step program frames
   pub agrees : IsThinProgram program → Agrees (source_run program) image.words

@@ -98,6 +98,11 @@ all_framed o [] plans based = refl
 all_framed o (f ∷ fs) [] based = cc
 all_framed o (f ∷ fs) (plan ∷ plans) based = ap (λ names. f.name ∷ names) (all_framed o fs plans (same_others _ _ _ _ based))
 
+pub all_sequenced : (o : Options) (fs : List FunctionItems) (plans : List FramePlan) → AreBased o fs plans → map (λ (f : Frame). f.seq) (frames_of o fs plans) ≡ map (accesses_of o) fs
+all_sequenced o [] plans based = refl
+all_sequenced o (f ∷ fs) [] based = cc
+all_sequenced o (f ∷ fs) (plan ∷ plans) based = ap (λ sequences. accesses_of o f ∷ sequences) (all_sequenced o fs plans (same_others _ _ _ _ based))
+
 -- what is known of answers
 abbrev pub Costing : Type 0
 Costing = (k : ℕ) (seq : Sequence) (budget : ℕ) → answer_cost (search_answer k seq budget) ≡ arranged_cost seq (answer_lists (search_answer k seq budget))

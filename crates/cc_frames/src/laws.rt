@@ -15,6 +15,7 @@ pub fn frames_are_arranged()
     ensures same { (o : Options) (fs : List FunctionItems) (l : Layouts) (plans : List FramePlan) → AreLayouts o fs l → frames_with o.registers l.findings.items l.arrangements.items plans ≡ frames_of o fs plans }
     ensures each { (o : Options) (fs : List FunctionItems) (plans : List FramePlan) → AreOptions o → All (λ f. IsSequence (accesses_of o f)) fs → All (λ f. IsName f.name) fs → AreBased o fs plans → All IsFrame (frames_of o fs plans) }
     ensures all { (o : Options) (fs : List FunctionItems) (plans : List FramePlan) → AreBased o fs plans → map (λ (f : Frame). f.name) (frames_of o fs plans) ≡ map (λ (f : FunctionItems). f.name) fs }
+    ensures accesses { (o : Options) (fs : List FunctionItems) (plans : List FramePlan) → AreBased o fs plans → map (λ (f : Frame). f.seq) (frames_of o fs plans) ≡ map (accesses_of o) fs }
 {
     lay_tree::answers_arrange();
 }

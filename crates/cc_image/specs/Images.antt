@@ -10,6 +10,7 @@ use Rattle.mem_plan.specs.declared.data_plan.PlanFault.{PlanFault}
 use Rattle.mem_plan.specs.declared.data_plan.PlanFault.TheVariants as plan_faults
 use Rattle.mem_plan.specs.Plan.{IsPlan, IsTooLarge}
 use Rattle.frame_emit.specs.Emitted.{emitted}
+use Rattle.access_laws.specs.SourceSequences.{source_sequence}
 use Rattle.lay_cert.specs.Frames.{Frame}
 use Rattle.cc_frames.specs.declared.options.Options.{Options}
 use Rattle.cc_frames.specs.Frames.{layout_of, frames_of}
@@ -50,6 +51,10 @@ pub record HasFrames (o : Options) (t : ProgramTree) (frames : List Frame) : Typ
   pub plan : DataPlan
   pub planned : IsPlanOf o t plan
   pub are : frames ≡ frames_of o (selected (lowered_program t)) plan.frames
+
+-- frames are laid out for the accesses of a program's functions, in order
+abbrev pub AccessAs : ℕ → ProgramTree → List Frame → Type 0
+AccessAs step t frames = map (λ (f : Frame). f.seq) frames ≡ map (source_sequence step) t.functions
 
 -- its data need so many words, which are too many
 abbrev pub HasTooMuchData : ProgramTree → ℕ → Type 0

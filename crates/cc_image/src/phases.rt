@@ -8,9 +8,10 @@ ghost use Rattle.c25_isa.specs.Pieces.{piece_of};
 ghost use Rattle.c25_link.specs.Linking.{IsLinkable, linked_image, pieces_words as words_together};
 ghost use Rattle.c_tree.specs.ProgramView.{program_of};
 ghost use Rattle.c_tree.specs.TypedTree.{ProgramTree};
-ghost use Rattle.cc_frames.specs.Frames.{AreOptions, AreLayouts, ClaimsHold, frames_of};
+ghost use Rattle.cc_frames.specs.Frames.{AreOptions, AreLayouts, ClaimsHold, accesses_of, frames_of};
 ghost use Rattle.cc_image.specs.Faults.{Says, SaysOfPieces, SaysOfTree};
-ghost use Rattle.cc_image.specs.Images.{HasFrames, HasImage, all_pieces, layouts as laid_out, with_helpers as with_called};
+ghost use Rattle.cc_image.specs.Images.{AccessAs, HasFrames, HasImage, all_pieces, layouts as laid_out, with_helpers as with_called};
+ghost use Rattle.lay_cert.specs.Frames.{Frame};
 ghost use Rattle.mem_plan.specs.Plan.{IsPlan};
 ghost use Rattle.tree_code.specs.Lowered.{lowered_program};
 ghost use Rattle.tree_code.specs.ProgramView.{tree_of};
@@ -193,10 +194,12 @@ fn finished<R: Threads + Sync, G: Gate + Sync>(
     requires code { functions_of chosen.now.code ≡ selected (tree_of chosen.now.tree) }
     ensures image { (t : ProgramTree) → tree_of chosen.now.tree ≡ lowered_program t → IfOk result (λ made. HasImage options t made.image) }
     ensures frames { (t : ProgramTree) → tree_of chosen.now.tree ≡ lowered_program t → IfOk result (λ made. HasFrames options t made.certificate) }
+    ensures accesses { IfOk result (λ made. map (λ (f : Frame). f.seq) made.certificate ≡ map (accesses_of options) (selected (tree_of chosen.now.tree))) }
     ensures claims { IfOk result (λ made. All ClaimsHold made.certificate) }
     ensures refused { (t : ProgramTree) → tree_of chosen.now.tree ≡ lowered_program t → IfErr result (Says options t) }
 {
     cc_frames::claims_hold();
+    cc_frames::frames_are_arranged();
     let planned = with_plan(rt, alloc, gate, options, chosen)?;
     let image = image_of(alloc, options, chosen, &planned)?;
     let certificate = certified(alloc, options, &chosen.tree, planned)?;
@@ -216,10 +219,13 @@ pub fn translate<R: Threads + Sync, G: Gate + Sync>(
     requires { AreOptions options }
     ensures image { IfOk result (λ made. HasImage options (program_of program.now) made.image) }
     ensures frames { IfOk result (λ made. HasFrames options (program_of program.now) made.certificate) }
+    // Each frame is laid out for the accesses of its function in the source.
+    ensures accesses { IfOk result (λ made. AccessAs options.step (program_of program.now) made.certificate) }
     // A frame costs what it says, and where it is claimed to be optimal no layout costs less.
     ensures claims { IfOk result (λ made. All ClaimsHold made.certificate) }
     ensures refused { IfErr result (Says options (program_of program.now)) }
 {
+    access_laws::accesses_are_kept();
     let chosen = choose(alloc, program)?;
     finished(rt, alloc, gate, options, &chosen)
 }

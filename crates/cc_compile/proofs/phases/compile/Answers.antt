@@ -4,7 +4,7 @@ use Rattle.c_tree.specs.ProgramView.{program_of}
 use Rattle.c25_isa.specs.Image.{Contents}
 use Rattle.lay_cert.specs.Frames.{Frame}
 use Rattle.cc_frames.specs.Frames.{ClaimsHold}
-use Rattle.cc_image.specs.Images.{HasFrames, HasImage}
+use Rattle.cc_image.specs.Images.{AccessAs, HasFrames, HasImage}
 use Rattle.cc_fault.specs.PartFaults.{of_translation_fault}
 use Rattle.cc_fault.specs.SourceFaults.{HasFault}
 use Rattle.cc_fault.specs.declared.fault.BuildFault.{BuildFault}
@@ -36,6 +36,7 @@ returns-clause-built g c =
       typed = has.4;
       has = image;
       framed = subst (λ (fs : List Frame). HasFrames c.args.options program fs) (sym c.in_ok-with_rows.ensures.certificate) c.in_ok-translated.ensures.frames;
+      accesses = subst (λ (fs : List Frame). AccessAs c.args.options.step program fs) (sym c.in_ok-with_rows.ensures.certificate) c.in_ok-translated.ensures.accesses;
       agrees = λ thin. c.thin_images_agree.ensures c.args.options program _ c.requires.options thin image;
     }
 

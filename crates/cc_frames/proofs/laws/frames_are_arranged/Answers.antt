@@ -1,4 +1,4 @@
-use Rattle.cc_frames.proofs.Framing.{same_frames, each_frame, all_framed}
+use Rattle.cc_frames.proofs.Framing.{same_frames, each_frame, all_framed, all_sequenced}
 use Rattle.cc_frames.proofs.laws.frames_are_arranged.Goals as goal
 
 pub returns-clause-same : goal.returns-clause-same
@@ -9,3 +9,6 @@ returns-clause-each c = λ o fs plans options are names based. each_frame o fs p
 
 pub returns-clause-all : goal.returns-clause-all
 returns-clause-all c = all_framed
+
+pub returns-clause-accesses : goal.returns-clause-accesses
+returns-clause-accesses c = all_sequenced

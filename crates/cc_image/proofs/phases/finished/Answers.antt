@@ -1,5 +1,5 @@
 use Rattle.std.proofs.Common.{◌≡◌, ◌≤◌, ◌∙◌, List, ap, sym, subst}
-use Rattle.std.specs.Prelude.{All}
+use Rattle.std.specs.Prelude.{All, map}
 use Rattle.acc_select.specs.Selected.{selected}
 use Rattle.c25_link.specs.Linking.{linked_image, pieces_words}
 use Rattle.c_tree.specs.TypedTree.{ProgramTree}
@@ -11,6 +11,7 @@ use Rattle.tree_code.specs.WordTree.{ProgramCode}
 use Rattle.cc_frames.specs.Frames.{ClaimsHold, frames_of}
 use Rattle.cc_image.specs.Faults.{SaysOfPieces}
 use Rattle.cc_image.specs.Images.{all_pieces, layouts}
+use Rattle.cc_image.proofs.LayoutLemmas.{all_based}
 use Rattle.cc_image.proofs.TranslationLemmas.{tree_says, pieces_say, passed_on}
 use Rattle.cc_image.proofs.phases.finished.Goals as goal
 
@@ -53,3 +54,10 @@ pub returns-clause-claims : goal.returns-clause-claims
 returns-clause-claims g c =
     subst (All ClaimsHold) (sym c.in_ok-certificate.ensures)
     (c.claims_hold.ensures c.args.options (selected (tree_of c.args.chosen.now.tree)) c.in_ok-planned.planned.plan.frames c.requires.options c.in_ok-planned.ensures.layouts.sequences)
+
+pub returns-clause-accesses : goal.returns-clause-accesses
+returns-clause-accesses g c =
+    let o = c.args.options in
+    let p = tree_of c.args.chosen.now.tree in
+    let plan = c.in_ok-planned.planned.plan in
+    ap (map (λ (f : Frame). f.seq)) c.in_ok-certificate.ensures ∙ c.frames_are_arranged.ensures.accesses o (selected p) plan.frames (all_based o p plan c.in_ok-planned.ensures.plan)

@@ -1,3 +1,12 @@
+use Rattle.std.proofs.Common.{◌≡◌, ◌∙◌, ap, subst, List, map}
+use Rattle.std.specs.Prelude.{IfOk}
+use Rattle.access_laws.specs.SourceSequences.{source_sequence}
+use Rattle.acc_select.specs.Selected.{selected}
+use Rattle.lay_cert.specs.Frames.{Frame}
+use Rattle.lay_model.specs.Sequences.{Sequence}
+use Rattle.tree_code.specs.Lowered.{lowered_program}
+use Rattle.tree_code.specs.WordTree.{ProgramCode}
+use Rattle.cc_frames.specs.Frames.{accesses_of}
 use Rattle.c_tree.specs.ProgramView.{program_of}
 use Rattle.cc_image.proofs.phases.translate.Goals as goal
 
@@ -9,3 +18,11 @@ returns-clause-frames g c = c.finished.ensures.frames (program_of c.args.program
 
 pub returns-clause-refused : goal.returns-clause-refused
 returns-clause-refused g c = c.finished.ensures.refused (program_of c.args.program.now) c.in_ok-chosen.ensures.tree
+
+pub returns-clause-accesses : goal.returns-clause-accesses
+returns-clause-accesses g c =
+    let o = c.args.options in
+    let t = program_of c.args.program.now in
+    let kept : map (accesses_of o) (selected (lowered_program t)) ≡ map (source_sequence o.step) t.functions = c.accesses_are_kept.ensures.sequences o.step t c.args.program.now.well_formed in
+    subst (λ (xs : List Sequence). IfOk c.finished.result (λ made. map (λ (f : Frame). f.seq) made.certificate ≡ xs))
+    (ap (λ (p : ProgramCode). map (accesses_of o) (selected p)) c.in_ok-chosen.ensures.tree ∙ kept) c.finished.ensures.accesses

@@ -1,0 +1,10 @@
+pub mod Marking
+pub mod Operating
+pub mod Branching
+pub mod Forming
+pub mod Storing
+pub mod Expressions
+pub mod Statements
+pub mod Lowering
+mod Examples
+pub mod Programs

@@ -1,0 +1,4 @@
+mod RowExamples
+mod RunExamples
+mod AlikeExamples
+pub mod Keeping

@@ -1,0 +1,8 @@
+-- Runs of word trees and of accumulator code, on words at addresses, and what a translation keeps of them.
+pub mod Parts
+pub mod Outside
+pub mod Meanings
+pub mod TreeRun
+pub mod AccRows
+pub mod AccRun
+pub mod Keeps
