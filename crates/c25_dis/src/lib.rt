@@ -9,4 +9,6 @@ mod part;
 mod writing;
 
 pub use laws::lines_stand_for_words;
+pub use line::Line;
+pub use part::Part;
 pub use writing::listing;

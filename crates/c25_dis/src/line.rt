@@ -7,7 +7,7 @@ use c25_isa::{Instr, decode};
 
 /// What a line of a listing stands for.
 #[derive(Clone, Copy)]
-pub(crate) enum Line {
+pub enum Line {
     Instruction(Instr),
     /// A word that is no instruction, or whose second word is missing.
     Data(u16),

@@ -13,7 +13,7 @@ use word_base::NoMemory;
 
 /// An operand of an instruction, as it is written.
 #[derive(Clone, Copy)]
-pub(crate) enum Part {
+pub enum Part {
     /// An address register, 0 to 7.
     Register(u8),
     /// A place in data memory, or an indirect operand through which nothing is accessed; without the register that is current
