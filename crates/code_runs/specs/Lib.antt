@@ -6,3 +6,5 @@ pub mod TreeRun
 pub mod AccRows
 pub mod AccRun
 pub mod Keeps
+pub mod Weights
+pub mod SourceWeights
