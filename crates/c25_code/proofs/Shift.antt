@@ -1,5 +1,5 @@
 -- The routine that shifts a signed word to the right does so.
-use Rattle.std.proofs.Common.{◌≡◌, ℕ, ◌+◌, ◌-◌, ◌*◌, ◌/◌, ◌%◌, ◌^◌, ◌<◌, ◌≤◌, true, List, [], ◌∷◌, refl, sym, ap, ◌∙◌, subst, cond, arith, ⊎_elim}
+use Rattle.std.proofs.Common.{◌≡◌, ℕ, ◌+◌, ◌-◌, ◌*◌, ◌/◌, ◌%◌, ◌^◌, ◌<◌, ◌≤◌, true, List, [], ◌∷◌, refl, sym, ap, ◌∙◌, cond, arith, ⊎_elim}
 use Rattle.std.specs.Prelude.{nat_lt}
 use Rattle.std.proofs.lemmas.Bool.{lt-ltb, le-ltb, cases_lt}
 use Rattle.std.proofs.Math.Nat.{div-le_self}
@@ -22,8 +22,7 @@ use Rattle.c25_isa.proofs.Cases.{at_below}
 use Rattle.c25_code.proofs.Halves.{low_half}
 use Rattle.c25_code.specs.Work.{Work, calm}
 use Rattle.c25_code.specs.Straight.{behind_code, CodeReady, NonEmpty, first_of, rest_of}
-use Rattle.c25_isa.specs.declared.instruction.Instr.{Instr}
-use Rattle.c25_code.specs.Routines.{shift_body, shift_routine, signed_shift, ShiftKeeps, ShiftsRight}
+use Rattle.c25_code.specs.Routines.{shift_body, shift_routine, signed_shift, ShiftKeeps}
 
 -- the count's distance from 15
 distance : (count : ℕ) → count < 16 → wrap16 (minus 15 (wrap32 (extended true count * 2 ^ 0)) * 2 ^ 0) % 16 ≡ 15 - count
@@ -142,9 +141,3 @@ pub shift_means : (w : Work) → w.ram 0x300 < 65536 → w.ram 0x301 < 16 → in
 shift_means w v c =
     ap (λ t. cond t (Good (signed_shift (w.ram 0x300) (w.ram 0x301))) (Bad ShiftCount)) (lt-ltb (w.ram 0x301) 16 c)
     ∙ ap Good (sym (shift_is w v c))
-
-pub shifts_right : ShiftsRight shift_routine
-shifts_right = record { by = λ program pc w at has v c. (behind_shift w, shift_leads program pc w at has, shift_means w v c, refl, shift_keeps w w.stack) }
-
-pub shifts_right_is : (code : List Instr) → code ≡ shift_routine → ShiftsRight code
-shifts_right_is code e = subst ShiftsRight (sym e) shifts_right

@@ -1,7 +1,6 @@
 -- A call of a routine is a step like another: it comes back behind the call, with the stack as it was.
-use Rattle.std.proofs.Common.{◌≡◌, ℕ, ◌+◌, ◌<◌, List, [], ◌∷◌, length, refl, sym, subst}
+use Rattle.std.proofs.Common.{◌≡◌, ℕ, ◌+◌, ◌<◌, [], ◌∷◌, length, refl, subst}
 use Rattle.word_base.specs.Words.{Good, int_shift_right}
-use Rattle.c25_isa.specs.declared.instruction.Instr.{Instr}
 use Rattle.c25_isa.specs.declared.instruction.Instr.TheVariants.{Call}
 use Rattle.c25_isa.specs.State.{Memory}
 use Rattle.c25_isa.specs.Step.{wrap16}
@@ -10,7 +9,7 @@ use Rattle.c25_isa.specs.Leads.{Leads}
 use Rattle.c25_isa.proofs.Leads.{leads_on}
 use Rattle.c25_code.specs.Work.{Work, calm}
 use Rattle.c25_code.specs.Items.{no_change}
-use Rattle.c25_code.specs.Routines.{shift_routine, ShiftKeeps, ShiftsWhereCalled}
+use Rattle.c25_code.specs.Routines.{shift_routine, ShiftKeeps}
 use Rattle.c25_code.proofs.Items.{keeps_work}
 use Rattle.c25_code.proofs.Jumps.{call_leads}
 use Rattle.c25_code.proofs.Shift.{behind_shift, shift_keeps, shift_leads, shift_means}
@@ -20,6 +19,3 @@ shift_called program entry pc w at here room word count behind =
     let v : Work = record w { stack = (pc + 2) ∷ w.stack } in
     let push = subst (λ u. Leads 1 (calm program pc w) (calm program entry u) []) (keeps_work v) (call_leads program pc w entry no_change here room behind) in
     (behind_shift v, leads_on 1 10 _ _ _ [] [] push (shift_leads program entry v at tt), shift_means v word count, refl, shift_keeps w v.stack)
-
-pub shifts_where_called : (code : List Instr) → code ≡ shift_routine → ShiftsWhereCalled code
-shifts_where_called code e = subst ShiftsWhereCalled (sym e) (record { by = shift_called })

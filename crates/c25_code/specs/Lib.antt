@@ -8,6 +8,7 @@ pub mod Repeats
 pub mod Structured
 pub mod Arrivals
 pub mod Links
+pub mod Naming
 pub mod Programs
 pub mod Startups
 pub mod Accesses

@@ -1,17 +1,14 @@
 -- What the machine has no instruction for: a routine that shifts a signed word to the right, and a division (docs/MACHINE.md, "Loads of ACC,
 -- sums and differences", "Bits and shifts of ACC", and "Ports, repeats and modes").
-use Rattle.std.specs.Prelude.{◌≡◌, ℕ, ◌+◌, ◌-◌, ◌*◌, ◌/◌, ◌%◌, ◌^◌, ◌<◌, ◌≤◌, true, nat_lt, if◌then◌else◌, List, [], ◌∷◌, ◌++◌, length}
-use Rattle.word_base.specs.Words.{Good, int_shift_right, unsigned_quotient, unsigned_remainder}
+use Rattle.std.specs.Prelude.{◌≡◌, ℕ, ◌+◌, ◌-◌, ◌*◌, ◌/◌, ◌%◌, ◌^◌, ◌<◌, ◌≤◌, true, nat_lt, if◌then◌else◌, List, [], ◌∷◌, ◌++◌}
+use Rattle.word_base.specs.Words.{Good, unsigned_quotient, unsigned_remainder}
 use Rattle.c25_isa.specs.declared.operand.Operand.TheVariants.{Direct}
 use Rattle.c25_isa.specs.declared.instruction.Instr.{Instr}
-use Rattle.c25_isa.specs.declared.instruction.Instr.TheVariants.{Sub, Subc, Lac, Lt, Lact, Sacl, Sach, Ldpk, Lack, Rptk, Ssxm, Ret, Call}
+use Rattle.c25_isa.specs.declared.instruction.Instr.TheVariants.{Sub, Subc, Lac, Lt, Lact, Sacl, Sach, Ldpk, Lack, Rptk, Ssxm, Ret}
 use Rattle.c25_isa.specs.State.{Memory}
-use Rattle.c25_isa.specs.Step.{wrap16}
-use Rattle.c25_isa.specs.CodeAt.{StandsAt, CodeAt}
+use Rattle.c25_isa.specs.CodeAt.{CodeAt}
 use Rattle.c25_isa.specs.Leads.{Leads}
 use Rattle.c25_code.specs.Work.{Work, calm}
-use Rattle.c25_code.specs.Straight.{NonEmpty, first_of, rest_of}
-use Rattle.c25_code.specs.Items.{no_change}
 
 -- the word in 0300h by the count in 0301h; 0302h is overwritten
 abbrev pub shift_body : List Instr
@@ -43,14 +40,6 @@ pub record ShiftKeeps (w u : Work) : Type 0 where
   pub sxm : u.sxm ≡ true
   pub ram : (a : ℕ) → (a ≡ 0x302 → ⊥) → u.ram a ≡ w.ram a
   pub input : u.input ≡ w.input
-
--- called with a word in 0300h and a count of 0 to 15 in 0301h, it returns in ten steps with C's shift of the word in ACC
-pub record ShiftsRight (code : List Instr) : Type 0 where
-  pub by : (program : Memory) (pc : ℕ) (w : Work) → CodeAt program pc code → NonEmpty w.stack → w.ram 0x300 < 65536 → w.ram 0x301 < 16 → (u : Work) × Leads 10 (calm program pc w) (calm program (first_of w.stack) u) [] × (int_shift_right (w.ram 0x300) (w.ram 0x301) ≡ Good (wrap16 u.acc)) × (u.stack ≡ rest_of w.stack) × ShiftKeeps w u
-
--- a call of it comes back behind the call in eleven, with the hardware stack as it was
-pub record ShiftsWhereCalled (code : List Instr) : Type 0 where
-  pub by : (program : Memory) (entry pc : ℕ) (w : Work) → CodeAt program entry code → StandsAt program pc (Call entry no_change) → length w.stack < 8 → w.ram 0x300 < 65536 → w.ram 0x301 < 16 → pc + 2 < 65536 → (u : Work) × Leads 11 (calm program pc w) (calm program (pc + 2) u) [] × (int_shift_right (w.ram 0x300) (w.ram 0x301) ≡ Good (wrap16 u.acc)) × (u.stack ≡ w.stack) × ShiftKeeps w u
 
 -- divides the word in ACC by the word at an offset of the page
 abbrev pub division_code : ℕ → List Instr

@@ -1,4 +1,5 @@
 pub mod Routines
+pub mod Results
 pub mod Lines
 pub mod Calls
-pub mod Marks
+pub mod Names

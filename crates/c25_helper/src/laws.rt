@@ -2,8 +2,11 @@
 ghost use Rattle.std.specs.Prelude.{◌≡◌, ◌≤◌, false, All, sum_by};
 ghost use Rattle.word_base.specs.Name.{IsName};
 ghost use Rattle.c25_isa.specs.Pieces.{items_size};
-ghost use Rattle.c25_helper.specs.Routines.{helper_pieces};
-ghost use Rattle.c25_helper.specs.Marks.{HasItsMarks, CallsNone, NamesDiffer};
+ghost use Rattle.c25_helper.specs.Routines.{helper_pieces, routine_items};
+ghost use Rattle.c25_code.specs.Naming.{HasItsMarks};
+ghost use Rattle.c25_helper.specs.Names.{CallsNone, NamesDiffer};
+ghost use Rattle.c25_helper.specs.declared.routine.Routine.{Routine};
+ghost use Rattle.c25_helper.specs.Results.{HelperResult, IsHelper};
 
 /// The pieces of routines take few words, each of them some, and need nothing of other pieces. Their names are no names of C, and
 /// differ. The call does nothing.
@@ -15,4 +18,10 @@ pub fn helper_pieces_fit()
     ensures calls { All (λ p. CallsNone p.items) helper_pieces }
     ensures names { NamesDiffer helper_pieces }
     ensures no_names { All (λ p. ¬ IsName p.name) helper_pieces }
+{}
+
+/// A call of each routine comes back with the value that C has, wherever its items stand. The call does nothing.
+pub fn routines_answer()
+    ensures each { (r : Routine) → HelperResult r (routine_items r) }
+    ensures pieces { All IsHelper helper_pieces }
 {}

@@ -1,8 +1,9 @@
 //! The pieces of routines.
-ghost use Rattle.std.specs.Prelude.{◌≡◌, ◌++◌, [], ◌∷◌, filter, map, if◌then◌else◌, IfOk, OnOk};
+ghost use Rattle.std.specs.Prelude.{◌≡◌, ◌++◌, [], ◌∷◌, filter, map, if◌then◌else◌, All, IfOk, OnOk};
 ghost use Rattle.c25_isa.specs.Pieces.{piece_of};
 ghost use Rattle.c25_helper.specs.Routines.{routine_piece, helper_pieces};
 ghost use Rattle.c25_helper.specs.Calls.{is_called, called_helper_pieces};
+ghost use Rattle.c25_helper.specs.Results.{IsHelper};
 
 use crate::called::Called;
 use crate::line::items_of;
@@ -13,7 +14,9 @@ use word_base::{NoMemory, Text};
 
 /// The pieces of all routines.
 pub fn helpers(alloc: Global) -> Result<Vec<Piece>, NoMemory>
-    ensures { IfOk result (λ pieces. map piece_of pieces.items ≡ helper_pieces) }
+    ensures pieces { IfOk result (λ pieces. map piece_of pieces.items ≡ helper_pieces) }
+    // Where one is called it comes back with the value that C has.
+    ensures results { IfOk result (λ pieces. All IsHelper (map piece_of pieces.items)) }
 {
     let mut pieces = Vec::new(alloc);
     for routine in &Routine::ALL {
@@ -24,7 +27,8 @@ pub fn helpers(alloc: Global) -> Result<Vec<Piece>, NoMemory>
 
 /// The pieces of those routines whose names pieces call.
 pub fn called_helpers(alloc: Global, pieces: &[Piece]) -> Result<Vec<Piece>, NoMemory>
-    ensures { IfOk result (λ helpers. map piece_of helpers.items ≡ called_helper_pieces (map piece_of pieces.now)) }
+    ensures pieces { IfOk result (λ helpers. map piece_of helpers.items ≡ called_helper_pieces (map piece_of pieces.now)) }
+    ensures results { IfOk result (λ helpers. All IsHelper (map piece_of helpers.items)) }
 {
     pieces_of_called(alloc, &Routine::ALL, Called::of(pieces))
 }

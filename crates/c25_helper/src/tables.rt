@@ -17,6 +17,9 @@ const DIVISOR: Operand = Operand::Direct(3);
 // The greatest count of a shift.
 const GREATEST_COUNT: u8 = 15;
 
+// A division takes a step for each bit of a word, so that often SUBC runs again.
+const BITS_BEHIND_THE_FIRST: u8 = 15;
+
 const LOAD_DIVISOR: Instr = Instr::Lac {
     shift: 0,
     operand: DIVISOR,
@@ -91,7 +94,7 @@ pub const DIV_INT: [Line; 37] = [
     Line::Do(LOAD_DIVISOR),
     Line::Jump(JumpOp::Blz, 4),
     Line::Do(Instr::Zals(LEFT)),
-    Line::Do(Instr::Rptk(15)),
+    Line::Do(Instr::Rptk(BITS_BEHIND_THE_FIRST)),
     Line::Do(Instr::Subc(DIVISOR)),
     Line::Do(STORE_LEFT),
     Line::Do(LOAD_SCRATCH), // the sign of the quotient
@@ -116,9 +119,9 @@ pub const DIV_UNSIGNED: [Line; 17] = [
     Line::Do(Instr::Ldpk(FIRST_RAM_PAGE)),
     Line::Do(Instr::Ssxm),
     Line::Do(LOAD_RIGHT),
-    Line::Jump(JumpOp::Blz, 1),
+    Line::Jump(JumpOp::Blz, 1), // the divisor is too great for SUBC
     Line::Do(Instr::Zals(LEFT)),
-    Line::Do(Instr::Rptk(15)),
+    Line::Do(Instr::Rptk(BITS_BEHIND_THE_FIRST)),
     Line::Do(Instr::Subc(RIGHT)),
     Line::Do(Instr::Ret),
     Line::Mark(1),
@@ -149,7 +152,7 @@ pub const REM_INT: [Line; 35] = [
     Line::Do(LOAD_DIVISOR),
     Line::Jump(JumpOp::Blz, 4),
     Line::Do(Instr::Zals(LEFT)),
-    Line::Do(Instr::Rptk(15)),
+    Line::Do(Instr::Rptk(BITS_BEHIND_THE_FIRST)),
     Line::Do(Instr::Subc(DIVISOR)),
     Line::Do(STORE_HIGH_LEFT),
     Line::Do(LOAD_SCRATCH), // the sign of the remainder
@@ -176,7 +179,7 @@ pub const REM_UNSIGNED: [Line; 17] = [
     Line::Do(LOAD_RIGHT),
     Line::Jump(JumpOp::Blz, 1),
     Line::Do(Instr::Zals(LEFT)),
-    Line::Do(Instr::Rptk(15)),
+    Line::Do(Instr::Rptk(BITS_BEHIND_THE_FIRST)),
     Line::Do(Instr::Subc(RIGHT)),
     Line::Do(STORE_HIGH_SCRATCH),
     Line::Do(LOAD_SCRATCH),

@@ -1,7 +1,8 @@
 -- The words and the ranges of pieces make an image.
-use Rattle.std.proofs.Common.{◌≡◌, ℕ, suc, ◌+◌, ◌-◌, ◌≤◌, Bool, true, false, if◌then◌else◌, List, [], ◌∷◌, ◌++◌, length, map, Option, Some, None, refl, ap, sym, ◌∙◌, arith, length-append}
+use Rattle.std.proofs.Common.{◌≡◌, ℕ, suc, ◌+◌, ◌-◌, ◌≤◌, Bool, true, false, if◌then◌else◌, List, [], ◌∷◌, ◌++◌, length, map, Option, Some, None, refl, ap, sym, subst, ◌∙◌, arith, length-append}
 use Rattle.std.specs.Prelude.{All}
 use Rattle.std.proofs.lemmas.Grind.{flat_map-append}
+use Rattle.std.proofs.lemmas.List.{get_or-map, length-map}
 use Rattle.std.proofs.lemmas.List.Sums.{sum_by-cons}
 use Rattle.c25_isa.specs.declared.image.FunctionRange.{FunctionRange}
 use Rattle.c25_isa.specs.declared.instruction.Instr.{Instr}
@@ -85,3 +86,7 @@ listed_have_words (p ∷ ps) all = (
 pub all_fit : (pieces : List code.Piece) → PiecesFit (map piece_of pieces)
 all_fit [] = tt
 all_fit (p ∷ ps) = (p.fit, all_fit ps)
+
+-- what each piece needs, of pieces in memory
+pub each_linkable : (pieces : List code.Piece) → All IsLinkable (map piece_of pieces) → All (λ p. IsLinkable (piece_of p)) pieces
+each_linkable pieces all = λ k d within. subst IsLinkable (get_or-map piece_of pieces k d (piece_of d) within) (all k (piece_of d) (omega (arith, within, length-map pieces piece_of)))

@@ -1,12 +1,13 @@
 -- What linking makes of pieces (docs/MACHINE.md, "Pieces"): the words that they take together, the image that they become, and why they
 -- become none.
-use Rattle.std.specs.Prelude.{◌≡◌, ℕ, ◌<◌, ◌≤◌, true, List, sum_by}
+use Rattle.std.specs.Prelude.{◌≡◌, ℕ, ◌<◌, ◌≤◌, true, List, All, sum_by}
 use Rattle.word_base.specs.Name.{IsName}
 use Rattle.c25_isa.specs.declared.piece.PieceItem.{PieceItem}
 use Rattle.c25_isa.specs.Image.{Contents}
 use Rattle.c25_isa.specs.Pieces.{Piece, items_size, mark_address, piece_address, pieces_code, listed_ranges}
 use Rattle.c25_isa.specs.Step.{wrap16}
 use Rattle.c25_isa.specs.Table.{code_words}
+use Rattle.c25_code.specs.Naming.{HasItsMarks, CallsPieces}
 use Rattle.c25_link.specs.declared.fault.LinkFault.{LinkFault}
 use Rattle.c25_link.specs.declared.fault.LinkFault.TheVariants.{CodeFull, NoMemory}
 
@@ -32,6 +33,12 @@ linked_image pieces = record {
 pub record IsLinkable (p : Piece) : Type 0 where
   pub name : p.listed ≡ true → IsName p.name
   pub words : p.listed ≡ true → 1 ≤ items_size p.items
+
+-- what linking wants of pieces. Each mark that one names stands once in it, and each name that one calls is that of one of them
+pub record AreLinkable (pieces : List Piece) : Type 0 where
+  pub marks : All (λ p. HasItsMarks p.items) pieces
+  pub calls : All (λ p. CallsPieces pieces p.items) pieces
+  pub listed : All IsLinkable pieces
 
 -- when each fault comes
 abbrev pub IsFaultOf : List Piece → LinkFault → Type 0

@@ -1,7 +1,7 @@
 //! The image of pieces.
-ghost use Rattle.std.specs.Prelude.{◌≡◌, ◌<◌, ◌≤◌, ◌^◌, map, All, IfErr, IfOk};
+ghost use Rattle.std.specs.Prelude.{◌≡◌, ◌<◌, ◌≤◌, ◌^◌, map, IfErr, IfOk};
 ghost use Rattle.c25_isa.specs.Pieces.{piece_of, Linked};
-ghost use Rattle.c25_link.specs.Linking.{pieces_words as words_together, linked_image, IsLinkable, IsFaultOf};
+ghost use Rattle.c25_link.specs.Linking.{pieces_words as words_together, linked_image, AreLinkable, IsFaultOf};
 
 use crate::code::code_of;
 use crate::fault::LinkFault;
@@ -14,11 +14,10 @@ use std::alloc::Global;
 /// How many words program memory has.
 pub const CODE_WORDS: u32 = 0x1_0000;
 
-/// The image of pieces one behind another from program word 0 on. A mark that isn't in its piece has the address behind the
-/// piece, and a name that no piece has that behind all pieces. They are refused as `CodeFull` where they take more than 65,536
-/// words together; else memory may be wanting.
+/// The image of pieces one behind another from program word 0 on, for pieces each of which has its marks and calls names of pieces.
+/// They are refused as `CodeFull` where they take more than 65,536 words together; else memory may be wanting.
 pub fn link(alloc: Global, pieces: &[Piece]) -> Result<Image, LinkFault>
-    requires listed { All (λ p. IsLinkable (piece_of p)) pieces.now }
+    requires linkable { AreLinkable (map piece_of pieces.now) }
     requires counted { words_together (map piece_of pieces.now) < 2 ^ 32 }
     ensures image { IfOk result (λ image. image ≡ linked_image (map piece_of pieces.now)) }
     ensures linked { IfOk result (λ image. Linked (map piece_of pieces.now) image) }

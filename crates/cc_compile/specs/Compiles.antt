@@ -14,8 +14,8 @@ use Rattle.cc_frames.specs.declared.options.Options.{Options}
 use Rattle.cc_image.specs.Images.{AccessAs, HasFrames, HasImage}
 use Rattle.cc_thin.specs.Thin.{IsThinProgram}
 
--- the bytes have a tree, this a typed program, and that has the image and the frames, which are laid out as is chosen. Where the program is a thin
--- one, the words do what it does
+-- the bytes have a tree, this a typed program, and that has the image, which is linked from its pieces and the routines, and the frames, which are
+-- laid out as is chosen. Where the program is a thin one, the words do what it does
 pub record IsBuilt (o : Options) (bytes : List ℕ) (image : Contents) (frames : List Frame) : Type 0 where
   pub tokens : List Token
   pub source : UnitTree

@@ -54,7 +54,7 @@ pub fn compile<R: Threads + Sync, G: Gate + Sync>(
 ) -> Result<Built, BuildFault>
     requires short { length source.now < 2 ^ 32 }
     requires options { AreOptions options }
-    // The image is that of the source's program, and the certificate has its frames.
+    // The image is that of the source's program, linked from the pieces that are emitted and the routines, and the certificate has its frames.
     ensures built { IfOk result (λ built. IsBuilt options source.now built.image built.certificate) }
     // A frame costs what it says, and where it is claimed to be optimal no layout costs less.
     ensures claims { IfOk result (λ built. All ClaimsHold built.certificate) }

@@ -1,5 +1,5 @@
 -- The layouts of a program's frames as planning, emission and certificates want them.
-use Rattle.std.proofs.Common.{◌≡◌, ◌≤◌, ◌<◌, ◌+◌, ◌∙◌, ℕ, zero, suc, List, [], ◌∷◌, length, map, refl, sym, ap, ap₂, subst, arith}
+use Rattle.std.proofs.Common.{◌≡◌, ◌<◌, ◌+◌, ◌∙◌, ℕ, zero, suc, List, [], ◌∷◌, length, map, refl, sym, ap, ap₂, subst, arith}
 use Rattle.std.specs.Prelude.{All, Option, Some, None, slice_get, option_map}
 use Rattle.std.proofs.lemmas.List.{get_or-map, length-map}
 use Rattle.std.proofs.lemmas.List.Elements.{All-cons, All-nil}
@@ -16,34 +16,33 @@ use Rattle.acc_select.specs.Selected.{selected, selected_function}
 use Rattle.lay_model.specs.Sequences.{IsSequence}
 use Rattle.lay_model.specs.Arrangements.{Arranges}
 use Rattle.lay_cost.specs.Cost as costs
-use Rattle.lay_cert.specs.Frames.{IsFrame}
 use Rattle.mem_plan.specs.declared.data_plan.DataPlan.{DataPlan}
 use Rattle.mem_plan.specs.declared.data_plan.FramePlan.{FramePlan}
-use Rattle.mem_plan.specs.Plan.{AreArranged, IsArranged, IsPlan, list_bases, frame_of, frames_from, frames_start, plan_of}
+use Rattle.mem_plan.specs.Plan.{AreArranged, IsArranged, IsPlan, list_bases, frames_from, frames_start}
 use Rattle.cc_frames.specs.declared.options.Options.{Options}
-use Rattle.cc_frames.specs.Frames.{AreOptions, AreBased, accesses_of, layout_of, frames_of}
+use Rattle.cc_frames.specs.Frames.{AreOptions, AreBased, accesses_of, layout_of}
 use Rattle.cc_image.specs.Images.{layouts}
 use Rattle.cc_image.proofs.PieceLemmas.{known_names}
 
 -- the elements of a list
-some_at : {A : Type 0} (xs : List A) (k : ℕ) → k < length xs → (x : A) × (slice_get xs k ≡ Some x)
+pub some_at : {A : Type 0} (xs : List A) (k : ℕ) → k < length xs → (x : A) × (slice_get xs k ≡ Some x)
 some_at [] k within = absurd (omega (arith, within))
 some_at (x ∷ xs) zero within = (x, refl)
 some_at (x ∷ xs) (suc k) within = some_at xs k (omega (arith, within))
 
-within_of : {A : Type 0} (xs : List A) (k : ℕ) (x : A) → slice_get xs k ≡ Some x → k < length xs
+pub within_of : {A : Type 0} (xs : List A) (k : ℕ) (x : A) → slice_get xs k ≡ Some x → k < length xs
 within_of [] k x is = cc
 within_of (y ∷ xs) zero x is = omega arith
 within_of (y ∷ xs) (suc k) x is = let h = within_of xs k x is in omega (arith, h)
 
-same_some : {A : Type 0} (a b : A) → Some a ≡ Some b → a ≡ b
+pub same_some : {A : Type 0} (a b : A) → Some a ≡ Some b → a ≡ b
 same_some a b e = cc
 
-each_of : {A : Type 0} (P : A → Type 0) (xs : List A) → ((k : ℕ) (x : A) → slice_get xs k ≡ Some x → P x) → All P xs
+pub each_of : {A : Type 0} (P : A → Type 0) (xs : List A) → ((k : ℕ) (x : A) → slice_get xs k ≡ Some x → P x) → All P xs
 each_of P [] h = All-nil P
 each_of P (x ∷ xs) h = All-cons P x xs (h 0 x refl) (each_of P xs (λ k y is. h (suc k) y is))
 
-one_of : {A : Type 0} (P : A → Type 0) (xs : List A) (k : ℕ) (x : A) → All P xs → slice_get xs k ≡ Some x → P x
+pub one_of : {A : Type 0} (P : A → Type 0) (xs : List A) (k : ℕ) (x : A) → All P xs → slice_get xs k ≡ Some x → P x
 one_of P [] k x all is = cc
 one_of P (y ∷ xs) zero x all is = subst P (same_some y x is) (all 0 y (omega arith))
 one_of P (y ∷ xs) (suc k) x all is = one_of P xs k x (λ j d within. all (suc j) d (omega (arith, within))) is

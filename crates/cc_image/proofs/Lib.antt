@@ -2,4 +2,7 @@ pub mod OneImage
 mod LayoutLemmas
 mod NameLemmas
 pub mod PieceLemmas
+mod MarkLemmas
+mod CallLemmas
+mod LinkLemmas
 mod TranslationLemmas

@@ -30,7 +30,7 @@ one_either (inr p) (inr q) = inr (λ h. ⊎_elim p q h)
 most : (a b : ℕ) → Either (a ≤ b)
 most a b = ⊎_elim (λ less. inr (λ h. absurd (omega (arith, less, h)))) (λ h. inl h) (cases_lt b a)
 
-same : (a b : ℕ) → Either (a ≡ b)
+pub same : (a b : ℕ) → Either (a ≡ b)
 same a b = go (most a b) (most b a)
   where
     go : Either (a ≤ b) → Either (b ≤ a) → Either (a ≡ b)

@@ -1,6 +1,5 @@
 -- The pieces of a program, with the routines that they call, are those that linking wants.
-use Rattle.std.proofs.Common.{◌≡◌, ◌<◌, ℕ, suc, Bool, true, false, List, [], ◌∷◌, map, refl, sym, subst, arith, All}
-use Rattle.std.proofs.lemmas.List.{get_or-map, length-map}
+use Rattle.std.proofs.Common.{◌≡◌, ℕ, suc, Bool, true, false, List, [], ◌∷◌, map, refl, arith, All}
 use Rattle.std.proofs.lemmas.List.Elements.{All-append, All-cons, All-nil, All-filter, All-map}
 use Rattle.word_base.specs.Name.{IsName}
 use Rattle.tree_code.specs.WordTree.{FunctionCode, ProgramCode}
@@ -9,8 +8,7 @@ use Rattle.acc_code.specs.AccTree.{FunctionItems}
 use Rattle.acc_select.specs.Selected.{selected, selected_function}
 use Rattle.mem_plan.specs.declared.data_plan.DataPlan.{DataPlan}
 use Rattle.mem_plan.specs.declared.data_plan.FramePlan.{FramePlan}
-use Rattle.c25_isa.specs.declared.piece.Piece as code
-use Rattle.c25_isa.specs.Pieces.{Piece, piece_of}
+use Rattle.c25_isa.specs.Pieces.{Piece}
 use Rattle.std.specs.Prelude.{slice_index_or}
 use Rattle.c25_helper.specs.Calls.{pieces_call}
 use Rattle.c25_helper.specs.Routines.{all_routines, helper_pieces, routine_piece}
@@ -64,11 +62,3 @@ pieces_linkable o p plan known =
     (All-cons IsLinkable (startup_piece plan.statics p.statics) _ (unlisted (startup_piece plan.statics p.statics) refl)
     (functions_linkable plan o.step (all_parameters p.functions plan.frames (layouts o p)) (map (λ (g : FunctionItems). g.name) (selected p)) p.functions plan.frames (layouts o p) (known_names p known)))
     (All-filter (λ (x : Piece). pieces_call x.name (own_pieces o p plan)) IsLinkable helper_pieces helpers_unlisted)
-
--- pieces in memory
-linkable_in : (ps : List code.Piece) → All IsLinkable (map piece_of ps) → All (λ q. IsLinkable (piece_of q)) ps
-linkable_in ps h = λ k d within. subst IsLinkable (get_or-map piece_of ps k d (piece_of d) within) (h k (piece_of d) (subst (λ n. k < n) (sym (length-map ps piece_of)) within))
-
-pub known_linkable : (o : Options) (p : ProgramCode) (plan : DataPlan) (ps list : List code.Piece) → ∥ IsCode p ∥₁ → map piece_of ps ≡ all_pieces o p plan → list ≡ ps → All (λ q. IsLinkable (piece_of q)) list
-known_linkable o p plan ps list known are same =
-    subst (All (λ (q : code.Piece). IsLinkable (piece_of q))) (sym same) (linkable_in ps (subst (All IsLinkable) (sym are) (pieces_linkable o p plan known)))

@@ -10,7 +10,6 @@ use Rattle.acc_select.specs.IsSelected.{IsEmittable, object_cells, called_parame
 use Rattle.tree_code.specs.WordHelpers.{uses_helper}
 use Rattle.mem_plan.specs.declared.data_plan.DataPlan.{DataPlan}
 use Rattle.mem_plan.specs.declared.data_plan.PlanFault.TheVariants as plan_faults
-use Rattle.c25_isa.specs.Pieces.{Piece}
 use Rattle.c25_link.specs.declared.fault.LinkFault.TheVariants as link_faults
 use Rattle.frame_flow.specs.Emits.{IsRightItem}
 use Rattle.frame_emit.proofs.Naming.{all_right}
@@ -20,12 +19,12 @@ use Rattle.cc_image.specs.Faults.{Says, SaysOfTree, SaysOfPieces}
 use Rattle.cc_frames.specs.declared.options.Options.{Options}
 use Rattle.cc_image.specs.Images.{IsPlanOf, all_pieces}
 
-element_at : {A : Type 0} (xs : List A) (k : ℕ) (d : A) → k < length xs → slice_get xs k ≡ Some (slice_index_or xs k d)
+pub element_at : {A : Type 0} (xs : List A) (k : ℕ) (d : A) → k < length xs → slice_get xs k ≡ Some (slice_index_or xs k d)
 element_at [] k d within = absurd (omega (arith, within))
 element_at (x ∷ xs) zero d within = refl
 element_at (x ∷ xs) (suc k) d within = element_at xs k d (omega (arith, within))
 
-some_at : {A : Type 0} (xs : List A) (k : ℕ) → k < length xs → (x : A) × (slice_get xs k ≡ Some x)
+pub some_at : {A : Type 0} (xs : List A) (k : ℕ) → k < length xs → (x : A) × (slice_get xs k ≡ Some x)
 some_at [] k within = absurd (omega (arith, within))
 some_at (x ∷ xs) zero within = (x, refl)
 some_at (x ∷ xs) (suc k) within = some_at xs k (omega (arith, within))

@@ -15,7 +15,7 @@ use Rattle.lay_cert.specs.Frames.{Frame}
 use Rattle.cc_frames.specs.declared.options.Options.{Options}
 use Rattle.cc_frames.specs.Frames.{layout_of, frames_of}
 use Rattle.c25_isa.specs.Image.{Contents}
-use Rattle.c25_isa.specs.Pieces.{Piece}
+use Rattle.c25_isa.specs.Pieces.{Piece, Linked}
 use Rattle.c25_helper.specs.Calls.{called_helper_pieces}
 use Rattle.c25_link.specs.Linking.{linked_image, pieces_words}
 use Rattle.c25_link.specs.declared.fault.LinkFault.{LinkFault}
@@ -39,12 +39,13 @@ all_pieces o p plan = with_helpers (own_pieces o p plan)
 abbrev pub IsPlanOf : Options → ProgramTree → DataPlan → Type 0
 IsPlanOf o t plan = IsPlan (lowered_program t) (layouts o (lowered_program t)) plan
 
--- a typed program has this image
+-- a typed program has this image: it is linked from the pieces that are emitted and the routines that they call
 pub record HasImage (o : Options) (t : ProgramTree) (image : Contents) : Type 0 where
   pub plan : DataPlan
   pub planned : IsPlanOf o t plan
   pub fits : pieces_words (all_pieces o (lowered_program t) plan) ≤ 65536
   pub is : image ≡ linked_image (all_pieces o (lowered_program t) plan)
+  pub linked : Linked (all_pieces o (lowered_program t) plan) image
 
 -- and these frames, in the order of its functions
 pub record HasFrames (o : Options) (t : ProgramTree) (frames : List Frame) : Type 0 where

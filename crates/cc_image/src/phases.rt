@@ -4,8 +4,8 @@ ghost use Rattle.acc_code.specs.AccSequence.{IsInFrame};
 ghost use Rattle.acc_code.specs.AccView.{function_items_of, functions_of};
 ghost use Rattle.acc_select.specs.IsSelected.{IsEmittable};
 ghost use Rattle.acc_select.specs.Selected.{selected};
-ghost use Rattle.c25_isa.specs.Pieces.{piece_of};
-ghost use Rattle.c25_link.specs.Linking.{IsLinkable, linked_image, pieces_words as words_together};
+ghost use Rattle.c25_isa.specs.Pieces.{piece_of, Linked};
+ghost use Rattle.c25_link.specs.Linking.{AreLinkable, linked_image, pieces_words as words_together};
 ghost use Rattle.c_tree.specs.ProgramView.{program_of};
 ghost use Rattle.c_tree.specs.TypedTree.{ProgramTree};
 ghost use Rattle.cc_frames.specs.Frames.{AreOptions, AreLayouts, ClaimsHold, accesses_of, frames_of};
@@ -129,8 +129,9 @@ fn pieces(
 
 // So many words that their number passes 32 bits never fit in memory.
 fn linked(alloc: Global, pieces: &[Piece]) -> Result<Image, TranslationFault>
-    requires { All (λ p. IsLinkable (piece_of p)) pieces.now }
+    requires { AreLinkable (map piece_of pieces.now) }
     ensures image { IfOk result (λ image. image ≡ linked_image (map piece_of pieces.now)) }
+    ensures linked { IfOk result (λ image. Linked (map piece_of pieces.now) image) }
     ensures fits { IfOk result (λ _. words_together (map piece_of pieces.now) ≤ 65536) }
     ensures refused { IfErr result (SaysOfPieces (map piece_of pieces.now)) }
 {
@@ -174,9 +175,11 @@ fn image_of(
     requires layouts { AreLayouts options (selected (tree_of chosen.now.tree)) planned.now.layouts }
     requires plan { IsPlan (tree_of chosen.now.tree) (laid_out options (tree_of chosen.now.tree)) planned.now.plan }
     ensures image { IfOk result (λ image. image ≡ linked_image (all_pieces options (tree_of chosen.now.tree) planned.now.plan)) }
+    ensures linked { IfOk result (λ image. Linked (all_pieces options (tree_of chosen.now.tree) planned.now.plan) image) }
     ensures fits { IfOk result (λ _. words_together (all_pieces options (tree_of chosen.now.tree) planned.now.plan) ≤ 65536) }
     ensures refused { IfErr result (SaysOfPieces (all_pieces options (tree_of chosen.now.tree) planned.now.plan)) }
 {
+    c25_helper::helper_pieces_fit();
     let pieces = pieces(alloc, options, chosen, planned)?;
     linked(alloc, &pieces)
 }

@@ -37,6 +37,7 @@ small_image = record {
   };
   fits = lit≤ tt;
   is = refl;
+  linked = record { words = refl; functions = refl; listed = (λ e. lit≤ tt, (λ e. lit≤ tt, tt)) };
 }
 
 -- a word from 256 on is loaded from a word of its own

@@ -6,7 +6,7 @@ use Rattle.c25_isa.specs.Pieces.{piece_of, pieces_code, piece_address, listed_ra
 use Rattle.c25_isa.specs.Table.{IsInstr, code_words}
 use Rattle.c25_isa.proofs.PieceLemmas.{pieces_fit, wraps_low}
 use Rattle.c25_link.specs.Linking.{pieces_words, name_addresses}
-use Rattle.c25_link.proofs.Images.{image_is, listed_have_words, all_fit}
+use Rattle.c25_link.proofs.Images.{image_is, listed_have_words, all_fit, each_linkable}
 use Rattle.c25_link.proofs.linker.link.Goals as goal
 
 pub words_of-requires : goal.words_of-requires
@@ -22,7 +22,7 @@ new-requires c =
     let words : c.in_ok-words.words.items ≡ code_words (pieces_code (name_addresses pieces) 0 pieces) = c.in_ok-words.ensures ∙ ap code_words code in
     let short : pieces_words pieces ≤ 65536 = omega arith in
     subst (λ functions. IsImage c.in_ok-words.words.items functions) (sym c.in_ok-functions.ensures)
-    (subst (λ words. IsImage words (listed_ranges 0 pieces)) (sym words) (image_is (name_addresses pieces) c.args.pieces.now c.requires.listed short))
+    (subst (λ words. IsImage words (listed_ranges 0 pieces)) (sym words) (image_is (name_addresses pieces) c.args.pieces.now (each_linkable c.args.pieces.now c.requires.linkable.listed) short))
 
 pub returns-clause-linked : goal.returns-clause-linked
 returns-clause-linked c =
@@ -32,5 +32,8 @@ returns-clause-linked c =
     record {
       words = ap (λ (image : Contents). image.words) c.new.ensures ∙ words;
       functions = ap (λ (image : Contents). image.functions) c.new.ensures ∙ c.in_ok-functions.ensures;
-      listed = listed_have_words c.args.pieces.now c.requires.listed;
+      listed = listed_have_words c.args.pieces.now (each_linkable c.args.pieces.now c.requires.linkable.listed);
     }
+
+pub functions_of-requires-clause-listed : goal.functions_of-requires-clause-listed
+functions_of-requires-clause-listed c = each_linkable c.args.pieces.now c.requires.linkable.listed
