@@ -367,6 +367,21 @@ asks() {
 register 0: 0' "$@"
             rm -f -- "./${request[1]}"
             ;;
+        asm)
+            echo IDLE > "./${request[1]}"
+            wants 0 '' "$@"
+            { image ce1f; echo end; } | cmp -s - "./${request[2]}" || fail "no image under ${request[2]}: $*"
+            rm -f -- "./${request[1]}" "./${request[2]}"
+            ;;
+        dis)
+            handmade ce1f > "./${request[1]}"
+            wants 0 IDLE "$@"
+            rm -f -- "./${request[1]}"
+            ;;
+        gen)
+            last=$(bash "$top/tests/many_functions.sh" "${request[1]}" lines | tail -n 1)
+            wants 0 "gen ${request[1]}: functions $((request[1] + 1)), outputs ${request[1]}, last ${last#returned }, $last" "$@"
+            ;;
         *) fail "another request: ${request[*]}" ;;
     esac
     [ -z "$(ls -A)" ] || fail "other files are left by '$*': $(ls -A)"
@@ -385,7 +400,7 @@ while IFS= read -r row; do
     fi
 done < <(rows words.txt)
 cd ..
-[ "$lists" -ge 217 ] || fail "words.txt has $lists lists"
+[ "$lists" -ge 270 ] || fail "words.txt has $lists lists"
 wants 2 'words refused' ''
 
 # Files as long as they may be, and one byte longer.

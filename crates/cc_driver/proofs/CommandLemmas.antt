@@ -1,7 +1,8 @@
 -- The told files come to one thing or are refused for one, for each command.
-use Rattle.std.proofs.Common.{◌≡◌, ◌≢◌, ◌∙◌, ◌++◌, ℕ, List, [], ◌∷◌, refl, sym, ap, subst, lit<, IsTrue}
+use Rattle.std.proofs.Common.{◌≡◌, ◌≢◌, ◌∙◌, ◌++◌, ℕ, List, [], ◌∷◌, length, refl, sym, ap, subst, lit<, IsTrue}
+use Rattle.std.specs.Prelude.{Result, Ok, Err}
 use Rattle.std.specs.Str.Lines.{lines}
-use Rattle.cc_words.specs.Asked.{Asked, ToBuild, ToRun, ToEvaluate, ToExecute, ToLayOut, ToCheck}
+use Rattle.cc_words.specs.Asked.{Asked, ToBuild, ToRun, ToEvaluate, ToExecute, ToLayOut, ToCheck, ToAssemble, ToList, ToGenerate}
 use Rattle.word_base.specs.Ports.{Outputs, input_of}
 use Rattle.c_tree.specs.SourceRun.{source_run}
 use Rattle.c25_isa.specs.Image.{Contents}
@@ -17,6 +18,8 @@ use Rattle.c25_image.specs.PortText.{PortText, PortSays}
 use Rattle.c25_image.proofs.ImageEnds.{text_injective}
 use Rattle.c25_image.proofs.ImageExact.{says_no_text}
 use Rattle.c25_image.proofs.PortLines.{bad_no_text, one_port_text}
+use Rattle.c25_asm.specs.AssemblerText.{assembled}
+use Rattle.c25_asm.specs.declared.fault.AsmFault.{AsmFault}
 use Rattle.lay_text.specs.Lines.{filled}
 use Rattle.lay_text.proofs.Exact.{sequences_same, says_not_read}
 use Rattle.lay_tree.specs.Search.{search_answer}
@@ -28,11 +31,13 @@ use Rattle.cc_image.proofs.OneImage.{one as one_image, frames_same}
 use Rattle.cc_fault.specs.SourceFaults.{HasProgram, IsAccepted}
 use Rattle.cc_fault.proofs.OneFault.{accepted_no_fault, program_no_fault, same_program}
 use Rattle.cc_compile.specs.Compiles.{IsBuilt}
+use Rattle.cc_gen.specs.Generated.{generated}
 use Rattle.cc_text.specs.Answers.{Answered}
 use Rattle.cc_text.specs.Refusals.{Why, refusal_status}
 use Rattle.cc_text.specs.RunText.{run_answer}
 use Rattle.cc_text.specs.MeansText.{means_answer}
 use Rattle.cc_text.specs.LayoutText.{layout_answer}
+use Rattle.cc_text.specs.GenText.{gen_answer}
 use Rattle.cc_driver.specs.World.{Shelves}
 use Rattle.cc_driver.specs.Fetches.{AreFetched}
 use Rattle.cc_driver.specs.Stores.{Stored, FailsAtOne}
@@ -42,11 +47,14 @@ use Rattle.cc_driver.specs.Means.{MeansTo, MeansRefused, PortsFirst, SourceThen}
 use Rattle.cc_driver.specs.Exec.{ExecutesTo, ExecuteRefused}
 use Rattle.cc_driver.specs.Exec as exec
 use Rattle.cc_driver.specs.Layout.{LaysOutTo, LayoutRefused}
-use Rattle.cc_driver.specs.Check.{ChecksTo, CheckRefused, IsCertificateRefused, check_answer}
+use Rattle.cc_driver.specs.Check.{ChecksTo, CheckRefused, check_answer}
 use Rattle.cc_driver.specs.Check as check
+use Rattle.cc_driver.specs.Asm.{AssemblesTo, AssembleRefused}
+use Rattle.cc_driver.specs.Dis.{ListsTo, listing_answer}
+use Rattle.cc_driver.specs.Gen.{Summarizes, GeneratesTo, GenerateRefused, gen_steps}
 use Rattle.cc_driver.specs.Commands.{files_of, stores_under, Comes, Rejects}
 use Rattle.cc_driver.specs.Puts.{IsStatus}
-use Rattle.cc_driver.proofs.StatusLemmas.{of_report, of_stop, of_outcome, of_check}
+use Rattle.cc_driver.proofs.StatusLemmas.{of_report, of_stop, of_summary, of_outcome, of_check}
 use Rattle.cc_driver.proofs.FileLemmas.{one_file, two_files}
 
 -- ---- what is refused or done was told
@@ -58,6 +66,9 @@ comes_told (ToEvaluate source ports turns) shelf answer texts c = ((c.0.bytes, c
 comes_told (ToExecute source ports steps) shelf answer texts c = ((c.0.bytes, c.0.fetched), ((c.0.more, c.0.also), tt {0}))
 comes_told (ToLayOut sequence registers budget) shelf answer texts c = ((c.0.bytes, c.0.fetched), tt {0})
 comes_told (ToCheck image certificate) shelf answer texts c = ((c.0.bytes, c.0.fetched), ((c.0.more, c.0.also), tt {0}))
+comes_told (ToAssemble text image) shelf answer texts c = ((c.bytes, c.fetched), tt {0})
+comes_told (ToList image) shelf answer texts c = ((c.0.bytes, c.0.fetched), tt {0})
+comes_told (ToGenerate number) shelf answer texts c = tt {0}
 
 pub refuses_told : (what : Asked) (shelf : Shelves) (why : Why) → Rejects what shelf why → AreFetched shelf (files_of what)
 refuses_told (ToBuild source image registers budget step) shelf why r = ((r.bytes, r.fetched), tt {0})
@@ -66,6 +77,9 @@ refuses_told (ToEvaluate source ports turns) shelf why r = ((r.bytes, r.fetched)
 refuses_told (ToExecute source ports steps) shelf why r = ((r.bytes, r.fetched), ((r.more, r.also), tt {0}))
 refuses_told (ToLayOut sequence registers budget) shelf why r = ((r.bytes, r.fetched), tt {0})
 refuses_told (ToCheck image certificate) shelf why r = ((r.bytes, r.fetched), ((r.more, r.also), tt {0}))
+refuses_told (ToAssemble text image) shelf why r = ((r.bytes, r.fetched), tt {0})
+refuses_told (ToList image) shelf why r = ((r.bytes, r.fetched), tt {0})
+refuses_told (ToGenerate number) shelf why r = tt {0}
 
 -- ---- stores
 
@@ -84,6 +98,9 @@ some_store (ToEvaluate source ports turns) shelf answer texts c h = none_fails (
 some_store (ToExecute source ports steps) shelf answer texts c h = none_fails (ToExecute source ports steps) shelf texts c.1 h
 some_store (ToLayOut sequence registers budget) shelf answer texts c h = none_fails (ToLayOut sequence registers budget) shelf texts c.1 h
 some_store (ToCheck image certificate) shelf answer texts c h = none_fails (ToCheck image certificate) shelf texts c.1 h
+some_store (ToAssemble text image) shelf answer texts c h = λ e. cc
+some_store (ToList image) shelf answer texts c h = none_fails (ToList image) shelf texts c.1 h
+some_store (ToGenerate number) shelf answer texts c h = none_fails (ToGenerate number) shelf texts c.1 h
 
 -- ---- ports
 
@@ -232,6 +249,52 @@ check_status_nine : (image certificate i c : List ℕ) (why : Why) → CheckRefu
 check_status_nine image certificate i c why (check.BadImage bad) = ap refusal_status bad.is
 check_status_nine image certificate i c why (check.BadCertificate contents is bad) = ap refusal_status bad.is
 
+-- ---- asm
+
+-- bytes have words or a fault
+not_both : (r : Result (List ℕ) AsmFault) (words : List ℕ) (fault : AsmFault) → r ≡ Ok words → r ≡ Err fault → ⊥
+not_both r words fault e f = let k : Ok words ≡ Err fault = sym e ∙ f in cc
+
+asm_one : (name bytes : List ℕ) (a b : Answered) (s t : List Stored) → AssemblesTo name bytes a s → AssemblesTo name bytes b t → a ≡ b
+asm_one name bytes a b s t c d = c.is ∙ sym d.is
+
+asm_not : (text image bytes : List ℕ) (a : Answered) (s : List Stored) (why : Why) → AssemblesTo image bytes a s → AssembleRefused text bytes why → ⊥
+asm_not text image bytes a s why c r = not_both (assembled bytes) c.words r.fault c.assembles r.says
+
+asm_status_nine : (text bytes : List ℕ) (why : Why) → AssembleRefused text bytes why → refusal_status why ≡ 9
+asm_status_nine text bytes why r = ap refusal_status r.is
+
+-- ---- dis
+
+dis_one : (bytes : List ℕ) (a b : Answered) → ListsTo bytes a → ListsTo bytes b → a ≡ b
+dis_one bytes a b r q = r.is ∙ ap (λ (c : Contents). listing_answer c.words) (one_contents bytes r.contents q.contents r.image q.image) ∙ sym q.is
+
+dis_not : (image bytes : List ℕ) (a : Answered) (why : Why) → ListsTo bytes a → IsImageRefused image bytes why → ⊥
+dis_not image bytes a why r bad = not_image image bytes why r.contents bad r.image
+
+dis_status_nine : (image bytes : List ℕ) (why : Why) → IsImageRefused image bytes why → refusal_status why ≡ 9
+dis_status_nine image bytes why bad = ap refusal_status bad.is
+
+-- ---- gen
+
+-- one run is summed up alike
+summary_one : (steps number : ℕ) (image other : Contents) (a b : Answered) → image ≡ other → Summarizes steps number image a → Summarizes steps number other b → a ≡ b
+summary_one steps number image other a b same r s =
+    let runs = ap (λ (c : Contents). machine_run (zero_start c.words) (of_sixteen (input_of [])) steps) same in
+    let reached = reached_one r.outs s.outs r.stands s.stands (sym r.runs ∙ runs ∙ s.runs) in
+    r.is
+    ∙ ap (λ (c : Contents). gen_answer number (length c.functions) steps r.outs r.stands) same
+    ∙ ap (λ o. gen_answer number (length other.functions) steps o r.stands) reached.0
+    ∙ ap (gen_answer number (length other.functions) steps s.outs) reached.1
+    ∙ sym s.is
+
+gen_one : (number : ℕ) (a b : Answered) → GeneratesTo number a → GeneratesTo number b → a ≡ b
+gen_one number a b r s =
+    summary_one gen_steps number r.image s.image a b (one_built plain_options (generated number) r.image s.image r.frames s.frames r.built s.built) r.summarizes s.summarizes
+
+gen_not : (number : ℕ) (a : Answered) (why : Why) → GeneratesTo number a → GenerateRefused number why → ⊥
+gen_not number a why r bad = accepted_no_fault plain_options (generated number) bad.fault (accepted plain_options (generated number) r.image r.frames r.built) bad.has
+
 -- ---- all commands
 
 pub comes_one : (what : Asked) (shelf : Shelves) (tells : IsTrue shelf.tells) (a b : Answered) (s t : List Stored) → Comes what shelf a s → Comes what shelf b t → a ≡ b
@@ -253,6 +316,13 @@ comes_one (ToLayOut sequence registers budget) shelf tells a b s t c d =
 comes_one (ToCheck image certificate) shelf tells a b s t c d =
     let h = two_files shelf tells _ _ _ _ c.0 d.0 in
     check_one h.0 h.1.0 a b h.1.1 h.1.2
+comes_one (ToAssemble text image) shelf tells a b s t c d =
+    let h = one_file shelf tells _ _ _ c d in
+    asm_one image h.0 a b s t h.1 h.2
+comes_one (ToList image) shelf tells a b s t c d =
+    let h = one_file shelf tells _ _ _ c.0 d.0 in
+    dis_one h.0 a b h.1 h.2
+comes_one (ToGenerate number) shelf tells a b s t c d = gen_one number a b c.0 d.0
 
 pub comes_not : (what : Asked) (shelf : Shelves) (tells : IsTrue shelf.tells) (a : Answered) (s : List Stored) (why : Why) → Comes what shelf a s → Rejects what shelf why → ⊥
 comes_not (ToBuild source image registers budget step) shelf tells a s why c r =
@@ -273,6 +343,13 @@ comes_not (ToLayOut sequence registers budget) shelf tells a s why c r =
 comes_not (ToCheck image certificate) shelf tells a s why c r =
     let h = two_files shelf tells _ _ _ _ c.0 r in
     check_not image certificate h.0 h.1.0 a why h.1.1 h.1.2
+comes_not (ToAssemble text image) shelf tells a s why c r =
+    let h = one_file shelf tells _ _ _ c r in
+    asm_not text image h.0 a s why h.1 h.2
+comes_not (ToList image) shelf tells a s why c r =
+    let h = one_file shelf tells _ _ _ c.0 r in
+    dis_not image h.0 a why h.1 h.2
+comes_not (ToGenerate number) shelf tells a s why c r = gen_not number a why c.0 r
 
 pub refuses_one : (what : Asked) (shelf : Shelves) (tells : IsTrue shelf.tells) (v w : Why) → Rejects what shelf v → Rejects what shelf w → refusal_status v ≡ refusal_status w
 refuses_one (ToBuild source image registers budget step) shelf tells v w r s =
@@ -293,6 +370,13 @@ refuses_one (ToLayOut sequence registers budget) shelf tells v w r s =
 refuses_one (ToCheck image certificate) shelf tells v w r s =
     let h = two_files shelf tells _ _ _ _ r s in
     check_status_nine image certificate h.0 h.1.0 v h.1.1 ∙ sym (check_status_nine image certificate h.0 h.1.0 w h.1.2)
+refuses_one (ToAssemble text image) shelf tells v w r s =
+    let h = one_file shelf tells _ _ _ r s in
+    asm_status_nine text h.0 v h.1 ∙ sym (asm_status_nine text h.0 w h.2)
+refuses_one (ToList image) shelf tells v w r s =
+    let h = one_file shelf tells _ _ _ r s in
+    dis_status_nine image h.0 v h.1 ∙ sym (dis_status_nine image h.0 w h.2)
+refuses_one (ToGenerate number) shelf tells v w r s = build_refused_one plain_options (generated number) v w r s
 
 image_run_status : (words : List ℕ) (lines : List (ℕ × ℕ)) (steps : ℕ) (answer : Answered) → ImageRuns words lines steps answer → IsStatus answer.status
 image_run_status words lines steps answer r = subst (λ a. IsStatus a.status) (sym r.is) (of_stop r.stands)
@@ -306,3 +390,7 @@ comes_status (ToEvaluate source ports turns) shelf answer texts c =
 comes_status (ToExecute source ports steps) shelf answer texts c = image_run_status c.0.holds.image.words c.0.holds.lines steps answer c.0.holds.runs
 comes_status (ToLayOut sequence registers budget) shelf answer texts c = subst (λ a. IsStatus a.status) (sym c.0.holds.is) (0, lit< tt, refl)
 comes_status (ToCheck image certificate) shelf answer texts c = subst (λ a. IsStatus a.status) (sym c.0.holds.is) (of_check c.0.holds.contents c.0.holds.frames)
+comes_status (ToAssemble text image) shelf answer texts c = subst (λ a. IsStatus a.status) (sym c.holds.is) (0, lit< tt, refl)
+comes_status (ToList image) shelf answer texts c = subst (λ a. IsStatus a.status) (sym c.0.holds.is) (0, lit< tt, refl)
+comes_status (ToGenerate number) shelf answer texts c =
+    subst (λ a. IsStatus a.status) (sym c.0.summarizes.is) (of_summary number (length c.0.image.functions) gen_steps c.0.summarizes.outs c.0.summarizes.stands)

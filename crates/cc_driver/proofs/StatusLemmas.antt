@@ -4,14 +4,16 @@ use Rattle.std.specs.Prelude.{if◌then◌else◌}
 use Rattle.c25_isa.specs.Image.{Contents}
 use Rattle.cc_check.specs.CheckText.{all_pass}
 use Rattle.cc_text.specs.declared.refusal.FileFault.{FileFault}
-use Rattle.cc_text.specs.declared.refusal.FileFault.TheVariants.{Read, TooLong, Image, Ports, Sequence, Certificate}
+use Rattle.cc_text.specs.declared.refusal.FileFault.TheVariants.{Read, TooLong, Image, Ports, Sequence, Certificate, Assembly}
 use Rattle.cc_text.specs.Refusals.{Why, OfFile, OfSource, OfStore, OfMemory, file_status, refusal_status}
 use Rattle.c25_isa.specs.declared.event.Stop.{Stop}
 use Rattle.c25_isa.specs.declared.event.Stop.TheVariants as stop
 use Rattle.word_base.specs.declared.outcome.Outcome.{Outcome}
 use Rattle.word_base.specs.declared.outcome.Outcome.TheVariants as outcome
 use Rattle.cc_text.specs.Answers.{Answered}
+use Rattle.word_base.specs.Ports.{Outputs}
 use Rattle.cc_text.specs.RunText.{stop_status}
+use Rattle.cc_text.specs.GenText.{gen_answer}
 use Rattle.cc_text.specs.MeansText.{outcome_status}
 use Rattle.cc_driver.specs.World.{Sinks}
 use Rattle.lay_cert.specs.Frames.{Frame}
@@ -26,6 +28,7 @@ of_file (Image why) = (9, lit< tt, refl)
 of_file (Ports why) = (9, lit< tt, refl)
 of_file (Sequence why) = (9, lit< tt, refl)
 of_file (Certificate why) = (9, lit< tt, refl)
+of_file (Assembly why) = (9, lit< tt, refl)
 
 of_why : (why : Why) → IsStatus (refusal_status why)
 of_why (OfFile name why) = of_file why
@@ -48,6 +51,11 @@ pub of_stop : (s : Stop) → IsStatus (stop_status s)
 of_stop (stop.Ended ending) = (0, lit< tt, refl)
 of_stop (stop.Trap kind at) = (7, lit< tt, refl)
 of_stop stop.Running = (6, lit< tt, refl)
+
+pub of_summary : (number functions steps : ℕ) (outs : Outputs) (s : Stop) → IsStatus (gen_answer number functions steps outs s).status
+of_summary number functions steps outs (stop.Ended ending) = (0, lit< tt, refl)
+of_summary number functions steps outs (stop.Trap kind at) = (7, lit< tt, refl)
+of_summary number functions steps outs stop.Running = (6, lit< tt, refl)
 
 pub of_outcome : (o : Outcome) → IsStatus (outcome_status o)
 of_outcome (outcome.Ended outs ending) = (0, lit< tt, refl)

@@ -1,5 +1,5 @@
 -- Stores one behind another, and behind fetches.
-use Rattle.std.proofs.Common.{inl, inr, ◌≡◌, ◌≢◌, ◌∙◌, ℕ, Bool, List, [], ◌∷◌, ◌++◌, Some, IsTrue, codes, refl, sym, ap, subst, length, length-append, arith}
+use Rattle.std.proofs.Common.{inl, inr, ◌≡◌, ◌≢◌, ◌∙◌, ℕ, Bool, List, [], ◌∷◌, ◌++◌, Some, IsTrue, codes, refl, ap, subst, length, length-append, arith}
 use Rattle.cc_shelf.specs.Counts.{Rose}
 use Rattle.cc_shelf.specs.Stock.{Stock}
 use Rattle.cc_text.specs.Refusals.{Why}
@@ -16,6 +16,12 @@ other_name image e =
 -- nothing is stored
 pub none_stored : (tells : Bool) (first last : Stock) → NothingStored (shelves tells first last) → AreStored [] (shelves tells first last)
 none_stored tells first last kept = record { hold = tt {0}; others = λ n other. kept.files n; faults = kept.faults }
+
+-- the store of one text is refused
+pub one_stopped : (tells : Bool) (before now : Stock) (one : Stored) → ((n : List ℕ) → n ≢ one.name → now.files n ≡ before.files n) → (why : Why) → StoreStopped (shelves tells before now) why
+    → StoresStopped (one ∷ []) (shelves tells before now) why
+one_stopped tells before now one others why (inl failed) = inl (failed.0, record { done = []; next = one; left = []; parts = refl; hold = tt {0}; others = λ n other. others n other.0; failed = failed.1 })
+one_stopped tells before now one others why (inr wanting) = inr (wanting.0, record { done = []; left = one ∷ []; parts = refl; stored = none_stored tells before now wanting.1 })
 
 -- a first text is stored, which has another name than the second one
 module _ (tells : Bool) (first middle last : Stock) (one two : Stored) (differ : one.name ≢ two.name) where

@@ -1,18 +1,21 @@
 -- The commands, a row each: which files one fetches, under which names it stores, what it comes to, and for what its files are refused
 -- (docs/COMMANDS.md).
 use Rattle.std.specs.Prelude.{◌≡◌, ℕ, List, [], ◌∷◌}
-use Rattle.cc_words.specs.Asked.{Asked, ToBuild, ToRun, ToEvaluate, ToExecute, ToLayOut, ToCheck}
+use Rattle.cc_words.specs.Asked.{Asked, ToBuild, ToRun, ToEvaluate, ToExecute, ToLayOut, ToCheck, ToAssemble, ToList, ToGenerate}
 use Rattle.cc_text.specs.Answers.{Answered}
 use Rattle.cc_text.specs.Refusals.{Why}
 use Rattle.cc_driver.specs.World.{Shelves}
 use Rattle.cc_driver.specs.Fetches.{Wanted, IsFetched}
 use Rattle.cc_driver.specs.Stores.{Stored}
 use Rattle.cc_driver.specs.Build.{source_file, chosen_options, certificate_name, FileHas, BuildsTo, IsRefusedFor}
-use Rattle.cc_driver.specs.Run.{image_file, ports_file, RunsTo, RunRefused}
+use Rattle.cc_driver.specs.Run.{image_file, ports_file, IsImageRefused, RunsTo, RunRefused}
 use Rattle.cc_driver.specs.Means.{MeansTo, MeansRefused}
 use Rattle.cc_driver.specs.Exec.{ExecutesTo, ExecuteRefused}
 use Rattle.cc_driver.specs.Layout.{sequence_file, LaysOutTo, LayoutRefused}
 use Rattle.cc_driver.specs.Check.{certificate_file, ChecksTo, CheckRefused}
+use Rattle.cc_driver.specs.Asm.{text_file, AssemblesTo, AssembleRefused}
+use Rattle.cc_driver.specs.Dis.{ListsTo}
+use Rattle.cc_driver.specs.Gen.{GeneratesTo, GenerateRefused}
 
 -- the files that a command fetches, in this order
 abbrev pub files_of : Asked → List Wanted
@@ -22,6 +25,9 @@ files_of (ToEvaluate source ports turns) = source_file source ∷ ports_file por
 files_of (ToExecute source ports steps) = source_file source ∷ ports_file ports ∷ []
 files_of (ToLayOut sequence registers budget) = sequence_file sequence ∷ []
 files_of (ToCheck image certificate) = image_file image ∷ certificate_file certificate ∷ []
+files_of (ToAssemble text image) = text_file text ∷ []
+files_of (ToList image) = image_file image ∷ []
+files_of (ToGenerate number) = []
 
 -- the names under which a command stores, in this order
 abbrev pub stores_under : Asked → List (List ℕ)
@@ -31,6 +37,9 @@ stores_under (ToEvaluate source ports turns) = []
 stores_under (ToExecute source ports steps) = []
 stores_under (ToLayOut sequence registers budget) = []
 stores_under (ToCheck image certificate) = []
+stores_under (ToAssemble text image) = image ∷ []
+stores_under (ToList image) = []
+stores_under (ToGenerate number) = []
 
 -- the bytes of two files have a property
 pub record FilesHave (shelf : Shelves) (first second : Wanted) (P : List ℕ → List ℕ → Type 0) : Type 0 where
@@ -54,6 +63,9 @@ Comes (ToLayOut sequence registers budget) shelf answer texts =
     FileHas shelf (sequence_file sequence) (λ s. LaysOutTo s registers budget answer) × (texts ≡ [])
 Comes (ToCheck image certificate) shelf answer texts =
     FilesHave shelf (image_file image) (certificate_file certificate) (λ i c. ChecksTo i c answer) × (texts ≡ [])
+Comes (ToAssemble text image) shelf answer texts = FileHas shelf (text_file text) (λ t. AssemblesTo image t answer texts)
+Comes (ToList image) shelf answer texts = FileHas shelf (image_file image) (λ i. ListsTo i answer) × (texts ≡ [])
+Comes (ToGenerate number) shelf answer texts = GeneratesTo number answer × (texts ≡ [])
 
 -- for what a command refuses its files, which all fit
 abbrev pub Rejects : Asked → Shelves → Why → Type 0
@@ -68,3 +80,6 @@ Rejects (ToLayOut sequence registers budget) shelf why =
     FileHas shelf (sequence_file sequence) (λ s. LayoutRefused sequence s why)
 Rejects (ToCheck image certificate) shelf why =
     FilesHave shelf (image_file image) (certificate_file certificate) (λ i c. CheckRefused image certificate i c why)
+Rejects (ToAssemble text image) shelf why = FileHas shelf (text_file text) (λ t. AssembleRefused text t why)
+Rejects (ToList image) shelf why = FileHas shelf (image_file image) (λ i. IsImageRefused image i why)
+Rejects (ToGenerate number) shelf why = GenerateRefused number why

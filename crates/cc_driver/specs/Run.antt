@@ -33,11 +33,15 @@ pub record IsImageOf (contents : Contents) (bytes : List ℕ) : Type 0 where
   pub whole : IsWhole contents
   pub text : bytes ≡ image_text contents
 
--- from zeros and on what port lines give, the words of an image put these outputs in so many steps and stand here, and that is answered
+-- from zeros and on what port lines give, the words of an image put these outputs in so many steps and stand here
+abbrev pub Reaches : List ℕ → List (ℕ × ℕ) → ℕ → Outputs → Stop → Type 0
+Reaches words lines steps outs stands = machine_run (zero_start words) (of_sixteen (input_of lines)) steps ≡ reached_of outs stands
+
+-- and that is answered
 pub record ImageRuns (words : List ℕ) (lines : List (ℕ × ℕ)) (steps : ℕ) (answer : Answered) : Type 0 where
   pub outs : Outputs
   pub stands : Stop
-  pub runs : machine_run (zero_start words) (of_sixteen (input_of lines)) steps ≡ reached_of outs stands
+  pub runs : Reaches words lines steps outs stands
   pub is : answer ≡ run_answer steps outs stands
 
 -- the image runs on what the port lines give

@@ -4,13 +4,13 @@ ghost use Rattle.cc_words.specs.Asked.{ToRun};
 ghost use Rattle.cc_text.specs.Refusals.{why_of, OfMemory};
 ghost use Rattle.cc_text.specs.Answers.{answered};
 ghost use Rattle.cc_driver.specs.World.{shelves};
-ghost use Rattle.cc_driver.specs.Run.{ImageRuns, RunsTo, RunRefused};
+ghost use Rattle.cc_driver.specs.Run.{Reaches, ImageRuns, RunsTo, RunRefused};
 ghost use Rattle.cc_driver.specs.Work.{WorkDone, WorkRefused};
 ghost use Rattle.cc_driver.specs.Stores.{NothingStored};
 
 use crate::shelf::{Fetched, IMAGE_LIMIT, PORTS_LIMIT, fetch_both};
 use c25_image::{read_image, read_ports};
-use c25_isa::{Image, Start};
+use c25_isa::{Image, RunOutcome, Start};
 use c25_sim::Machine;
 use cc_shelf::Shelf;
 use cc_text::{Answer, Refusal, run_answer};
@@ -19,6 +19,20 @@ use std::alloc::Global;
 use word_base::{NoMemory, Ports};
 
 /// Runs an image from zeros.
+pub(crate) fn run_from_zeros(
+    alloc: Global,
+    image: &Image,
+    ports: Ports,
+    steps: u64,
+) -> Result<RunOutcome, NoMemory>
+    ensures { IfOk result (λ r. Reaches image.now.words ports steps r.outs r.stop) }
+{
+    let start = Start::zero(alloc, image)?;
+    let mut machine = Machine::new(alloc, start, ports)?;
+    machine.run(alloc, steps)
+}
+
+/// Runs an image from zeros, and answers what its run came to.
 pub(crate) fn run_image(
     alloc: Global,
     image: &Image,
@@ -27,9 +41,7 @@ pub(crate) fn run_image(
 ) -> Result<Answer, NoMemory>
     ensures { IfOk result (λ a. ImageRuns image.now.words ports steps (answered a)) }
 {
-    let start = Start::zero(alloc, image)?;
-    let mut machine = Machine::new(alloc, start, ports)?;
-    let outcome = machine.run(alloc, steps)?;
+    let outcome = run_from_zeros(alloc, image, ports, steps)?;
     run_answer(alloc, &outcome, steps)
 }
 

@@ -16,6 +16,9 @@ pub(crate) const SOURCE_LIMIT: u64 = 1_048_576;
 /// The greatest length of an image's text, in bytes.
 pub(crate) const IMAGE_LIMIT: u64 = 4_194_304;
 
+/// The greatest length of an assembler text, in bytes.
+pub(crate) const TEXT_LIMIT: u64 = 4_194_304;
+
 /// The greatest length of a sequence file, in bytes.
 pub(crate) const SEQUENCE_LIMIT: u64 = 16_777_216;
 

@@ -1,4 +1,4 @@
-//! Builds whose calls fail, each in turn. The answers were decided by hand from docs/COMMANDS.md.
+//! Builds and assemblies whose calls fail, each in turn. The answers were decided by hand from docs/COMMANDS.md.
 use crate::commands::{Command, Left, leaves};
 use std::process::Abort;
 use std::test::Fail;
@@ -128,4 +128,44 @@ fn failing_reports(rt: HostRuntime) -> Result<(), Fail> {
     let both = &[("a.img", IMAGE), ("a.img.crt", CERTIFICATE)];
     builds(&rt, (&[3], &[0]), (4, ""), (3, 0), both)?;
     builds(&rt, (&[3], &[1]), (0, REPORT), (3, 0), both)
+}
+
+const ASSEMBLE: &[&str] = &["asm", "i", "a.img"];
+
+const TEXT: &[u8] = b"IDLE\n";
+
+#[test]
+fn failing_assemblies(rt: HostRuntime) -> Result<(), Fail> {
+    stores_nothing(
+        &rt,
+        ASSEMBLE,
+        TEXT,
+        (&[0], &[]),
+        (3, "read fault: i\n"),
+        (1, 0),
+    )?;
+    stores_nothing(&rt, ASSEMBLE, TEXT, (&[1], &[]), (4, ""), (2, 1))?;
+    stores_nothing(&rt, ASSEMBLE, b"IDEL\n", (&[], &[0]), (9, ""), (1, 0))
+}
+
+// Nothing is put, so no put can fail.
+#[test]
+fn silent_assemblies(rt: HostRuntime) -> Result<(), Fail> {
+    leaves(
+        &rt,
+        Command {
+            words: ASSEMBLE,
+            file: TEXT,
+            ports: b"kept",
+            shelf_fails_at: &[2],
+            sink_fails_at: &[0],
+        },
+        Left {
+            status: 0,
+            text: "",
+            calls: 2,
+            store_faults: 0,
+            stored: &[("a.img", b"C25 IMAGE 1\nwords 1\nce1f\nend\n")],
+        },
+    )
 }

@@ -1,4 +1,4 @@
-//! Runs, evaluations, executions and layouts whose calls fail, each in turn. The answers were decided by hand from docs/COMMANDS.md.
+//! Runs, evaluations, executions, layouts, listings and generated programs whose calls fail, each in turn. The answers were decided by hand from docs/COMMANDS.md.
 use crate::commands::{Command, Left, leaves};
 use std::process::Abort;
 use std::test::Fail;
@@ -139,6 +139,47 @@ fn failing_checks(rt: HostRuntime) -> Result<(), Fail> {
         (&[], &[]),
         (9, "file refused: p bad line 1\n"),
         2,
+    )
+}
+
+const LIST: &[&str] = &["dis", "i"];
+
+#[test]
+fn failing_listings(rt: HostRuntime) -> Result<(), Fail> {
+    answers(&rt, LIST, SEVEN, (&[0], &[]), (3, "read fault: i\n"), 1)?;
+    answers(&rt, LIST, b"", (&[], &[0]), (9, ""), 1)?;
+    // The answer can't be put, and nothing more is.
+    answers(&rt, LIST, SEVEN, (&[], &[0]), (4, ""), 1)?;
+    // No further call is made.
+    answers(
+        &rt,
+        LIST,
+        SEVEN,
+        (&[1], &[1]),
+        (
+            0,
+            "LDPK 0x006\nLACK 0x07\nSACL 0x05,0\nOUT 0x05,PA1\nIDLE\n",
+        ),
+        1,
+    )
+}
+
+const GENERATE: &[&str] = &["gen", "1"];
+
+// Its one function adds 3 to 1 four times. No file is fetched.
+#[test]
+fn failing_generated_programs(rt: HostRuntime) -> Result<(), Fail> {
+    answers(&rt, GENERATE, b"", (&[0], &[0]), (4, ""), 0)?;
+    answers(
+        &rt,
+        GENERATE,
+        b"",
+        (&[0], &[1]),
+        (
+            0,
+            "gen 1: functions 2, outputs 1, last 000d, returned 000d\n",
+        ),
+        0,
     )
 }
 

@@ -4,3 +4,4 @@ pub mod Answers
 pub mod RunText
 pub mod MeansText
 pub mod LayoutText
+pub mod GenText

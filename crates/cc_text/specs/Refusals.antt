@@ -1,5 +1,7 @@
 -- Why a command is refused, with the line and the status of each refusal (docs/COMMANDS.md, "Statuses and lines").
 use Rattle.std.specs.Prelude.{ℕ, List, [], ◌++◌, codes, decimal}
+use Rattle.c25_asm.specs.declared.fault.AsmFault.{AsmFault}
+use Rattle.c25_asm.specs.declared.fault.AsmFault.TheVariants as assembly_faults
 use Rattle.c25_image.specs.declared.fault.ImageFault.{ImageFault}
 use Rattle.c25_image.specs.declared.fault.ImageFault.TheVariants as image_faults
 use Rattle.c25_image.specs.declared.fault.PortFault.{PortFault}
@@ -11,7 +13,7 @@ use Rattle.lay_cert.specs.declared.fault.CertFault.TheVariants as certificate_fa
 use Rattle.cc_fault.specs.declared.fault.BuildFault.{BuildFault}
 use Rattle.cc_fault.specs.declared.fault.BuildFault.TheVariants as build_faults
 use Rattle.cc_text.specs.declared.refusal.FileFault.{FileFault}
-use Rattle.cc_text.specs.declared.refusal.FileFault.TheVariants.{Read, TooLong, Image, Ports, Sequence, Certificate}
+use Rattle.cc_text.specs.declared.refusal.FileFault.TheVariants.{Read, TooLong, Image, Ports, Sequence, Certificate, Assembly}
 use Rattle.cc_text.specs.declared.refusal.Refusal.{Refusal}
 use Rattle.cc_text.specs.declared.refusal.Refusal.TheVariants as refusal
 
@@ -50,6 +52,10 @@ abbrev pub of_certificate_fault : List ℕ → CertFault → Why
 of_certificate_fault name certificate_faults.NoMemory = OfMemory
 of_certificate_fault name why = OfFile name (Certificate why)
 
+abbrev pub of_assembly_fault : List ℕ → AsmFault → Why
+of_assembly_fault name assembly_faults.NoMemory = OfMemory
+of_assembly_fault name why = OfFile name (Assembly why)
+
 -- the line that refuses an image; want of memory has none
 abbrev pub image_line : List ℕ → ImageFault → List ℕ
 image_line name (image_faults.BadLine line) = codes "file refused: " ++ (name ++ (codes " bad line " ++ (decimal line ++ codes "\n")))
@@ -75,6 +81,15 @@ certificate_line name (certificate_faults.Short frame) = codes "file refused: " 
 certificate_line name (certificate_faults.Version found) = codes "file refused: " ++ (name ++ (codes " version " ++ (decimal found ++ codes "\n")))
 certificate_line name certificate_faults.NoMemory = []
 
+-- the line that refuses an assembler text; want of memory has none
+abbrev pub assembly_line : List ℕ → AsmFault → List ℕ
+assembly_line name (assembly_faults.BadLine line) = codes "file refused: " ++ (name ++ (codes " bad line " ++ (decimal line ++ codes "\n")))
+assembly_line name (assembly_faults.UnknownLabel line) = codes "file refused: " ++ (name ++ (codes " unknown label line " ++ (decimal line ++ codes "\n")))
+assembly_line name (assembly_faults.LabelTwice line) = codes "file refused: " ++ (name ++ (codes " label twice line " ++ (decimal line ++ codes "\n")))
+assembly_line name (assembly_faults.OutOfRange line) = codes "file refused: " ++ (name ++ (codes " out of range line " ++ (decimal line ++ codes "\n")))
+assembly_line name (assembly_faults.TooLong count) = codes "file refused: " ++ (name ++ (codes " too long " ++ (decimal count ++ codes "\n")))
+assembly_line name assembly_faults.NoMemory = []
+
 -- the line that refuses a file
 abbrev pub file_line : List ℕ → FileFault → List ℕ
 file_line name Read = codes "read fault: " ++ (name ++ codes "\n")
@@ -83,6 +98,7 @@ file_line name (Image why) = image_line name why
 file_line name (Ports why) = port_line name why
 file_line name (Sequence why) = sequence_line name why
 file_line name (Certificate why) = certificate_line name why
+file_line name (Assembly why) = assembly_line name why
 
 -- 3 for a file that can't be read, and else 9
 abbrev pub file_status : FileFault → ℕ
@@ -92,6 +108,7 @@ file_status (Image why) = 9
 file_status (Ports why) = 9
 file_status (Sequence why) = 9
 file_status (Certificate why) = 9
+file_status (Assembly why) = 9
 
 abbrev pub refusal_status : Why → ℕ
 refusal_status (OfFile name why) = file_status why

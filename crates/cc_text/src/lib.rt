@@ -3,6 +3,7 @@
 #![tactic(auto)]
 
 mod answer;
+mod gen_text;
 mod layout_text;
 mod means_text;
 mod refusal;
@@ -11,6 +12,7 @@ mod run_text;
 mod source_text;
 
 pub use answer::Answer;
+pub use gen_text::gen_answer;
 pub use layout_text::layout_answer;
 pub use means_text::means_answer;
 pub use refusal::{FileFault, Refusal};

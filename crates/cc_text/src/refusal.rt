@@ -1,7 +1,8 @@
 //! Why a command is refused.
 ghost use Rattle.std.specs.Prelude.{◌≡◌};
-ghost use Rattle.cc_text.specs.Refusals.{why_of, of_image_fault, of_port_fault, of_sequence_fault, of_certificate_fault, refusal_status, file_status};
+ghost use Rattle.cc_text.specs.Refusals.{why_of, of_image_fault, of_port_fault, of_sequence_fault, of_certificate_fault, of_assembly_fault, refusal_status, file_status};
 
+use c25_asm::AsmFault;
 use c25_image::{ImageFault, PortFault};
 use cc_fault::BuildFault;
 use lay_cert::CertFault;
@@ -23,6 +24,8 @@ pub enum FileFault {
     Sequence(SeqFault),
     /// It is no certificate.
     Certificate(CertFault),
+    /// It is no assembler text.
+    Assembly(AsmFault),
 }
 
 impl FileFault {
@@ -35,7 +38,8 @@ impl FileFault {
             | FileFault::Image(_)
             | FileFault::Ports(_)
             | FileFault::Sequence(_)
-            | FileFault::Certificate(_) => 9,
+            | FileFault::Certificate(_)
+            | FileFault::Assembly(_) => 9,
         }
     }
 }
@@ -101,6 +105,19 @@ impl<'a> Refusal<'a> {
             why => Refusal::File {
                 name,
                 why: FileFault::Certificate(why),
+            },
+        }
+    }
+
+    /// A file of this name is no assembler text.
+    pub fn of_assembly(name: &'a str, fault: AsmFault) -> Self
+        ensures { why_of result ≡ of_assembly_fault name.now fault }
+    {
+        match fault {
+            AsmFault::NoMemory => Refusal::NoMemory,
+            why => Refusal::File {
+                name,
+                why: FileFault::Assembly(why),
             },
         }
     }

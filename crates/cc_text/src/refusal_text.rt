@@ -1,8 +1,9 @@
 //! The line that refuses a file.
 ghost use Rattle.std.specs.Prelude.{◌≡◌, IfOk, string_bytes};
-ghost use Rattle.cc_text.specs.Refusals.{file_line, image_line, port_line, sequence_line, certificate_line};
+ghost use Rattle.cc_text.specs.Refusals.{file_line, image_line, port_line, sequence_line, certificate_line, assembly_line};
 
 use crate::refusal::FileFault;
+use c25_asm::AsmFault;
 use c25_image::{ImageFault, PortFault};
 use lay_cert::CertFault;
 use lay_text::SeqFault;
@@ -72,6 +73,30 @@ fn certificate_line(alloc: Global, name: &str, fault: CertFault) -> Result<Strin
     }
 }
 
+// The line that refuses an assembler text.
+fn assembly_line(alloc: Global, name: &str, fault: AsmFault) -> Result<String, NoMemory>
+    ensures { IfOk result (λ line. string_bytes line ≡ assembly_line name.now fault) }
+{
+    match fault {
+        AsmFault::BadLine { line } => {
+            Ok(format!(in alloc; "file refused: {name} bad line {line}\n")?)
+        }
+        AsmFault::UnknownLabel { line } => {
+            Ok(format!(in alloc; "file refused: {name} unknown label line {line}\n")?)
+        }
+        AsmFault::LabelTwice { line } => {
+            Ok(format!(in alloc; "file refused: {name} label twice line {line}\n")?)
+        }
+        AsmFault::OutOfRange { line } => {
+            Ok(format!(in alloc; "file refused: {name} out of range line {line}\n")?)
+        }
+        AsmFault::TooLong { count } => {
+            Ok(format!(in alloc; "file refused: {name} too long {count}\n")?)
+        }
+        AsmFault::NoMemory => Err(NoMemory),
+    }
+}
+
 /// The line that refuses a file of a name, with its line feed. Want of memory is no fault of one, and has none.
 pub fn file_line(alloc: Global, name: &str, fault: FileFault) -> Result<String, NoMemory>
     ensures { IfOk result (λ line. string_bytes line ≡ file_line name.now fault) }
@@ -83,5 +108,6 @@ pub fn file_line(alloc: Global, name: &str, fault: FileFault) -> Result<String, 
         FileFault::Ports(why) => port_line(alloc, name, why),
         FileFault::Sequence(why) => sequence_line(alloc, name, why),
         FileFault::Certificate(why) => certificate_line(alloc, name, why),
+        FileFault::Assembly(why) => assembly_line(alloc, name, why),
     }
 }

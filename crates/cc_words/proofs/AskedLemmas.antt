@@ -1,7 +1,6 @@
 -- From what `clap` says of its matches to what the words ask for.
-use Rattle.std.proofs.Common.{◌≡◌, ◌<◌, ◌∙◌, arith, ℕ, Bool, true, false, refl, sym, ap, subst, List, [], ◌∷◌, Option, Some, None, Result, Ok, Err, codes, cond, option_map}
-use Rattle.std.specs.Prelude.{◌^◌, option_and_then, slice_get, unwrap_or, String, string_bytes}
-use Rattle.std.specs.declared.alloc.Global.{Global}
+use Rattle.std.proofs.Common.{◌≡◌, ◌<◌, ◌∙◌, arith, ℕ, Bool, true, false, refl, sym, ap, subst, List, Option, Some, None, Result, Ok, Err, codes, cond, option_map}
+use Rattle.std.specs.Prelude.{◌^◌, option_and_then}
 use Rattle.clap.specs.declared.builder.value_parser.ValueParser.TheVariants as parser
 use Rattle.std.specs.Str.{bytes_eq}
 use Rattle.std.proofs.lemmas.Slice.Eq.{bytes_eq-Decides}
@@ -12,8 +11,10 @@ use Rattle.clap.proofs.ValueTestLemmas.{accepts-Accepts}
 use Rattle.clap.specs.Words.{App, Row, Text, first_of, is_simple, is_simple_and_free, matches_of, one_of, rows_of}
 use Rattle.clap.specs.declared.parser.matches.Found.{Found}
 use Rattle.clap.proofs.WalkLemmas.{both, first_value-rows, one_text-rows}
-use Rattle.cc_words.specs.Asked.{Asked, ToBuild, ToCheck, ToLayOut, asked, asked_to, build_of, check_of, is_number_to, is_taken, layout_of, number_of, number_to, numbered_of, texts_of}
-use Rattle.cc_words.specs.Commands.{greatest_budget, greatest_registers, greatest_step}
+use Rattle.cc_words.specs.Asked.{Asked, ToBuild, ToGenerate, ToLayOut, ToList, app_of_name, asked_to, both_of, build_of, dis_of, gen_of, is_number_to, is_taken, layout_of, name_of, number_of, number_to, numbered_of}
+use Rattle.cc_words.specs.Commands.{greatest_budget, greatest_program, greatest_registers, greatest_step}
+use Rattle.cc_words.specs.declared.name.Name.{Name}
+use Rattle.cc_words.specs.declared.name.Name.TheVariants as name
 
 -- what a getter gave is what the rows hold
 pub text_is : (f : Found) (id : Text) (o : Option Text) → o ≡ first_value f id → first_of id (rows_of f) ≡ o
@@ -56,15 +57,23 @@ pub build_found : (f : Found) (s i : Text) (m n d : Option ℕ) → Some s ≡ f
     → option_and_then (λ registers. option_and_then (λ budget. option_map (ToBuild s i registers budget) d) n) m ≡ build_of (rows_of f)
 build_found f s i m n d es ei em en ed = rw (text_is f (codes "source") (Some s) es, text_is f (codes "image") (Some i) ei, em, en, ed) refl
 
--- the matches of `check`, by what the getters gave
-pub no_checked : (f : Found) → None ≡ first_value f (codes "image") → None ≡ check_of (rows_of f)
-no_checked f e = rw (text_is f (codes "image") None e) refl
+-- the matches of a command of two names
+module _ (first second : Text) (what : Text → Text → Asked) where
+  pub lacks_first : (f : Found) → None ≡ first_value f first → None ≡ both_of first second what (rows_of f)
+  lacks_first f e = rw (text_is f first None e) refl
 
-pub no_certificate : (f : Found) (i : Text) → Some i ≡ first_value f (codes "image") → None ≡ first_value f (codes "certificate") → None ≡ check_of (rows_of f)
-no_certificate f i ei e = rw (text_is f (codes "image") (Some i) ei, text_is f (codes "certificate") None e) refl
+  pub lacks_second : (f : Found) (a : Text) → Some a ≡ first_value f first → None ≡ first_value f second → None ≡ both_of first second what (rows_of f)
+  lacks_second f a ea e = rw (text_is f first (Some a) ea, text_is f second None e) refl
 
-pub check_found : (f : Found) (i d : Text) → Some i ≡ first_value f (codes "image") → Some d ≡ first_value f (codes "certificate") → Some (ToCheck i d) ≡ check_of (rows_of f)
-check_found f i d ei ed = rw (text_is f (codes "image") (Some i) ei, text_is f (codes "certificate") (Some d) ed) refl
+  pub both_found : (f : Found) (a b : Text) → Some a ≡ first_value f first → Some b ≡ first_value f second → Some (what a b) ≡ both_of first second what (rows_of f)
+  both_found f a b ea eb = rw (text_is f first (Some a) ea, text_is f second (Some b) eb) refl
+
+-- the matches of `dis` and of `gen`, by what the getters gave
+pub listed : (f : Found) (image : Option Text) → image ≡ first_value f (codes "image") → option_map ToList image ≡ dis_of (rows_of f)
+listed f image e = rw (text_is f (codes "image") image e) refl
+
+pub made : (f : Found) (n : Option ℕ) → number_of (codes "number") greatest_program (rows_of f) ≡ n → option_map ToGenerate n ≡ gen_of (rows_of f)
+made f n e = ap (option_map ToGenerate) (sym e)
 
 -- the matches of a command of two names and a number
 module _ (first second number : Text) (greatest : ℕ) (what : Text → Text → ℕ → Asked) where
@@ -103,26 +112,26 @@ refused app wanted of_rows words is fails =
     let fits_here : is_taken wanted words ≡ false = subst (λ (a : App). is_taken a words ≡ false) is fails in
     sym (ap (λ b. cond b (of_rows (matches_of wanted words)) None) fits_here)
 
--- a first word that names no command
-pub no_command : (name : Text) (rest : List Text) → (name ≡ codes "build" → ⊥) → (name ≡ codes "run" → ⊥) → (name ≡ codes "means" → ⊥) → (name ≡ codes "exec" → ⊥) → (name ≡ codes "layout" → ⊥) → (name ≡ codes "check" → ⊥)
-    → None ≡ asked (name ∷ rest)
-no_command name rest not_build not_run not_means not_exec not_layout not_check = go (bytes_eq name (codes "build")) refl (bytes_eq name (codes "run")) refl (bytes_eq name (codes "means")) refl (bytes_eq name (codes "exec")) refl (bytes_eq name (codes "layout")) refl (bytes_eq name (codes "check")) refl
+no_text : (word other : Text) → (word ≡ other → ⊥) → bytes_eq word other ≡ false
+no_text word other differ = go (bytes_eq word other) refl
   where
-    go : (b : Bool) → bytes_eq name (codes "build") ≡ b → (r : Bool) → bytes_eq name (codes "run") ≡ r → (m : Bool) → bytes_eq name (codes "means") ≡ m → (x : Bool) → bytes_eq name (codes "exec") ≡ x
-        → (l : Bool) → bytes_eq name (codes "layout") ≡ l → (k : Bool) → bytes_eq name (codes "check") ≡ k → None ≡ asked (name ∷ rest)
-    go true e r f m g x h l i k j = absurd (not_build ((bytes_eq-Decides name (codes "build")).0 e))
-    go false e true f m g x h l i k j = absurd (not_run ((bytes_eq-Decides name (codes "run")).0 f))
-    go false e false f true g x h l i k j = absurd (not_means ((bytes_eq-Decides name (codes "means")).0 g))
-    go false e false f false g true h l i k j = absurd (not_exec ((bytes_eq-Decides name (codes "exec")).0 h))
-    go false e false f false g false h true i k j = absurd (not_layout ((bytes_eq-Decides name (codes "layout")).0 i))
-    go false e false f false g false h false i true j = absurd (not_check ((bytes_eq-Decides name (codes "check")).0 j))
-    go false e false f false g false h false i false j = rw (e, f, g, h, i, j) refl
+    go : (b : Bool) → bytes_eq word other ≡ b → bytes_eq word other ≡ false
+    go true e = absurd (differ ((bytes_eq-Decides word other).0 e))
+    go false e = e
 
--- the first of the words names no command
-pub no_command_first : (words : List (String Global)) (name : String Global) → Some name ≡ slice_get words 0
-    → (string_bytes name ≡ codes "build" → ⊥) → (string_bytes name ≡ codes "run" → ⊥) → (string_bytes name ≡ codes "means" → ⊥) → (string_bytes name ≡ codes "exec" → ⊥) → (string_bytes name ≡ codes "layout" → ⊥) → (string_bytes name ≡ codes "check" → ⊥)
-    → None ≡ asked (texts_of words)
-no_command_first [] name is not_build not_run not_means not_exec not_layout not_check = cc
-no_command_first (w ∷ ws) name is not_build not_run not_means not_exec not_layout not_check =
-    let same : name ≡ w = ap (λ o. unwrap_or o name) is in
-    no_command (string_bytes w) (texts_of ws) (λ e. not_build (ap string_bytes same ∙ e)) (λ e. not_run (ap string_bytes same ∙ e)) (λ e. not_means (ap string_bytes same ∙ e)) (λ e. not_exec (ap string_bytes same ∙ e)) (λ e. not_layout (ap string_bytes same ∙ e)) (λ e. not_check (ap string_bytes same ∙ e))
+-- each command is a simple one
+pub all_simple : (n : Name) → is_simple_and_free (app_of_name n) ≡ true
+all_simple name.Build = refl
+all_simple name.Run = refl
+all_simple name.Means = refl
+all_simple name.Exec = refl
+all_simple name.Layout = refl
+all_simple name.Check = refl
+all_simple name.Asm = refl
+all_simple name.Dis = refl
+all_simple name.Gen = refl
+
+-- a word that names no command
+pub no_name : (word : Text) → (word ≡ codes "build" → ⊥) → (word ≡ codes "run" → ⊥) → (word ≡ codes "means" → ⊥) → (word ≡ codes "exec" → ⊥) → (word ≡ codes "layout" → ⊥) → (word ≡ codes "check" → ⊥) → (word ≡ codes "asm" → ⊥) → (word ≡ codes "dis" → ⊥) → (word ≡ codes "gen" → ⊥) → None ≡ name_of word
+no_name word not_build not_run not_means not_exec not_layout not_check not_asm not_dis not_gen =
+    rw (no_text word (codes "build") not_build, no_text word (codes "run") not_run, no_text word (codes "means") not_means, no_text word (codes "exec") not_exec, no_text word (codes "layout") not_layout, no_text word (codes "check") not_check, no_text word (codes "asm") not_asm, no_text word (codes "dis") not_dis, no_text word (codes "gen") not_gen) refl

@@ -28,7 +28,7 @@ use Rattle.clap.proofs.CallerLemmas.{entry_by_id, same_rules_by_id}
 use Rattle.clap.proofs.ValueTestLemmas.{Accepts-accepts}
 use Rattle.clap.proofs.WalkLemmas.{both}
 use Rattle.cc_words.specs.Asked.{is_number_to}
-use Rattle.cc_words.specs.Commands.{budget_rule, build_app, exec_app, greatest_budget, greatest_registers, greatest_step, greatest_steps, greatest_turns, layout_app, means_app, name_rule, number_rule, numbered_app, registers_rule, run_app, step_rule}
+use Rattle.cc_words.specs.Commands.{budget_rule, build_app, count_rule, exec_app, gen_app, greatest_budget, greatest_program, greatest_registers, greatest_step, greatest_steps, greatest_turns, layout_app, means_app, name_rule, number_rule, numbered_app, registers_rule, run_app, step_rule}
 
 -- ---- what an entry gives, where no group has one and each value passes Q
 
@@ -135,6 +135,13 @@ step_own = record {
   named = λ e. apart 0 4 (sym (ap length e)) (omega arith);
   no_help = λ e. apart 104 115 (sym (first_byte (codes "step") (codes "help") e)) (omega arith);
   no_version = λ e. apart 115 118 (first_byte (codes "step") (codes "version") e) (omega arith);
+}
+
+number_own : IsOwn (codes "number")
+number_own = record {
+  named = λ e. apart 0 6 (sym (ap length e)) (omega arith);
+  no_help = λ e. apart 104 110 (sym (first_byte (codes "number") (codes "help") e)) (omega arith);
+  no_version = λ e. apart 110 118 (first_byte (codes "number") (codes "version") e) (omega arith);
 }
 
 -- the number's rule stands at the place, and no other has its id
@@ -406,3 +413,30 @@ build_budget_in_range = number_in_range 3 build_rules (codes "budget") greatest_
 pub step_in_range : (old : Command) (m : ArgMatches) → IsParsedFrom old m → app_of old ≡ build_app → (t : Text) → one_text (found_of m) (codes "step") ≡ Some t
     → is_number_to greatest_step t ≡ true
 step_in_range = number_in_range 4 build_rules (codes "step") greatest_step fifth_is_step build_app refl refl
+
+-- ---- `gen`
+
+abbrev gen_rules : List Rule
+gen_rules = count_rule (codes "number") greatest_program ∷ []
+
+first_is_number : IsNumberAt 0 gen_rules (codes "number") greatest_program
+first_is_number = record {
+  own = number_own;
+  has = omega arith;
+  parser_is = λ d. refl;
+  id_is = λ d. refl;
+  one = only;
+  simple = plain;
+}
+  where
+    only : (j : ℕ) (d : Rule) → j < 1 → bytes_eq (slice_index_or gen_rules j d).id (codes "number") ≡ true → j ≡ 0
+    only zero d lt same = refl
+    only (suc j) d lt same = absurd (omega arith)
+
+    plain : (j : ℕ) (d : Rule) → j < 1 → (slice_index_or gen_rules j d).is_simple ≡ true
+    plain zero d lt = refl
+    plain (suc j) d lt = absurd (omega arith)
+
+pub program_in_range : (old : Command) (m : ArgMatches) → IsParsedFrom old m → app_of old ≡ gen_app → (t : Text) → one_text (found_of m) (codes "number") ≡ Some t
+    → is_number_to greatest_program t ≡ true
+program_in_range = number_in_range 0 gen_rules (codes "number") greatest_program first_is_number gen_app refl refl

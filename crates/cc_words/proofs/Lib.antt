@@ -3,3 +3,4 @@ pub mod PlainLemmas
 pub mod LayoutLemmas
 pub mod BuildLemmas
 pub mod BoundLemmas
+pub mod AssemblyLemmas

@@ -14,8 +14,10 @@ use Rattle.clap.specs.declared.builder.value_parser.Reading.TheVariants as readi
 use Rattle.clap.specs.Kinds.{or_else, value_kinds}
 use Rattle.clap.specs.Walk.{is_empty}
 use Rattle.clap.proofs.OnLiterals.{clap_on_literals}
-use Rattle.cc_words.specs.Asked.{Asked, ToBuild, ToCheck, ToRun, ToEvaluate, ToExecute, ToLayOut, asked, asked_to, asked_to_build, asked_to_check, asked_to_evaluate, asked_to_execute, asked_to_lay_out, asked_to_run, build_of, check_of, exec_of, is_number_to, is_plain_word, is_taken, layout_of, means_of, number_of, number_to, numbered_of, run_of}
-use Rattle.cc_words.specs.Commands.{build_app, check_app, exec_app, greatest_budget, greatest_registers, greatest_step, greatest_steps, greatest_turns, layout_app, means_app, numbered_app, run_app, steps_rule, turns_rule}
+use Rattle.cc_words.specs.declared.name.Name.{Name}
+use Rattle.cc_words.specs.declared.name.Name.TheVariants as name
+use Rattle.cc_words.specs.Asked.{Asked, ToAssemble, ToBuild, ToCheck, ToGenerate, ToList, ToRun, ToEvaluate, ToExecute, ToLayOut, app_of_name, asked, asked_to, asked_to_build, asked_to_check, both_of, build_of, check_of, dis_of, gen_of, name_of, rows_ask, exec_of, is_number_to, is_plain_word, is_taken, layout_of, means_of, number_of, number_to, numbered_of, run_of}
+use Rattle.cc_words.specs.Commands.{build_app, check_app, exec_app, greatest_budget, greatest_program, greatest_registers, greatest_step, greatest_steps, greatest_turns, means_app, numbered_app, run_app, steps_rule, turns_rule}
 use Rattle.cc_words.specs.Plain.{AsksFor, AsksWithin, BuildsNoOtherNames, ChecksNoOtherNames, ExecutesWithSteps, ExecutesWithStepsAttached, ExecutesWithStepsFirst, IsWithinBounds, MeansWithTurns, MeansWithTurnsAttached, MeansWithTurnsFirst, RunsWithSteps, RunsWithStepsAttached, RunsWithStepsFirst}
 
 -- the word is no `--`, no `--name` and no `-n`
@@ -433,13 +435,27 @@ build_bounded rows = parts (first_of (codes "source") rows) (first_of (codes "im
         let third = given_bounded (codes "step") greatest_step rows d g in
         (first.0, first.1, second.0, second.1, third.0, third.1)
 
-check_bounded : (rows : List Row) → IfSome (check_of rows) IsWithinBounds
-check_bounded rows = names (first_of (codes "image") rows) (first_of (codes "certificate") rows)
+both_bounded : (first second : Text) (what : Text → Text → Asked) → ((a b : Text) → IsWithinBounds (what a b)) → (rows : List Row) → IfSome (both_of first second what rows) IsWithinBounds
+both_bounded first second what within rows = names (first_of first rows) (first_of second rows)
   where
-    names : (i d : Option Text) → IfSome (option_and_then (λ image. option_map (ToCheck image) d) i) IsWithinBounds
-    names None d = tt
-    names (Some i) None = tt
-    names (Some i) (Some d) = tt
+    names : (a b : Option Text) → IfSome (option_and_then (λ a. option_map (what a) b) a) IsWithinBounds
+    names None b = tt
+    names (Some a) None = tt
+    names (Some a) (Some b) = within a b
+
+dis_bounded : (rows : List Row) → IfSome (dis_of rows) IsWithinBounds
+dis_bounded rows = go (first_of (codes "image") rows)
+  where
+    go : (o : Option Text) → IfSome (option_map ToList o) IsWithinBounds
+    go None = tt
+    go (Some image) = tt
+
+gen_bounded : (rows : List Row) → IfSome (gen_of rows) IsWithinBounds
+gen_bounded rows = go (number_of (codes "number") greatest_program rows) refl
+  where
+    go : (o : Option ℕ) → number_of (codes "number") greatest_program rows ≡ o → IfSome (option_map ToGenerate o) IsWithinBounds
+    go None e = tt
+    go (Some n) e = given_bounded (codes "number") greatest_program rows n e
 
 layout_bounded : (rows : List Row) → IfSome (layout_of rows) IsWithinBounds
 layout_bounded rows = parts (first_of (codes "sequence") rows) (number_of (codes "registers") greatest_registers rows) (number_of (codes "budget") greatest_budget rows) refl refl
@@ -459,19 +475,25 @@ taken_only : (t : Bool) (o : Option Asked) → IfSome o IsWithinBounds → IfSom
 taken_only true o h = h
 taken_only false o h = tt
 
+rows_bounded : (n : Name) (rows : List Row) → IfSome (rows_ask n rows) IsWithinBounds
+rows_bounded name.Build = build_bounded
+rows_bounded name.Run = numbered_bounded _ _ _ greatest_steps ToRun (λ a b n h. h)
+rows_bounded name.Means = numbered_bounded _ _ _ greatest_turns ToEvaluate (λ a b n h. h)
+rows_bounded name.Exec = numbered_bounded _ _ _ greatest_steps ToExecute (λ a b n h. h)
+rows_bounded name.Layout = layout_bounded
+rows_bounded name.Check = both_bounded _ _ ToCheck (λ a b. tt)
+rows_bounded name.Asm = both_bounded _ _ ToAssemble (λ a b. tt)
+rows_bounded name.Dis = dis_bounded
+rows_bounded name.Gen = gen_bounded
+
 pub within_asked : AsksWithin
 unfolding asked_to
 within_asked [] = tt
-within_asked (name ∷ rest) = go (bytes_eq name (codes "build")) (bytes_eq name (codes "run")) (bytes_eq name (codes "means")) (bytes_eq name (codes "exec")) (bytes_eq name (codes "layout")) (bytes_eq name (codes "check"))
+within_asked (word ∷ rest) = go (name_of word)
   where
     words : List Text
-    words = name ∷ rest
+    words = word ∷ rest
 
-    go : (b r m x l k : Bool) → IfSome (cond b (asked_to_build words) (cond r (asked_to_run words) (cond m (asked_to_evaluate words) (cond x (asked_to_execute words) (cond l (asked_to_lay_out words) (cond k (asked_to_check words) None)))))) IsWithinBounds
-    go true r m x l k = taken_only (is_taken build_app words) (build_of (matches_of build_app words)) (build_bounded (matches_of build_app words))
-    go false true m x l k = taken_only (is_taken run_app words) (run_of (matches_of run_app words)) (numbered_bounded _ _ _ greatest_steps ToRun (λ a b n h. h) (matches_of run_app words))
-    go false false true x l k = taken_only (is_taken means_app words) (means_of (matches_of means_app words)) (numbered_bounded _ _ _ greatest_turns ToEvaluate (λ a b n h. h) (matches_of means_app words))
-    go false false false true l k = taken_only (is_taken exec_app words) (exec_of (matches_of exec_app words)) (numbered_bounded _ _ _ greatest_steps ToExecute (λ a b n h. h) (matches_of exec_app words))
-    go false false false false true k = taken_only (is_taken layout_app words) (layout_of (matches_of layout_app words)) (layout_bounded (matches_of layout_app words))
-    go false false false false false true = taken_only (is_taken check_app words) (check_of (matches_of check_app words)) (check_bounded (matches_of check_app words))
-    go false false false false false false = tt
+    go : (o : Option Name) → IfSome (option_and_then (λ n. asked_to (app_of_name n) (rows_ask n) words) o) IsWithinBounds
+    go None = tt
+    go (Some n) = taken_only (is_taken (app_of_name n) words) (rows_ask n (matches_of (app_of_name n) words)) (rows_bounded n (matches_of (app_of_name n) words))

@@ -8,9 +8,11 @@ use Rattle.std.specs.declared.alloc.Global.{Global}
 use Rattle.clap.specs.ValueTests.{is_unsigned_in}
 use Rattle.clap.specs.Walk.{is_empty}
 use Rattle.clap.specs.Words.{App, Row, Text, fault_of, first_of, matches_of, one_of}
-use Rattle.cc_words.specs.Commands.{build_app, check_app, exec_app, layout_app, means_app, run_app}
-use Rattle.cc_words.specs.Commands.{greatest_budget, greatest_registers, greatest_step}
+use Rattle.cc_words.specs.Commands.{asm_app, build_app, check_app, dis_app, exec_app, gen_app, layout_app, means_app, run_app}
+use Rattle.cc_words.specs.Commands.{greatest_budget, greatest_program, greatest_registers, greatest_step}
 use Rattle.cc_words.specs.Commands.{greatest_steps, greatest_turns}
+use Rattle.cc_words.specs.declared.name.Name.{Name}
+use Rattle.cc_words.specs.declared.name.Name.TheVariants as name
 use Rattle.cc_words.specs.declared.asked.Request.{Request}
 use Rattle.cc_words.specs.declared.asked.Request.TheVariants as request
 
@@ -21,8 +23,9 @@ texts_of words = map string_bytes words
 -- what is asked for: to build an image of a source, with layouts for so many registers, each searched
 -- within so large a budget, at such a step, to run an image on ports for at most so many steps, to
 -- evaluate a source on ports with at most so many turns, to compile a source and run it so, to search a
--- layout of a sequence for so many registers within so large a budget, or to check an image by a
--- certificate
+-- layout of a sequence for so many registers within so large a budget, to check an image by a
+-- certificate, to assemble a text to an image, to list an image, or to make a program from a number and
+-- run it
 pub data Asked : Type 0 where
   ToBuild : Text → Text → ℕ → ℕ → ℕ → Asked
   ToRun : Text → Text → ℕ → Asked
@@ -30,6 +33,9 @@ pub data Asked : Type 0 where
   ToExecute : Text → Text → ℕ → Asked
   ToLayOut : Text → ℕ → ℕ → Asked
   ToCheck : Text → Text → Asked
+  ToAssemble : Text → Text → Asked
+  ToList : Text → Asked
+  ToGenerate : ℕ → Asked
 
 -- a request, as what it asks for
 abbrev pub told : Request → Asked
@@ -40,6 +46,9 @@ told (request.Means asked) = ToEvaluate asked.source.now asked.ports.now asked.t
 told (request.Exec asked) = ToExecute asked.source.now asked.ports.now asked.steps
 told (request.Layout asked) = ToLayOut asked.sequence.now asked.registers asked.budget
 told (request.Check asked) = ToCheck asked.image.now asked.certificate.now
+told (request.Asm asked) = ToAssemble asked.text.now asked.image.now
+told (request.Dis asked) = ToList asked.image.now
+told (request.Gen asked) = ToGenerate asked.number
 
 -- the text writes a number in decimal, from 1 to the greatest; a plus may stand first
 abbrev pub is_number_to : ℕ → Text → Bool
@@ -93,11 +102,27 @@ layout_of rows = option_and_then (λ sequence. option_and_then (λ registers.
     (number_of (codes "registers") greatest_registers rows))
     (first_of (codes "sequence") rows)
 
+-- what the matches of a command of two names ask for
+abbrev pub both_of : Text → Text → (Text → Text → Asked) → List Row → Option Asked
+both_of first second what rows = option_and_then (λ a.
+    option_map (what a) (first_of second rows))
+    (first_of first rows)
+
 -- what the matches of `check` ask for
 abbrev pub check_of : List Row → Option Asked
-check_of rows = option_and_then (λ image.
-    option_map (ToCheck image) (first_of (codes "certificate") rows))
-    (first_of (codes "image") rows)
+check_of = both_of (codes "image") (codes "certificate") ToCheck
+
+-- what the matches of `asm` ask for
+abbrev pub asm_of : List Row → Option Asked
+asm_of = both_of (codes "text") (codes "image") ToAssemble
+
+-- what the matches of `dis` ask for
+abbrev pub dis_of : List Row → Option Asked
+dis_of rows = option_map ToList (first_of (codes "image") rows)
+
+-- what the matches of `gen` ask for
+abbrev pub gen_of : List Row → Option Asked
+gen_of rows = option_map ToGenerate (number_of (codes "number") greatest_program rows)
 
 -- `clap` takes the words as those of the command
 abbrev pub is_taken : App → List Text → Bool
@@ -125,18 +150,55 @@ asked_to_lay_out = asked_to layout_app layout_of
 abbrev pub asked_to_check : List Text → Option Asked
 asked_to_check = asked_to check_app check_of
 
-abbrev pub asked_by : Text → List Text → Option Asked
-asked_by name words = if bytes_eq name (codes "build") then asked_to_build words
-    else (if bytes_eq name (codes "run") then asked_to_run words
-    else (if bytes_eq name (codes "means") then asked_to_evaluate words
-    else (if bytes_eq name (codes "exec") then asked_to_execute words
-    else (if bytes_eq name (codes "layout") then asked_to_lay_out words
-    else (if bytes_eq name (codes "check") then asked_to_check words else None)))))
+abbrev pub asked_to_assemble : List Text → Option Asked
+asked_to_assemble = asked_to asm_app asm_of
+
+abbrev pub asked_to_list : List Text → Option Asked
+asked_to_list = asked_to dis_app dis_of
+
+abbrev pub asked_to_generate : List Text → Option Asked
+asked_to_generate = asked_to gen_app gen_of
+
+-- the command that a word chooses
+abbrev pub name_of : Text → Option Name
+name_of word = if bytes_eq word (codes "build") then Some name.Build
+    else (if bytes_eq word (codes "run") then Some name.Run
+    else (if bytes_eq word (codes "means") then Some name.Means
+    else (if bytes_eq word (codes "exec") then Some name.Exec
+    else (if bytes_eq word (codes "layout") then Some name.Layout
+    else (if bytes_eq word (codes "check") then Some name.Check
+    else (if bytes_eq word (codes "asm") then Some name.Asm
+    else (if bytes_eq word (codes "dis") then Some name.Dis
+    else (if bytes_eq word (codes "gen") then Some name.Gen else None))))))))
+
+-- how `clap` reads the words of a command
+abbrev pub app_of_name : Name → App
+app_of_name name.Build = build_app
+app_of_name name.Run = run_app
+app_of_name name.Means = means_app
+app_of_name name.Exec = exec_app
+app_of_name name.Layout = layout_app
+app_of_name name.Check = check_app
+app_of_name name.Asm = asm_app
+app_of_name name.Dis = dis_app
+app_of_name name.Gen = gen_app
+
+-- what its matches ask for
+abbrev pub rows_ask : Name → List Row → Option Asked
+rows_ask name.Build = build_of
+rows_ask name.Run = run_of
+rows_ask name.Means = means_of
+rows_ask name.Exec = exec_of
+rows_ask name.Layout = layout_of
+rows_ask name.Check = check_of
+rows_ask name.Asm = asm_of
+rows_ask name.Dis = dis_of
+rows_ask name.Gen = gen_of
 
 -- what the words ask for, if anything: the first word chooses the command
 abbrev pub asked : List Text → Option Asked
 asked [] = None
-asked (name ∷ rest) = asked_by name (name ∷ rest)
+asked (word ∷ rest) = option_and_then (λ n. asked_to (app_of_name n) (rows_ask n) (word ∷ rest)) (name_of word)
 
 -- the words ask for this, and for nothing
 abbrev pub Asks : List Text → Asked → Type 0

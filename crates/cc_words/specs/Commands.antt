@@ -1,6 +1,7 @@
 -- The commands, as `clap` reads them.
 use Rattle.std.specs.Prelude.{ℕ, true, [], ◌∷◌, Some, codes}
 use Rattle.clap.specs.Words.{App, Rule, Text, new_app, new_rule, with_rule}
+use Rattle.clap.specs.declared.builder.value_parser.ValueParser.{ValueParser}
 use Rattle.clap.specs.declared.builder.value_parser.ValueParser.TheVariants as parser
 
 -- the greatest number of steps that a run may have
@@ -23,17 +24,25 @@ greatest_budget = 1000000
 abbrev pub greatest_step : ℕ
 greatest_step = 8
 
+-- the greatest number from which a program is made
+abbrev pub greatest_program : ℕ
+greatest_program = 200
+
 -- a name that has to be there
 abbrev pub name_rule : Text → Rule
 name_rule id = record (new_rule id) { required = true }
 
--- an option with a number from 1 to the greatest, where none is given the usual one
+-- a number from 1 to the greatest that has to be there
+abbrev pub count_rule : Text → ℕ → Rule
+count_rule id greatest = record (new_rule id) { required = true; parser = Some (parser.Unsigned 1 greatest) }
+
+-- an option with a number that the parser takes, where none is given the usual one
+abbrev pub option_rule : Text → Text → ValueParser → Rule
+option_rule id usual p = record (new_rule id) { long = Some id; defaults = usual ∷ []; parser = Some p }
+
+-- with a number from 1 to the greatest
 abbrev pub number_rule : Text → Text → ℕ → Rule
-number_rule id usual greatest = record (new_rule id) {
-  long = Some id;
-  defaults = usual ∷ [];
-  parser = Some (parser.Unsigned 1 greatest);
-}
+number_rule id usual greatest = option_rule id usual (parser.Unsigned 1 greatest)
 
 -- the same, called by a letter and by no long name
 abbrev pub letter_rule : Text → ℕ → Text → ℕ → Rule
@@ -63,11 +72,13 @@ budget_rule = number_rule (codes "budget") (codes "200000") greatest_budget
 abbrev pub step_rule : Rule
 step_rule = number_rule (codes "step") (codes "1") greatest_step
 
+-- a command of one name
+abbrev pub single_app : Text → Text → App
+single_app name first = with_rule (new_app name) (name_rule first)
+
 -- a command of two names
 abbrev pub named_app : Text → Text → Text → App
-named_app name first second = with_rule
-    (with_rule (new_app name) (name_rule first))
-    (name_rule second)
+named_app name first second = with_rule (single_app name first) (name_rule second)
 
 -- `build SRC IMG [-r N] [--budget B] [--step D]`
 abbrev pub build_app : App
@@ -101,6 +112,18 @@ check_app = named_app (codes "check") (codes "image") (codes "certificate")
 abbrev pub layout_app : App
 layout_app = with_rule
     (with_rule
-    (with_rule (new_app (codes "layout")) (name_rule (codes "sequence")))
+    (single_app (codes "layout") (codes "sequence"))
     registers_rule)
     budget_rule
+
+-- `asm TEXT IMG`
+abbrev pub asm_app : App
+asm_app = named_app (codes "asm") (codes "text") (codes "image")
+
+-- `dis IMG`
+abbrev pub dis_app : App
+dis_app = single_app (codes "dis") (codes "image")
+
+-- `gen N`
+abbrev pub gen_app : App
+gen_app = with_rule (new_app (codes "gen")) (count_rule (codes "number") greatest_program)

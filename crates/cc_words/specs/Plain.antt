@@ -2,9 +2,9 @@
 use Rattle.std.specs.Prelude.{◌≡◌, ◌≢◌, ◌≤◌, ◌++◌, ℕ, ⊤, true, false, List, [], ◌∷◌, IfSome, codes}
 use Rattle.std.specs.Str.Parse.{digits_value, without_leading_plus}
 use Rattle.clap.specs.Words.{Text}
-use Rattle.cc_words.specs.Asked.{Asked, ToBuild, ToRun, ToEvaluate, ToExecute, ToLayOut, ToCheck}
+use Rattle.cc_words.specs.Asked.{Asked, ToBuild, ToRun, ToEvaluate, ToExecute, ToLayOut, ToCheck, ToAssemble, ToList, ToGenerate}
 use Rattle.cc_words.specs.Asked.{Asks, AsksNothing, asked, is_number_to, is_plain_word}
-use Rattle.cc_words.specs.Commands.{greatest_budget, greatest_registers, greatest_step}
+use Rattle.cc_words.specs.Commands.{greatest_budget, greatest_program, greatest_registers, greatest_step}
 use Rattle.cc_words.specs.Commands.{greatest_steps, greatest_turns}
 
 -- a fact of any two words that look like no option
@@ -225,9 +225,38 @@ ChecksNoOtherNames = AsksNothing (codes "check" ∷ [])
     × OnPlain (λ a b. (c : Text) (rest : List Text) → is_plain_word c ≡ true
     → AsksNothing (codes "check" ∷ a ∷ b ∷ c ∷ rest))
 
+-- `asm TEXT IMG`
+abbrev pub AssemblesTwoNames : Type 0
+AssemblesTwoNames = OnPlain (λ a b. Asks (codes "asm" ∷ a ∷ b ∷ []) (ToAssemble a b))
+
+-- `asm` with fewer names, or with more, whatever follows
+abbrev pub AssemblesNoOtherNames : Type 0
+AssemblesNoOtherNames = AsksNothing (codes "asm" ∷ [])
+    × ((a : Text) → is_plain_word a ≡ true → AsksNothing (codes "asm" ∷ a ∷ []))
+    × OnPlain (λ a b. (c : Text) (rest : List Text) → is_plain_word c ≡ true
+    → AsksNothing (codes "asm" ∷ a ∷ b ∷ c ∷ rest))
+
+-- `dis IMG`
+abbrev pub ListsOneName : Type 0
+ListsOneName = (a : Text) → is_plain_word a ≡ true → Asks (codes "dis" ∷ a ∷ []) (ToList a)
+
+-- `dis` with no name, or with more than one, whatever follows
+abbrev pub ListsNoOtherNames : Type 0
+ListsNoOtherNames = AsksNothing (codes "dis" ∷ [])
+    × OnPlain (λ a b. (rest : List Text) → AsksNothing (codes "dis" ∷ a ∷ b ∷ rest))
+
+-- `gen N`, where N looks like no option
+abbrev pub GeneratesOneNumber : Type 0
+GeneratesOneNumber = (text : Text) → is_plain_word text ≡ true
+    → AsksFor greatest_program ToGenerate text (codes "gen" ∷ text ∷ [])
+
+-- `gen` with no number
+abbrev pub GeneratesNoOtherWords : Type 0
+GeneratesNoOtherWords = AsksNothing (codes "gen" ∷ [])
+
 -- a run is of 1 to 100,000,000 steps, a loop of an evaluation has 1 to 1,000,000 turns, a search for a
 -- layout is for 1 to 4 registers within a budget of 1 to 1,000,000 nodes, and those of a build are so at
--- a step of 1 to 8
+-- a step of 1 to 8; a program is made from a number of 1 to 200
 abbrev pub IsWithinBounds : Asked → Type 0
 IsWithinBounds (ToBuild source image registers budget step) = (1 ≤ registers)
     × (registers ≤ greatest_registers) × (1 ≤ budget) × (budget ≤ greatest_budget)
@@ -238,6 +267,9 @@ IsWithinBounds (ToExecute source ports steps) = (1 ≤ steps) × (steps ≤ grea
 IsWithinBounds (ToLayOut sequence registers budget) = (1 ≤ registers)
     × (registers ≤ greatest_registers) × (1 ≤ budget) × (budget ≤ greatest_budget)
 IsWithinBounds (ToCheck image certificate) = ⊤
+IsWithinBounds (ToAssemble text image) = ⊤
+IsWithinBounds (ToList image) = ⊤
+IsWithinBounds (ToGenerate number) = (1 ≤ number) × (number ≤ greatest_program)
 
 -- and that holds of whatever is asked for
 abbrev pub AsksWithin : Type 0

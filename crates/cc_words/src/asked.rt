@@ -1,18 +1,23 @@
 //! What the words ask for.
 ghost use Rattle.std.specs.Prelude.{◌≡◌, IfOk, option_map};
-ghost use Rattle.cc_words.specs.Asked.{asked, texts_of, told};
+ghost use Rattle.cc_words.specs.Asked.{app_of_name, asked, asked_to, rows_ask, texts_of, told};
 
-use crate::build::{self, Build};
-use crate::check::{self, Check};
-use crate::exec::{self, Exec};
-use crate::layout::{self, Layout};
-use crate::means::{self, Means};
-use crate::run::{self, Run};
+use crate::asm::Asm;
+use crate::build::Build;
+use crate::check::Check;
+use crate::commands::parsed;
+use crate::dis::Dis;
+use crate::exec::Exec;
+use crate::generated::Gen;
+use crate::layout::Layout;
+use crate::means::Means;
+use crate::name::Name;
+use crate::run::Run;
 use std::alloc::Global;
 use word_base::NoMemory;
 
 /// What is asked for, by command.
-#[derive(Clone, Copy, Debug, PartialEq, Eq)]
+#[derive(Clone, Copy, Debug)]
 pub enum Request<'a> {
     Build(Build<'a>),
     Run(Run<'a>),
@@ -20,6 +25,24 @@ pub enum Request<'a> {
     Exec(Exec<'a>),
     Layout(Layout<'a>),
     Check(Check<'a>),
+    Asm(Asm<'a>),
+    Dis(Dis<'a>),
+    Gen(Gen),
+}
+
+// What the words of a command ask for, of which the first is its name.
+fn asked_by<'a>(
+    alloc: Global,
+    name: Name,
+    words: &'a [String],
+) -> Result<Option<Request<'a>>, NoMemory>
+    ensures { IfOk result (λ r. option_map told r ≡ asked_to (app_of_name name) (rows_ask name) (texts_of words.entry.now)) }
+{
+    let command = name.command(alloc)?;
+    match parsed(command, words)? {
+        Some(matches) => Ok(name.found(&matches)),
+        None => Ok(None),
+    }
 }
 
 /// What the words behind the program's name ask for, or `None` where they are refused. The first
@@ -27,16 +50,11 @@ pub enum Request<'a> {
 pub fn requested<'a>(alloc: Global, words: &'a [String]) -> Result<Option<Request<'a>>, NoMemory>
     ensures { IfOk result (λ r. option_map told r ≡ asked (texts_of words.entry.now)) }
 {
-    let Some(name) = words.first() else {
+    let Some(word) = words.first() else {
         return Ok(None);
     };
-    match name.as_str() {
-        "build" => build::request(alloc, words),
-        "run" => run::request(alloc, words),
-        "means" => means::request(alloc, words),
-        "exec" => exec::request(alloc, words),
-        "layout" => layout::request(alloc, words),
-        "check" => check::request(alloc, words),
-        _ => Ok(None),
+    match Name::of(word.as_str()) {
+        Some(name) => asked_by(alloc, name, words),
+        None => Ok(None),
     }
 }

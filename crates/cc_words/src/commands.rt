@@ -1,12 +1,12 @@
 //! How `clap` reads the words of a command.
 ghost use Rattle.std.specs.Prelude.{◌≡◌, IfOk, MatchOption, true, false};
-ghost use Rattle.clap.specs.Words.{IsParsedFrom, app_of, found_of, is_simple_and_free, matches_of, rows_of, rule_of};
+ghost use Rattle.clap.specs.Words.{IsParsedFrom, app_of, found_of, is_simple_and_free, matches_of, rows_of, rule_of, with_rule};
 ghost use Rattle.cc_words.specs.Asked.{is_taken, texts_of};
-ghost use Rattle.cc_words.specs.Commands.{name_rule};
+ghost use Rattle.cc_words.specs.Commands.{name_rule, named_app, single_app};
 
 use clap::error::ErrorKind;
 use clap::{Arg, ArgMatches, Command};
-use std::alloc::Global;
+use std::alloc::{AllocError, Global};
 use word_base::NoMemory;
 
 /// A word that has to be given.
@@ -15,6 +15,43 @@ pub(crate) fn required<'a>(alloc: Global, name: &'a str) -> Arg<'a>
     ensures own { result.global ≡ false }
 {
     Arg::new(alloc, name).required(true)
+}
+
+/// A command of one name.
+pub(crate) fn single<'a>(
+    alloc: Global,
+    name: &'a str,
+    first: &'a str,
+) -> Result<Command<'a>, AllocError>
+    ensures { IfOk result (λ c. app_of c ≡ single_app name.now first.now) }
+{
+    Command::new(alloc, name).arg(required(alloc, first))
+}
+
+/// A command of two names.
+pub(crate) fn two_names<'a>(
+    alloc: Global,
+    name: &'a str,
+    first: &'a str,
+    second: &'a str,
+) -> Result<Command<'a>, AllocError>
+    ensures { IfOk result (λ c. app_of c ≡ named_app name.now first.now second.now) }
+{
+    single(alloc, name, first)?.arg(required(alloc, second))
+}
+
+/// A command of two names and an option.
+pub(crate) fn numbered<'a>(
+    alloc: Global,
+    name: &'a str,
+    first: &'a str,
+    second: &'a str,
+    option: Arg<'a>,
+) -> Result<Command<'a>, AllocError>
+    requires { option.global ≡ false }
+    ensures { IfOk result (λ c. app_of c ≡ with_rule (named_app name.now first.now second.now) (rule_of option.entry)) }
+{
+    two_names(alloc, name, first, second)?.arg(option)
 }
 
 /// The matches of a command on the words, of which the first is its name, or `None` where it

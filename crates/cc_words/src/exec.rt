@@ -1,18 +1,15 @@
 //! `exec SRC PORTS [--steps M]`.
-ghost use Rattle.std.specs.Prelude.{◌≡◌, ℕ, List, Some, true, IfOk, codes, option_map};
-ghost use Rattle.clap.specs.Words.{app_of, found_of, one_text, rows_of};
-ghost use Rattle.cc_words.specs.Asked.{asked_to_execute, is_number_to, exec_of, texts_of, told};
-ghost use Rattle.cc_words.specs.Commands.{exec_app, greatest_steps};
+ghost use Rattle.std.specs.Prelude.{◌≡◌, option_map};
+ghost use Rattle.clap.specs.Words.{found_of, rows_of};
+ghost use Rattle.cc_words.specs.Asked.{exec_of, told};
+ghost use Rattle.cc_words.specs.Commands.{exec_app};
+ghost use Rattle.cc_words.specs.Parsed.{IsOf};
 
 use crate::asked::Request;
-use crate::commands::{parsed, required};
-use crate::options::steps;
-use clap::{ArgMatches, Command};
-use std::alloc::{AllocError, Global};
-use word_base::NoMemory;
+use clap::ArgMatches;
 
 /// To compile a source and run it.
-#[derive(Clone, Copy, Debug, PartialEq, Eq)]
+#[derive(Clone, Copy, Debug)]
 pub struct Exec<'a> {
     /// The name of the source.
     pub source: &'a str,
@@ -22,34 +19,9 @@ pub struct Exec<'a> {
     pub steps: u64,
 }
 
-// `exec SRC PORTS [--steps M]`.
-fn command<'a>(alloc: Global) -> Result<Command<'a>, AllocError>
-    ensures { IfOk result (λ c. app_of c ≡ exec_app) }
-{
-    Command::new(alloc, "exec")
-        .arg(required(alloc, "source"))?
-        .arg(required(alloc, "ports"))?
-        .arg(steps(alloc))
-}
-
-/// What the words of `exec` ask for.
-pub(crate) fn request<'a>(
-    alloc: Global,
-    words: &'a [String],
-) -> Result<Option<Request<'a>>, NoMemory>
-    ensures { IfOk result (λ r. option_map told r ≡ asked_to_execute (texts_of words.entry.now)) }
-{
-    let command = command(alloc)?;
-    match parsed(command, words)? {
-        Some(matches) => Ok(found(&matches)),
-        None => Ok(None),
-    }
-}
-
-// What the matches of `exec` ask for.
-fn found<'a>(matches: &ArgMatches<'a>) -> Option<Request<'a>>
-    requires { (text : List ℕ) → one_text (found_of matches.now) (codes "steps") ≡ Some text
-        → is_number_to greatest_steps text ≡ true }
+/// What the matches of `exec` ask for.
+pub(crate) fn found<'a>(matches: &ArgMatches<'a>) -> Option<Request<'a>>
+    requires { IsOf exec_app matches.now }
     ensures { option_map told result ≡ exec_of (rows_of (found_of matches.now)) }
 {
     let source = matches.get_str("source")?;

@@ -2,20 +2,27 @@
 #![tactic(auto)]
 
 mod asked;
+mod asm;
 mod build;
 mod check;
 mod commands;
+mod dis;
 mod exec;
+mod generated;
 mod layout;
 mod means;
+mod name;
 mod options;
 mod plain;
 mod run;
 
 pub use asked::{Request, requested};
+pub use asm::Asm;
 pub use build::Build;
 pub use check::Check;
+pub use dis::Dis;
 pub use exec::Exec;
+pub use generated::Gen;
 pub use layout::Layout;
 pub use means::Means;
 pub use plain::plain_words;

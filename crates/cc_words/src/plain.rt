@@ -1,7 +1,8 @@
 //! What the usual words ask for.
 ghost use Rattle.cc_words.specs.Plain.{AsksWithin, BuildsNoOtherNames, BuildsTwoNames, RunsTwoNames, MeansTwoNames};
 ghost use Rattle.cc_words.specs.Plain.{BuildsWithRegisters, BuildsWithBudget, BuildsWithStep, BuildsWithStepAttached, BuildsWithAll};
-ghost use Rattle.cc_words.specs.Plain.{ChecksTwoNames, ChecksNoOtherNames};
+ghost use Rattle.cc_words.specs.Plain.{ChecksTwoNames, ChecksNoOtherNames, AssemblesTwoNames, AssemblesNoOtherNames};
+ghost use Rattle.cc_words.specs.Plain.{ListsOneName, ListsNoOtherNames, GeneratesOneNumber, GeneratesNoOtherWords};
 ghost use Rattle.cc_words.specs.Plain.{RunsWithSteps, RunsWithStepsAttached, RunsWithStepsFirst};
 ghost use Rattle.cc_words.specs.Plain.{ExecutesTwoNames, ExecutesWithSteps, ExecutesWithStepsAttached, ExecutesWithStepsFirst};
 ghost use Rattle.cc_words.specs.Plain.{MeansWithTurns, MeansWithTurnsAttached, MeansWithTurnsFirst};
@@ -12,8 +13,8 @@ ghost use Rattle.cc_words.specs.Plain.{LaysOutWithBudgetAttached, LaysOutWithBot
 /// The words that hold no option but those of their command ask for what one would say, and no words
 /// ask for a run of other than 1 to 100,000,000 steps, for an evaluation of other than 1 to 1,000,000
 /// turns, for a layout or an image for other than 1 to 4 registers or within a budget of other than 1 to
-/// 1,000,000 nodes, or for an image at a step of other than 1 to 8. It does nothing: its clauses are what
-/// callers cite.
+/// 1,000,000 nodes, for an image at a step of other than 1 to 8, or for a program from a number other than
+/// 1 to 200. It does nothing: its clauses are what callers cite.
 pub fn plain_words()
     ensures build { BuildsTwoNames }
     ensures build_other { BuildsNoOtherNames }
@@ -47,5 +48,11 @@ pub fn plain_words()
     ensures budget_and_registers { LaysOutWithBothTurned }
     ensures check { ChecksTwoNames }
     ensures check_other { ChecksNoOtherNames }
+    ensures asm { AssemblesTwoNames }
+    ensures asm_other { AssemblesNoOtherNames }
+    ensures dis { ListsOneName }
+    ensures dis_other { ListsNoOtherNames }
+    ensures number { GeneratesOneNumber }
+    ensures no_number { GeneratesNoOtherWords }
     ensures range { AsksWithin }
 {}

@@ -4,6 +4,7 @@ use Rattle.clap.specs.Words.{found_of, rows_of}
 use Rattle.cc_words.specs.Asked.{number_of, told}
 use Rattle.cc_words.specs.Commands.{greatest_budget, greatest_registers, greatest_step}
 use Rattle.cc_words.proofs.AskedLemmas.{build_found, no_image, no_source, number_given}
+use Rattle.cc_words.proofs.BoundLemmas.{build_budget_in_range, build_registers_in_range, step_in_range}
 use Rattle.cc_words.proofs.build.found.Goals as goal
 
 pub returns-in_err-source : goal.returns-in_err-source
@@ -21,7 +22,7 @@ returns-in_err-registers c =
     ∙ build_found (found_of c.args.matches.now) c.in_ok-source.source.now c.in_ok-image.image.now None (number_of (codes "budget") greatest_budget (rows_of (found_of c.args.matches.now)))
     (number_of (codes "step") greatest_step (rows_of (found_of c.args.matches.now))) c.in_ok-source.ensures c.in_ok-image.ensures
     (number_given 8 greatest_registers (omega arith) (λ bs r. ParsesUnsigned 8 10 bs r × ExplainsUnsignedError 10 bs r × HasUnsignedDigitsIfOk bs r) (λ u x g. g.0)
-    (found_of c.args.matches.now) (codes "registers") None c.requires.registers c.in_err-registers.ensures.none c.in_err-registers.ensures.value)
+    (found_of c.args.matches.now) (codes "registers") None (build_registers_in_range c.requires.command c.args.matches.now c.requires.parsed c.requires.is) c.in_err-registers.ensures.none c.in_err-registers.ensures.value)
     refl refl
 
 pub returns-in_err-budget : goal.returns-in_err-budget
@@ -30,9 +31,9 @@ returns-in_err-budget c =
     ∙ build_found (found_of c.args.matches.now) c.in_ok-source.source.now c.in_ok-image.image.now (Some c.in_ok-registers.registers) None
     (number_of (codes "step") greatest_step (rows_of (found_of c.args.matches.now))) c.in_ok-source.ensures c.in_ok-image.ensures
     (number_given 8 greatest_registers (omega arith) (λ bs r. ParsesUnsigned 8 10 bs r × ExplainsUnsignedError 10 bs r × HasUnsignedDigitsIfOk bs r) (λ u x g. g.0)
-    (found_of c.args.matches.now) (codes "registers") (Some c.in_ok-registers.registers) c.requires.registers c.in_ok-registers.ensures.none c.in_ok-registers.ensures.value)
+    (found_of c.args.matches.now) (codes "registers") (Some c.in_ok-registers.registers) (build_registers_in_range c.requires.command c.args.matches.now c.requires.parsed c.requires.is) c.in_ok-registers.ensures.none c.in_ok-registers.ensures.value)
     (number_given 32 greatest_budget (omega arith) (λ bs r. ParsesUnsigned 32 10 bs r × ExplainsUnsignedError 10 bs r × HasUnsignedDigitsIfOk bs r) (λ u x g. g.0)
-    (found_of c.args.matches.now) (codes "budget") None c.requires.budget c.in_err-budget.ensures.none c.in_err-budget.ensures.value)
+    (found_of c.args.matches.now) (codes "budget") None (build_budget_in_range c.requires.command c.args.matches.now c.requires.parsed c.requires.is) c.in_err-budget.ensures.none c.in_err-budget.ensures.value)
     refl
 
 pub returns-in_err-step : goal.returns-in_err-step
@@ -41,19 +42,19 @@ returns-in_err-step c =
     ∙ build_found (found_of c.args.matches.now) c.in_ok-source.source.now c.in_ok-image.image.now (Some c.in_ok-registers.registers) (Some c.in_ok-budget.budget) None
     c.in_ok-source.ensures c.in_ok-image.ensures
     (number_given 8 greatest_registers (omega arith) (λ bs r. ParsesUnsigned 8 10 bs r × ExplainsUnsignedError 10 bs r × HasUnsignedDigitsIfOk bs r) (λ u x g. g.0)
-    (found_of c.args.matches.now) (codes "registers") (Some c.in_ok-registers.registers) c.requires.registers c.in_ok-registers.ensures.none c.in_ok-registers.ensures.value)
+    (found_of c.args.matches.now) (codes "registers") (Some c.in_ok-registers.registers) (build_registers_in_range c.requires.command c.args.matches.now c.requires.parsed c.requires.is) c.in_ok-registers.ensures.none c.in_ok-registers.ensures.value)
     (number_given 32 greatest_budget (omega arith) (λ bs r. ParsesUnsigned 32 10 bs r × ExplainsUnsignedError 10 bs r × HasUnsignedDigitsIfOk bs r) (λ u x g. g.0)
-    (found_of c.args.matches.now) (codes "budget") (Some c.in_ok-budget.budget) c.requires.budget c.in_ok-budget.ensures.none c.in_ok-budget.ensures.value)
+    (found_of c.args.matches.now) (codes "budget") (Some c.in_ok-budget.budget) (build_budget_in_range c.requires.command c.args.matches.now c.requires.parsed c.requires.is) c.in_ok-budget.ensures.none c.in_ok-budget.ensures.value)
     (number_given 8 greatest_step (omega arith) (λ bs r. ParsesUnsigned 8 10 bs r × ExplainsUnsignedError 10 bs r × HasUnsignedDigitsIfOk bs r) (λ u x g. g.0)
-    (found_of c.args.matches.now) (codes "step") None c.requires.step c.in_err-step.ensures.none c.in_err-step.ensures.value)
+    (found_of c.args.matches.now) (codes "step") None (step_in_range c.requires.command c.args.matches.now c.requires.parsed c.requires.is) c.in_err-step.ensures.none c.in_err-step.ensures.value)
 
 pub returns : goal.returns
 returns c =
     build_found (found_of c.args.matches.now) c.in_ok-source.source.now c.in_ok-image.image.now (Some c.in_ok-registers.registers) (Some c.in_ok-budget.budget) (Some c.in_ok-step.step)
     c.in_ok-source.ensures c.in_ok-image.ensures
     (number_given 8 greatest_registers (omega arith) (λ bs r. ParsesUnsigned 8 10 bs r × ExplainsUnsignedError 10 bs r × HasUnsignedDigitsIfOk bs r) (λ u x g. g.0)
-    (found_of c.args.matches.now) (codes "registers") (Some c.in_ok-registers.registers) c.requires.registers c.in_ok-registers.ensures.none c.in_ok-registers.ensures.value)
+    (found_of c.args.matches.now) (codes "registers") (Some c.in_ok-registers.registers) (build_registers_in_range c.requires.command c.args.matches.now c.requires.parsed c.requires.is) c.in_ok-registers.ensures.none c.in_ok-registers.ensures.value)
     (number_given 32 greatest_budget (omega arith) (λ bs r. ParsesUnsigned 32 10 bs r × ExplainsUnsignedError 10 bs r × HasUnsignedDigitsIfOk bs r) (λ u x g. g.0)
-    (found_of c.args.matches.now) (codes "budget") (Some c.in_ok-budget.budget) c.requires.budget c.in_ok-budget.ensures.none c.in_ok-budget.ensures.value)
+    (found_of c.args.matches.now) (codes "budget") (Some c.in_ok-budget.budget) (build_budget_in_range c.requires.command c.args.matches.now c.requires.parsed c.requires.is) c.in_ok-budget.ensures.none c.in_ok-budget.ensures.value)
     (number_given 8 greatest_step (omega arith) (λ bs r. ParsesUnsigned 8 10 bs r × ExplainsUnsignedError 10 bs r × HasUnsignedDigitsIfOk bs r) (λ u x g. g.0)
-    (found_of c.args.matches.now) (codes "step") (Some c.in_ok-step.step) c.requires.step c.in_ok-step.ensures.none c.in_ok-step.ensures.value)
+    (found_of c.args.matches.now) (codes "step") (Some c.in_ok-step.step) (step_in_range c.requires.command c.args.matches.now c.requires.parsed c.requires.is) c.in_ok-step.ensures.none c.in_ok-step.ensures.value)

@@ -1,13 +1,11 @@
 use Rattle.std.proofs.Common.{rules, ◌≡◌, ◌∙◌, ap₂, codes}
 use Rattle.std.proofs.lemmas.Result.{IfOk-weaker}
-use Rattle.clap.specs.Words.{app_of, new_app, with_rule}
-use Rattle.cc_words.specs.Commands.{name_rule, registers_rule}
+use Rattle.clap.specs.Words.{app_of, with_rule}
+use Rattle.cc_words.specs.Commands.{registers_rule, single_app}
 use Rattle.cc_words.proofs.layout.command.Goals as goal
 
 pub returns : goal.returns
 returns c =
-    let one : app_of c.in_ok-arg.field-0 ≡ with_rule (new_app (codes "layout")) (name_rule (codes "sequence")) =
-    c.in_ok-arg.ensures.shape (search rules) ∙ ap₂ with_rule c.new.ensures.app c.required.ensures.rule in
-    let two : app_of c.in_ok-arg-2.field-0 ≡ with_rule (with_rule (new_app (codes "layout")) (name_rule (codes "sequence"))) registers_rule =
-    c.in_ok-arg-2.ensures.shape (search rules) ∙ ap₂ with_rule one c.registers.ensures.rule in
-    IfOk-weaker c.arg-3.result _ _ (λ r h. h.shape (search rules) ∙ ap₂ with_rule two c.budget.ensures.rule) c.arg-3.ensures
+    let two : app_of c.in_ok-arg.field-0 ≡ with_rule (single_app (codes "layout") (codes "sequence")) registers_rule =
+    c.in_ok-arg.ensures.shape (search rules) ∙ ap₂ with_rule c.in_ok-single.ensures c.registers.ensures.rule in
+    IfOk-weaker c.arg-2.result _ _ (λ r h. h.shape (search rules) ∙ ap₂ with_rule two c.budget.ensures.rule) c.arg-2.ensures

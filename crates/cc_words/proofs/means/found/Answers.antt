@@ -4,6 +4,7 @@ use Rattle.clap.specs.Words.{found_of}
 use Rattle.cc_words.specs.Asked.{ToEvaluate, told}
 use Rattle.cc_words.specs.Commands.{greatest_turns}
 use Rattle.cc_words.proofs.AskedLemmas.{no_first, no_second, number_found, number_given}
+use Rattle.cc_words.proofs.BoundLemmas.{turns_in_range}
 use Rattle.cc_words.proofs.means.found.Goals as goal
 
 pub returns-in_err-source : goal.returns-in_err-source
@@ -20,10 +21,10 @@ returns-in_err-turns c =
     ap (option_map told) c.from_residual-in_err-turns.ensures
     ∙ number_found (codes "source") (codes "ports") (codes "turns") greatest_turns ToEvaluate (found_of c.args.matches.now) c.in_ok-source.source.now c.in_ok-ports.ports.now None c.in_ok-source.ensures c.in_ok-ports.ensures
     (number_given 32 greatest_turns (omega arith) (λ bs r. ParsesUnsigned 32 10 bs r × ExplainsUnsignedError 10 bs r × HasUnsignedDigitsIfOk bs r) (λ u x g. g.0)
-    (found_of c.args.matches.now) (codes "turns") None c.requires c.in_err-turns.ensures.none c.in_err-turns.ensures.value)
+    (found_of c.args.matches.now) (codes "turns") None (turns_in_range c.requires.command c.args.matches.now c.requires.parsed c.requires.is) c.in_err-turns.ensures.none c.in_err-turns.ensures.value)
 
 pub returns : goal.returns
 returns c =
     number_found (codes "source") (codes "ports") (codes "turns") greatest_turns ToEvaluate (found_of c.args.matches.now) c.in_ok-source.source.now c.in_ok-ports.ports.now (Some c.in_ok-turns.turns) c.in_ok-source.ensures c.in_ok-ports.ensures
     (number_given 32 greatest_turns (omega arith) (λ bs r. ParsesUnsigned 32 10 bs r × ExplainsUnsignedError 10 bs r × HasUnsignedDigitsIfOk bs r) (λ u x g. g.0)
-    (found_of c.args.matches.now) (codes "turns") (Some c.in_ok-turns.turns) c.requires c.in_ok-turns.ensures.none c.in_ok-turns.ensures.value)
+    (found_of c.args.matches.now) (codes "turns") (Some c.in_ok-turns.turns) (turns_in_range c.requires.command c.args.matches.now c.requires.parsed c.requires.is) c.in_ok-turns.ensures.none c.in_ok-turns.ensures.value)

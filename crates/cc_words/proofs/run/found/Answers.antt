@@ -4,6 +4,7 @@ use Rattle.clap.specs.Words.{found_of}
 use Rattle.cc_words.specs.Asked.{ToRun, told}
 use Rattle.cc_words.specs.Commands.{greatest_steps}
 use Rattle.cc_words.proofs.AskedLemmas.{no_first, no_second, number_found, number_given}
+use Rattle.cc_words.proofs.BoundLemmas.{steps_in_range}
 use Rattle.cc_words.proofs.run.found.Goals as goal
 
 pub returns-in_err-image : goal.returns-in_err-image
@@ -20,10 +21,10 @@ returns-in_err-steps c =
     ap (option_map told) c.from_residual-in_err-steps.ensures
     ∙ number_found (codes "image") (codes "ports") (codes "steps") greatest_steps ToRun (found_of c.args.matches.now) c.in_ok-image.image.now c.in_ok-ports.ports.now None c.in_ok-image.ensures c.in_ok-ports.ensures
     (number_given 64 greatest_steps (omega arith) (λ bs r. ParsesUnsigned 64 10 bs r × ExplainsUnsignedError 10 bs r × HasUnsignedDigitsIfOk bs r) (λ u x g. g.0)
-    (found_of c.args.matches.now) (codes "steps") None c.requires c.in_err-steps.ensures.none c.in_err-steps.ensures.value)
+    (found_of c.args.matches.now) (codes "steps") None (steps_in_range c.requires.command c.args.matches.now c.requires.parsed c.requires.is) c.in_err-steps.ensures.none c.in_err-steps.ensures.value)
 
 pub returns : goal.returns
 returns c =
     number_found (codes "image") (codes "ports") (codes "steps") greatest_steps ToRun (found_of c.args.matches.now) c.in_ok-image.image.now c.in_ok-ports.ports.now (Some c.in_ok-steps.steps) c.in_ok-image.ensures c.in_ok-ports.ensures
     (number_given 64 greatest_steps (omega arith) (λ bs r. ParsesUnsigned 64 10 bs r × ExplainsUnsignedError 10 bs r × HasUnsignedDigitsIfOk bs r) (λ u x g. g.0)
-    (found_of c.args.matches.now) (codes "steps") (Some c.in_ok-steps.steps) c.requires c.in_ok-steps.ensures.none c.in_ok-steps.ensures.value)
+    (found_of c.args.matches.now) (codes "steps") (Some c.in_ok-steps.steps) (steps_in_range c.requires.command c.args.matches.now c.requires.parsed c.requires.is) c.in_ok-steps.ensures.none c.in_ok-steps.ensures.value)

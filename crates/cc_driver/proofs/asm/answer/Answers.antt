@@ -1,0 +1,27 @@
+use Rattle.cc_words.specs.Asked.{ToAssemble}
+use Rattle.cc_driver.specs.World.{shelves}
+use Rattle.cc_driver.specs.Asm.{one_text, silent_answer}
+use Rattle.cc_driver.specs.Stores.{Stored}
+use Rattle.cc_driver.specs.Work.{WorkRefused}
+use Rattle.cc_driver.proofs.StoreLemmas.{one_stopped}
+use Rattle.cc_driver.proofs.WorkLemmas.{passed_on, stores_refused}
+use Rattle.cc_driver.proofs.asm.answer.Goals as goal
+
+pub returns-in_err-store-clause-refused : goal.returns-in_err-store-clause-refused
+returns-in_err-store-clause-refused g c =
+    let what = ToAssemble c.args.asked.now.text.now c.args.asked.now.image.now in
+    let tells = g.F.Shelf.tells in
+    let first = g.F.Shelf.stock c.args.shelf.now in
+    let between = g.F.Shelf.stock c.fetch.new.shelf in
+    let last = g.F.Shelf.stock c.store.new.shelf in
+    let image = c.args.asked.now.image.now in
+    let text = c.in_ok-image.image.items in
+    let one : Stored = record { name = image; text = text } in
+    let done = rw c.deref.ensures.value at c.in_ok-image.ensures.done in
+    passed_on c.from_residual-in_err-store.result c.in_err-store.field-0.0 (WorkRefused what (shelves tells first last)) c.from_residual-in_err-store.ensures.1
+    (stores_refused tells first between last what silent_answer (one_text image text) _ c.in_ok-bytes.ensures.asked c.in_ok-bytes.ensures.stored c.store.ensures.asked
+    (record {
+      bytes = c.in_ok-bytes.bytes.items;
+      fetched = record { told = c.in_ok-bytes.ensures.fetched.told; fits = c.in_ok-bytes.ensures.fetched.fits };
+      holds = done;
+    }) (one_stopped tells between last one c.store.ensures.others _ c.in_err-store.ensures.refused))
