@@ -263,12 +263,12 @@ module _ (c : Context) where
     run_from i end = give Next
     run_from i (item x xs) = choose (is_case i x) (run xs) (run_from i xs)
 
--- the frame at an entry: the words that were given, for parameters of which the first has this number
-abbrev pub given_frame : List VarRef → ℕ → Frame → Frame
-given_frame [] i given = no_words
-given_frame (Scalar n ∷ ps) i given = λ k. if k == n then given i else given_frame ps (suc i) given k
-given_frame (Local n ∷ ps) i given = given_frame ps (suc i) given
-given_frame (Static n ∷ ps) i given = given_frame ps (suc i) given
+-- the frame at an entry: each parameter that is a scalar gets the word that was given for it, the first of them this one
+abbrev pub given_frame : List VarRef → ℕ → Frame → Frame → Frame
+given_frame [] i given frame = frame
+given_frame (Scalar n ∷ ps) i given frame = given_frame ps (suc i) given (λ k. if k == n then given i else frame k)
+given_frame (Local n ∷ ps) i given frame = given_frame ps (suc i) given frame
+given_frame (Static n ∷ ps) i given frame = given_frame ps (suc i) given frame
 
 abbrev pub with_given : Option ℕ → Option ℕ → Memory → Memory
 with_given (Some a) (Some x) m = with_word a x m
@@ -278,13 +278,13 @@ with_given None given m = m
 -- and memory: parameters that are objects have what was given
 abbrev pub given_memory : Addresses → List VarRef → ℕ → Frame → Memory → Memory
 given_memory at [] i given m = m
-given_memory at (p ∷ ps) i given m = with_given (at p) (given i) (given_memory at ps (suc i) given m)
+given_memory at (p ∷ ps) i given m = given_memory at ps (suc i) given (with_given (at p) (given i) m)
 
 -- at the entry of a function the words of its frame and of its objects are unwritten, but for what was given
 abbrev pub entered : Places → ℕ → FunctionCode → Machine → Machine
 entered q f g v = record {
   registers = record v.registers { acc = Gone; pointed = None };
-  frame = given_frame g.params 0 (given_for f v);
+  frame = given_frame g.params 0 (given_for f v) no_words;
   scratch = no_words;
   given_to = 0;
   given = no_words;

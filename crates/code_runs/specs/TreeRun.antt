@@ -220,7 +220,7 @@ module _ (calls : Calls) (at : Addresses) where
     decide (Node (Call f args) place) = as_truth (call_does (calls f) (values args) >>= need)
     decide (Node (In port) place) = as_truth (in_does port)
     decide (Node (Out port e) place) = as_truth (out_does port (value e) >>= λ _. fail)
-    decide (Node (Comma a b) place) = as_truth (comma_does (effect a) (value b))
+    decide (Node (Comma a b) place) = comma_does (effect a) (decide b)
 
     -- its word
     pub value : ExprCode → Does Tree ℕ

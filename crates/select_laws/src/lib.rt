@@ -1,0 +1,6 @@
+//! Selection keeps what word trees do, as laws over the definitions of runs. It has no code of its own.
+#![tactic(auto)]
+
+mod laws;
+
+pub use laws::{lowered_mains_return_words, selection_keeps_runs};
