@@ -23,10 +23,10 @@ use Rattle.select_laws.proofs.Rules.{Ground, Rel, AtEnd, Keeps, seq, weaker, rel
 use Rattle.select_laws.proofs.Sides.{Side, on, straight, went, paid, spared, popped, put_here}
 use Rattle.select_laws.proofs.Words.{has_low}
 use Rattle.select_laws.proofs.Loading.{LoadedFrom, word_loaded}
-use Rattle.select_laws.proofs.Following.{InAcc, Becomes, Saves, brought, saves, in_turn, so_that}
+use Rattle.select_laws.proofs.Following.{wide_sign, InAcc, Becomes, Saves, brought, saves, in_turn, so_that}
 use Rattle.select_laws.proofs.Valuing.{after_after, after_give, same_meaning, Val, FoundVal, WordKeeps, EffectKeeps, IntoKeeps, PointedAt, PointKeeps, CodeKeeps, loaded_keeps, loaded_val}
 use Rattle.select_laws.proofs.Coding.{IsInside, word_code}
-use Rattle.select_laws.proofs.Forming.{found_wide, sign_wide}
+use Rattle.select_laws.proofs.Forming.{found_wide}
 use Rattle.select_laws.proofs.Places.{name_writes, pointed_writes, name_light, stored_val, writes_take, Still, on_still, ShapeKeeps, waits}
 
 module _ (n : Ground) (base : ℕ) where
@@ -90,7 +90,7 @@ module _ (n : Ground) (base : ℕ) where
       at_most n.context (sacl (scratch 0) ▸ lac m ▸ end) v (2 + 5) 7 (λ u. InAcc Sign a u.registers.acc × (u.scratch 0 ≡ Some x)) (λ u. InAcc Sign a u.registers.acc × (u.scratch 0 ≡ Some x)) (omega arith) (λ u h. h)
       (in_turn n.context (sacl (scratch 0) ▸ end) (lac m ▸ end) v 2 5 (Saves 0 x v) (λ u. InAcc Sign a u.registers.acc × (u.scratch 0 ≡ Some x)) (saves n.context 0 x v low s lx)
       (λ u st b. so_that n.context (lac m ▸ end) u (operand_weight m) 5 (LoadedFrom Sign a u) (λ u. InAcc Sign a u.registers.acc × (u.scratch 0 ≡ Some x)) light
-      (λ y sy h. (record { has = h.acc; wide = sign_wide a y.registers.acc la h.acc }, ap (λ g. g 0) h.scratch ∙ ap (λ g. g 0) b.scratch ∙ put_here v.scratch 0 x))
+      (λ y sy h. (record { has = h.acc; wide = wide_sign a y.registers.acc la h.acc }, ap (λ g. g 0) h.scratch ∙ ap (λ g. g 0) b.scratch ∙ put_here v.scratch 0 x))
       (word_loaded n.context m a u (steady_stays n.context.at m v u steady st.frame st.outside st.pointed ∙ there) st.sxm la)))
 
   pub point_step : (a : ℕ) (ys : ItemList) (v : Machine) → low_half v.registers.acc ≡ Some a → run n.context (form.point ▸ ys) v ≡ run n.context ys (record v { registers = record v.registers { pointed = Some a }; work = v.work + 3 })
@@ -112,7 +112,7 @@ module _ (n : Ground) (base : ℕ) where
       (subst (Rel (AtEnd (Val n base Sign ts s)) (write_word a x w)) (sym (point_step a (lac (scratch 0) ▸ sacl operand.Pointed ▸ end) u (has_low Sign a u.registers.acc la first.then_so.0.has)))
       (on n (AtEnd (Val n base Sign ts s)) (write_word a x w) (lac (scratch 0) ▸ end) (sacl operand.Pointed ▸ end) z 2 (LoadedFrom Sign x z) second
       (stored_val n base Sign (Some a) operand.Pointed (write_word a) ts s x w second.to (pointed_writes n base a) second.pointed
-      (record { side = straight base n ts (4 + s) (2 + s) 2 w z (lac (scratch 0) ▸ end) (LoadedFrom Sign x z) side second (omega arith); has = record { has = second.then_so.acc; wide = sign_wide x second.to.registers.acc p.word second.then_so.acc }; word = p.word }))))
+      (record { side = straight base n ts (4 + s) (2 + s) 2 w z (lac (scratch 0) ▸ end) (LoadedFrom Sign x z) side second (omega arith); has = record { has = second.then_so.acc; wide = wide_sign x second.to.registers.acc p.word second.then_so.acc }; word = p.word }))))
 
   module _ (p e : Does Tree ℕ) (cp ce : ℕ → Code) (kp : PointKeeps n base p (λ t. (cp t).point)) (ip : IntoKeeps n base p (λ t m. (cp t).into m)) (ke : WordKeeps n base e (λ t. (ce t).word)) where
     -- the value needs no items

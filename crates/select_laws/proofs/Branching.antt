@@ -17,7 +17,7 @@ use Rattle.select_laws.proofs.Straights.{Straight, found_weight}
 use Rattle.select_laws.proofs.Rules.{Ground, Post, Rel, AtEnd, Keeps, seq}
 use Rattle.select_laws.proofs.Sides.{Side, on, straight, paid, went}
 use Rattle.select_laws.proofs.Testing.{sense_too}
-use Rattle.select_laws.proofs.Cleaning.{clean_loaded}
+use Rattle.select_laws.proofs.Comparing.{tested_clean}
 use Rattle.select_laws.proofs.Valuing.{after_after, after_same, of_sense, IsTest, Stable, same_meaning, Val, WordKeeps, BranchKeeps, EffectKeeps, if_keeps}
 
 module _ (n : Ground) (base : ℕ) where
@@ -37,7 +37,7 @@ module _ (n : Ground) (base : ℕ) where
         (seq n (k.by ts s) (λ x. record {
           by = λ w v p.
               branch_end ts (found_weight (c (base + length ts)).found + s) r (found_weight (c (base + length ts)).found + 2) Nz (not (x == 0)) (load_clean (c (base + length ts)).found) (part_items hit) (part_items miss) g l q w v stable p.side
-              (clean_loaded n.context (c (base + length ts)).found x v p.found p.side.sxm p.word) (omega (arith, le)) sense kg kl;
+              (tested_clean n.context (c (base + length ts)).found x v p.found p.wide p.side.sxm p.word) (omega (arith, le)) sense kg kl;
         })));
   }
     where

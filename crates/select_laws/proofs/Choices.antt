@@ -17,7 +17,7 @@ use Rattle.code_runs.specs.AccRows.{Whole, whole_of}
 use Rattle.code_runs.specs.AccRun.{Machine, Context, without_scratch, without_acc, value_label, default_label, or_else, labels_weight, entered_at, switched, run_item, run, run_from}
 use Rattle.select_laws.proofs.Rules.{Ground, Rel, Keeps, seq, rel_after, last_item, behind_switch_grows}
 use Rattle.select_laws.proofs.Sides.{Side, on, straight, went, spared, some_is}
-use Rattle.select_laws.proofs.Cleaning.{cleared}
+use Rattle.select_laws.proofs.Comparing.{cleared_high}
 use Rattle.select_laws.proofs.Valuing.{rel_forget, WordKeeps}
 use Rattle.select_laws.proofs.Flows.{FlowPost, without_word, flow_stable, by_flow, node, loaded_here}
 
@@ -156,7 +156,7 @@ module _ (n : Ground) (base : ℕ) (calls : Calls) (q : Places) where
   switch_keeps f c k s cs kc kd = node n base (8 + label_weights cs) s (8 + (label_weights cs + s)) (omega arith) (seq n (loaded_here n base f c k (8 + (label_weights cs + s))) (λ x. record {
     by = λ w v p.
         let labels = labels_of cs in
-        let z = cleared n.context (high (c base).found) x v p.has.has p.side.sxm p.word in
+        let z = cleared_high n.context (high (c base).found) x v p.has p.side.sxm p.word in
         let h = straight base n [] (8 + (label_weights cs + s)) (6 + (label_weights cs + s)) 2 w v (clear_high (high (c base).found)) (λ u. u.registers.acc ≡ Whole x) p.side z (omega arith) in
         let u : Machine = without_scratch (record z.to { work = z.to.work + (4 + labels_weight labels) }) in
         let from : ℕ → Does Machine Flow = λ i. run_from n.context i (Items cs 0) in

@@ -42,7 +42,7 @@ IsFound f v = ⊤
 wide_word : (x : ℕ) (a : Acc) → x < 65536 → a ≡ Whole x → IsWide a
 wide_word x a lt e = subst IsWide (sym e) (let few : x < 4294967296 = omega (arith, lt) in few)
 
-wide_sign : (x : ℕ) (a : Acc) → x < 65536 → a ≡ Whole (extended true x) → IsWide a
+pub wide_sign : (x : ℕ) (a : Acc) → x < 65536 → a ≡ Whole (extended true x) → IsWide a
 wide_sign x a lt e = subst IsWide (sym e) (ext-lt x lt)
 
 constant_wide : (w x : ℕ) (b : Bool) (a : Acc) → x < 65536 → Has (if b then Small else Sign) x a → IsWide a

@@ -1,7 +1,7 @@
 -- The code of operations on one word, of choices and of commas.
 use Rattle.std.proofs.Common.{◌≡◌, ℕ, ◌+◌, ◌-◌, ◌%◌, ◌<◌, Bool, true, List, length, Some, refl, sym, ap, ◌∙◌, subst, arith, pos, ◌-ℤ◌}
 use Rattle.std.proofs.lemmas.Int.{ints}
-use Rattle.word_base.specs.Words.{Calc, Good, Bad, unsigned_negate}
+use Rattle.word_base.specs.Words.{Calc, Good, Bad, low16, unsigned_negate}
 use Rattle.c_syntax.specs.declared.operator.UnaryOp.{UnaryOp}
 use Rattle.c_syntax.specs.declared.operator.UnaryOp.TheVariants.{Minus, Plus, Complement}
 use Rattle.acc_code.specs.declared.operand.AccOperand.TheVariants as operand
@@ -26,13 +26,11 @@ use Rattle.select_laws.proofs.Sides.{Side, straight, paid, spared, went, some_is
 use Rattle.select_laws.proofs.Words.{ext_is, has_low}
 use Rattle.select_laws.proofs.Loading.{extended_word}
 use Rattle.select_laws.proofs.Arithmetics.{low16_is}
-use Rattle.select_laws.proofs.Following.{IsWide, InAcc, IsFound, Becomes, Turns, brought, on_loaded}
+use Rattle.select_laws.proofs.Operating.{good_is}
+use Rattle.select_laws.proofs.Following.{wide_sign, IsWide, InAcc, IsFound, Becomes, Turns, brought, on_loaded}
 use Rattle.select_laws.proofs.Summing.{acts, negated}
 use Rattle.select_laws.proofs.Valuing.{of_sense, fails, arrives, seq_in, same_meaning, after_give, Stable, Val, FoundVal, WordKeeps, BranchKeeps, EffectKeeps, IntoKeeps, PointKeeps, CodeKeeps, loaded_keeps}
 use Rattle.select_laws.proofs.Coding.{word_code}
-
-pub sign_wide : (x : ℕ) (a : Acc) → x < 65536 → Has Sign x a → IsWide a
-sign_wide x a lt e = subst IsWide (sym e) (let few : extended true x < 4294967296 = omega (arith, ext_is x, lt) in few)
 
 pub found_wide : (h : HighHalf) (v : Machine) → IsWide v.registers.acc → IsFound (Loaded h) v
 found_wide Any v w = w
@@ -69,11 +67,8 @@ complements Zero a x i lt = complement_low a x (has_low Zero x a lt i.has) lt i.
 complements Sign a x i lt = complement_sign a x i.has lt
 complements Small a x i lt = complement_sign a x (i.has.0 ∙ ap Whole (omega (arith, ext_is x, i.has.1))) lt
 
-pub good_is : {x y : ℕ} → Good x ≡ Good y → x ≡ y
-good_is e = cc
-
 negate_is : (x y : ℕ) → x < 65536 → unsigned_negate x ≡ Good y → (65536 - x) % 65536 ≡ y
-negate_is x y lt e = sym (low16_is (pos 0 -ℤ pos x) 1 (65536 - x) (omega (arith, ints))) ∙ good_is e
+negate_is x y lt e = sym (low16_is (pos 0 -ℤ pos x) 1 (65536 - x) (omega (arith, ints))) ∙ good_is (low16 (pos 0 -ℤ pos x)) y e
 
 abbrev pub unary_items : UnaryOp → Found → ItemList
 unary_items Plus f = load f
@@ -102,16 +97,16 @@ module _ (c : Context) where
   pub unary_makes : (o : UnaryOp) → Makes c (of_one_word o) (unary_items o) (unary_high o) 1
   unary_makes Plus = record {
     by = λ g x y v e w s lt is.
-        at_most c (load g) v (found_weight g) (found_weight g + 1) (Becomes (InAcc (high g) x) v) (λ u. InAcc (high g) y u.registers.acc) (omega arith) (λ u b. subst (λ k. InAcc (high g) k u.registers.acc) (good_is is) b.acc) (brought c g x v e w s lt);
-    word = λ x y lt is. subst (λ k. k < 65536) (good_is is) lt;
+        at_most c (load g) v (found_weight g) (found_weight g + 1) (Becomes (InAcc (high g) x) v) (λ u. InAcc (high g) y u.registers.acc) (omega arith) (λ u b. subst (λ k. InAcc (high g) k u.registers.acc) (good_is x y is) b.acc) (brought c g x v e w s lt);
+    word = λ x y lt is. subst (λ k. k < 65536) (good_is x y is) lt;
   }
   unary_makes Minus = record {
     by = λ g x y v e w s lt is. negative_there g x y v e w s lt (negate_is x y lt is);
     word = λ x y lt is. let same = negate_is x y lt is in omega (arith, same);
   }
   unary_makes Complement = record {
-    by = λ g x y v e w s lt is. subst (λ k. Straight c (load g ⧺ bare row.Cmpl ▸ end) v (found_weight g + 1) (λ u. InAcc (complement_high (high g)) k u.registers.acc)) (good_is is) (complement_there g x v e w s lt);
-    word = λ x y lt is. let same = good_is is in omega (arith, same);
+    by = λ g x y v e w s lt is. subst (λ k. Straight c (load g ⧺ bare row.Cmpl ▸ end) v (found_weight g + 1) (λ u. InAcc (complement_high (high g)) k u.registers.acc)) (good_is (65535 - x) y is) (complement_there g x v e w s lt);
+    word = λ x y lt is. let same = good_is (65535 - x) y is in omega (arith, same);
   }
 
 module _ (n : Ground) (base : ℕ) where
@@ -154,7 +149,7 @@ module _ (n : Ground) (base : ℕ) where
   signed_val h ts s x w v p =
       let r = extended_word n.context h x v p.has.has p.side.sxm p.word in
       arrives n base (Val n base Sign ts s) x w v (extend h) 4 (λ u. Has Sign x u.registers.acc) r
-      (record { side = straight base n ts (4 + s) s 4 w v (extend h) (λ u. Has Sign x u.registers.acc) p.side r (omega arith); has = record { has = r.then_so; wide = sign_wide x r.to.registers.acc p.word r.then_so }; word = p.word })
+      (record { side = straight base n ts (4 + s) s 4 w v (extend h) (λ u. Has Sign x u.registers.acc) p.side r (omega arith); has = record { has = r.then_so; wide = wide_sign x r.to.registers.acc p.word r.then_so }; word = p.word })
 
   pub signed_keeps : (f : Does Tree ℕ) (c : ℕ → Word) → WordKeeps n base f c → (ts : List ℕ) (s : ℕ) → Keeps n (Side base ts (4 + s)) f (signed_items (c (base + length ts))) (AtEnd (Val n base Sign ts s))
   signed_keeps f c k ts s = same_meaning n base (λ w. after_give (f w)) (seq n (loaded_keeps n base f c k ts (4 + s)) (λ x. record { by = λ w v p. signed_val (high (c (base + length ts)).found) ts s x w v p }))

@@ -17,7 +17,6 @@ pub mod Descending
 pub mod Operating
 pub mod Stepping
 pub mod Valuing
-pub mod Cleaning
 pub mod Branching
 pub mod TwoConditions
 pub mod Coding

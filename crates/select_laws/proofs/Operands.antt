@@ -41,10 +41,10 @@ use Rattle.select_laws.proofs.Coding.{word_code, branch_code}
 use Rattle.select_laws.proofs.Places.{Still, on_still, ShapeKeeps}
 
 -- no word takes more than this to load
-pub found_light : (c : Rattle.code_runs.specs.AccRun.Context) (f : Found) → found_weight f ≤ 5
-found_light c (Fixed k) = omega arith
-found_light c (Loaded h) = omega arith
-found_light c (Held m) = light m
+pub found_light : (f : Found) → found_weight f ≤ 5
+found_light (Fixed k) = omega arith
+found_light (Loaded h) = omega arith
+found_light (Held m) = light m
   where
     light : (m : AccOperand) → operand_weight m ≤ 5
     light operand.Nothing = omega arith
@@ -153,14 +153,14 @@ module _ (n : Ground) (base : ℕ) where
         let f = (ca (base + length ts)).word.found in
         on_place (p ts (24 + s)) va vb ts (24 + s) (λ x y. calc (calc_of o x y)) (AtEnd (FoundVal n base (with_place o f m).found ts s)) (λ t. (ca t).word) m (with_place o f m).items (k.left_word ts (24 + s)) k.right.0
         (λ x y w v e wide is lx ly h.
-        let light = found_light n.context (with_place o f m).found in
+        let light = found_light (with_place o f m).found in
         calc_by (calc_of o x y) (with_place o f m).found ts s w v (with_place o f m).items (found_weight f + (operand_weight m + 12)) (operand_weight m + (found_weight f + (24 + s))) h
         (λ z g. with_place_keeps n.context o f m x y z v k.right.1 e wide is h.sxm lx ly g) (omega (arith, light)))
     computed_keeps o ra (shape.Constant c) k ts s =
         let f = (ca (base + length ts)).word.found in
         on_constant (p ts (24 + s)) va vb ts (24 + s) (λ x y. calc (calc_of o x y)) (AtEnd (FoundVal n base (with_constant o f c).found ts s)) (λ t. (ca t).word) c (with_constant o f c).items (k.left_word ts (24 + s)) k.right.0
         (λ x y w v e wide is lx ly h.
-        let light = found_light n.context (with_constant o f c).found in
+        let light = found_light (with_constant o f c).found in
         calc_by (calc_of o x y) (with_constant o f c).found ts s w v (with_constant o f c).items (found_weight f + 17) (2 + (found_weight f + (24 + s))) h
         (λ z g. with_constant_keeps n.context o f c x y z v e wide is (k.right.1 y is) h.sxm lx ly g) (omega (arith, light)))
     computed_keeps o (shape.Constant c) shape.Computed k ts s =
@@ -168,7 +168,7 @@ module _ (n : Ground) (base : ℕ) where
         sooner n base (k.sides ts (24 + s))
         (constant_waits (p ts (24 + s)) va vb ts (24 + s) (λ x y. calc (calc_of o x y)) (AtEnd (FoundVal n base (of_constant o c f).found ts s)) c (λ t. (cb t).word) (of_constant o c f).items k.left.0 k.right_word
         (λ x y w v is e wide lx ly h.
-        let light = found_light n.context (of_constant o c f).found in
+        let light = found_light (of_constant o c f).found in
         calc_by (calc_of o x y) (of_constant o c f).found ts s w v (of_constant o c f).items (found_weight f + 17) (found_weight f + (2 + (24 + s))) h
         (λ z g. of_constant_keeps n.context o c f x y z v is e wide h.sxm lx ly g) (omega (arith, light))))
     computed_keeps o (shape.Named m) shape.Computed k ts s = waited o (shape.Named m) shape.Computed k ts s

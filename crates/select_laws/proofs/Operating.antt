@@ -34,7 +34,7 @@ use Rattle.select_laws.proofs.Shifting.{counted, shifted_with_place, shifted_of_
 use Rattle.select_laws.proofs.Multiplying.{multiplied_constant, multiplied_place, product_place}
 use Rattle.select_laws.proofs.Descending.{moved_down, down-lt, shifted_down_signed, shifted_down_plain}
 
-good_is : (x y : ℕ) → Good x ≡ Good y → x ≡ y
+pub good_is : (x y : ℕ) → Good x ≡ Good y → x ≡ y
 good_is x y e = cc
 
 -- values are words

@@ -18,10 +18,7 @@ use Rattle.select_laws.proofs.Sides.{some_is}
 use Rattle.select_laws.proofs.Arithmetics.{less_word}
 use Rattle.select_laws.proofs.Following.{InAcc, Turns}
 use Rattle.select_laws.proofs.Summing.{acts, exact_sum, exact_difference}
-use Rattle.select_laws.proofs.Operating.{IsNoCount}
-
-good_is : (x y : ℕ) → Good x ≡ Good y → x ≡ y
-good_is x y e = cc
+use Rattle.select_laws.proofs.Operating.{IsNoCount, good_is}
 
 -- what a step makes of a word, and back
 up_is : (x z : ℕ) → stepped true x ≡ Good z → (x + 1) % 65536 ≡ z

@@ -131,7 +131,7 @@ module _ (n : Ground) (base : ℕ) where
     by_place m k steady a ts s = record {
       by = λ w v h.
           let g = (with_place o (Held operand.Pointed) m).found in
-          let light = found_light n.context g in
+          let light = found_light g in
           on_still n base (FoundVal n base (Held operand.Pointed) ts (24 + s)) (AtEnd (KeptVal g (Some a) ts s)) v (read_word a w) (with_place o (Held operand.Pointed) m).items (λ x. e >>= λ y. calc (calc_of o x y)) (old_there a ts (24 + s) w v h)
           (λ x t q. on_still n base (FoundVal n base (Held m) ts (2 + (24 + s))) (AtEnd (KeptVal g (Some a) ts s)) v (e t) (with_place o (Held operand.Pointed) m).items (λ y. calc (calc_of o x y)) (k.by ts (2 + (24 + s)) t v q.side)
           (λ y r z. calc_kept (calc_of o x y) g ts s r v (with_place o (Held operand.Pointed) m).items (2 + (operand_weight m + 12)) (operand_weight m + (2 + (24 + s))) (Some a) h.pointed z.side
@@ -142,7 +142,7 @@ module _ (n : Ground) (base : ℕ) where
     by_constant c k a ts s = record {
       by = λ w v h.
           let g = (with_constant o (Held operand.Pointed) c).found in
-          let light = found_light n.context g in
+          let light = found_light g in
           on_still n base (FoundVal n base (Held operand.Pointed) ts (24 + s)) (AtEnd (KeptVal g (Some a) ts s)) v (read_word a w) (with_constant o (Held operand.Pointed) c).items (λ x. e >>= λ y. calc (calc_of o x y)) (old_there a ts (24 + s) w v h)
           (λ x t q. on_still n base (FoundVal n base (Fixed c) ts (2 + (24 + s))) (AtEnd (KeptVal g (Some a) ts s)) v (e t) (with_constant o (Held operand.Pointed) c).items (λ y. calc (calc_of o x y)) (k.0.by ts (2 + (24 + s)) t v q.side)
           (λ y r z. calc_kept (calc_of o x y) g ts s r v (with_constant o (Held operand.Pointed) c).items (2 + 17) (2 + (2 + (24 + s))) (Some a) h.pointed z.side
