@@ -1,12 +1,12 @@
 -- Numbers of 16 and of 32 bits: what rows make of accumulators, as facts about numbers.
-use Rattle.std.proofs.Common.{◌≡◌, ℕ, zero, ◌+◌, ◌-◌, ◌*◌, ◌%◌, ◌<◌, ◌≤◌, Bool, true, false, refl, sym, ap, ◌∙◌, ⊎_elim, inl, inr, arith, ℤ, pos, negsuc, ◌+ℤ◌, ◌-ℤ◌}
+use Rattle.std.proofs.Common.{◌≡◌, ℕ, ◌+◌, ◌-◌, ◌*◌, ◌%◌, ◌<◌, ◌≤◌, Bool, true, false, refl, sym, ap, ◌∙◌, ⊎_elim, inl, inr, arith, ℤ, pos, negsuc, ◌+ℤ◌, ◌-ℤ◌}
 use Rattle.std.specs.Prelude.{◌⊎◌, nat_lt, ◌==◌, not, ◌||◌, bit_and, bit_or, bit_xor}
 use Rattle.std.proofs.lemmas.Bool.{cases_lt, cases_eq, cond_below, cond_above, lt-ltb, le-ltb, eq-eqb, ne_eqb}
 use Rattle.std.proofs.lemmas.Int.{ints}
 use Rattle.std.proofs.lemmas.Nat.{xor_comm, or_mod, xor_mod, and_le_l}
 use Rattle.std.proofs.lemmas.Grind.{and_numeral}
 use Rattle.word_base.specs.Words.{signed_of, low16, equal, int_less, unsigned_less}
-use Rattle.c25_isa.specs.Step.{extended, wrap16, low32, minus}
+use Rattle.c25_isa.specs.Step.{extended, wrap16, low32, plus, minus}
 use lib.Bits.{xor_self, xor_assoc, xor_zero_r}
 use Rattle.code_runs.specs.AccRows.{is_negative}
 use Rattle.select_laws.proofs.Words.{ext_is}
@@ -23,6 +23,13 @@ low32_is (negsuc n) k m e = omega (arith, ints)
 pub less_word : (x y : ℕ) → x < 65536 → y < 65536 → low16 (pos x -ℤ pos y) ≡ (x + (65536 - y)) % 65536
 less_word x y lx ly = low16_is (pos x -ℤ pos y) 1 (x + (65536 - y)) (omega (arith, ints))
 
+-- sums and differences, whose low halves are those of the low halves
+pub plus_low : (z w x y : ℕ) → wrap16 z ≡ x → wrap16 w ≡ y → wrap16 (plus z w) ≡ (x + y) % 65536
+plus_low z w x y e f = omega arith
+
+pub minus_low : (z w x y : ℕ) → w ≤ 4294967296 → wrap16 z ≡ x → wrap16 w ≡ y → wrap16 (minus z w) ≡ (x + (65536 - y)) % 65536
+minus_low z w x y le e f = omega arith
+
 -- a word is extended by its sign
 pub ext-lt : (x : ℕ) → x < 65536 → extended true x < 4294967296
 ext-lt x lt = omega (arith, ext_is x)
@@ -34,6 +41,9 @@ signed_is x =
     (λ lt. inl (lt, sym (cond_below x 32768 (pos x) (pos x -ℤ pos 65536) lt)))
     (λ le. inr (le, sym (cond_above x 32768 (pos x) (pos x -ℤ pos 65536) (pos x -ℤ pos 65536) le refl)))
     (cases_lt x 32768)
+
+lt_is : (a b c d : ℕ) → (a < b → c < d) → (b ≤ a → d ≤ c) → nat_lt a b ≡ nat_lt c d
+lt_is a b c d f g = ⊎_elim (λ lt. lt-ltb a b lt ∙ sym (lt-ltb c d (f lt))) (λ le. le-ltb a b le ∙ sym (le-ltb c d (g le))) (cases_lt a b)
 
 ge_is : (a b c d : ℕ) → (a < b → d ≤ c) → (b ≤ a → c < d) → not (nat_lt a b) ≡ nat_lt c d
 ge_is a b c d f g =

@@ -50,3 +50,6 @@ pub mod Statements
 pub mod Fitting
 pub mod StatementExamples
 pub mod Selection
+pub mod TypedWords
+pub mod TypedPrograms
+pub mod TypedExamples

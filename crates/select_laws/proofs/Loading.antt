@@ -29,6 +29,10 @@ pub record LoadedFrom (h : HighHalf) (x : ℕ) (v u : Machine) : Type 0 where
   pub t : u.registers.t ≡ v.registers.t
 
 module _ (c : Context) where
+  -- LALK and LAC extend by the sign
+  signed_row : (w : ℕ) (v : Machine) → v.registers.sxm ≡ Some true → w < 65536 → LoadedFrom Sign w v (record v { registers = with_acc (Whole (extended true w)) v.registers })
+  signed_row w v s lt = record { acc = refl; scratch = refl; t = refl }
+
   small_constant : (w : ℕ) (v : Machine) → v.registers.sxm ≡ Some true → w < 256 → Straight c (Op row.Lack (operand.Number w) ▸ end) v 2 (LoadedFrom (constant_high (Number w)) w v)
   small_constant w v s lt =
       operation c row.Lack (operand.Number w) v w (with_acc (Whole w) v.registers) (LoadedFrom (constant_high (Number w)) w v) (λ u. refl) refl refl refl s

@@ -6,7 +6,6 @@ use Rattle.acc_code.specs.declared.operand.AccOperand.{AccOperand}
 use Rattle.acc_code.specs.declared.operation.AccOp.TheVariants as row
 use Rattle.acc_code.specs.AccTree.{Op, ItemList, end, item, ◌▸◌, ◌⧺◌}
 use Rattle.acc_operations.specs.Words.{scratch, store}
-use Rattle.acc_operations.specs.Words as words
 use Rattle.acc_operations.specs.declared.found.Found.{Found}
 use Rattle.acc_operations.specs.declared.found.Found.TheVariants.{Fixed, Held, Loaded}
 use Rattle.acc_operations.specs.declared.high_half.HighHalf.TheVariants.{Any}

@@ -2,3 +2,4 @@
 pub mod OfWords
 pub mod FitStatements
 pub mod Selecting
+pub mod TypedOfWords

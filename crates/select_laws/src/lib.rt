@@ -3,4 +3,4 @@
 
 mod laws;
 
-pub use laws::{lowered_mains_return_words, selection_keeps_runs};
+pub use laws::{selection_keeps_runs, typed_programs_keep};
