@@ -1,0 +1,40 @@
+-- Two objects side by side: a pointer into one, one behind its last cell, and one to an object that ended.
+use Rattle.std.proofs.Common.{zero, suc, refl, inl, arith}
+use Rattle.std.specs.Prelude.{true, false}
+use Rattle.c_tree.specs.Store.{Word, Pointer, Null}
+use Rattle.lower_laws.specs.Seats.{Seats, Vacant, LiesAt, InFrame, ValueAlike, Apart}
+
+abbrev seats : Seats
+seats zero = LiesAt 100 4
+seats (suc zero) = LiesAt 105 1
+seats (suc (suc zero)) = InFrame 0
+seats (suc (suc (suc k))) = Vacant
+
+into : ValueAlike seats 4 true (Pointer 0 3) 103
+into = (omega arith, (omega arith, (omega arith, refl)))
+
+behind : ValueAlike seats 4 true (Pointer 0 4) 104
+behind = (omega arith, (omega arith, (omega arith, refl)))
+
+null : ValueAlike seats 4 true Null 0
+null = refl
+
+ended : ValueAlike seats 4 true (Pointer 3 7) 104
+ended = (omega arith, (omega arith, tt {0}))
+
+word : ValueAlike seats 4 false (Word 65535) 65535
+word = (refl, omega arith)
+
+-- the spare word of the first keeps its pointers from being those of the second
+next_to : Apart (seats 0) (seats 1)
+next_to = inl (omega arith)
+
+-- none points to a scalar, to what was not made, or further than behind the last cell
+no_scalar : ValueAlike seats 4 true (Pointer 2 0) 0 → ⊥
+no_scalar h = h.1.1
+
+no_future : ValueAlike seats 4 true (Pointer 4 0) 104 → ⊥
+no_future h = omega (arith, h.0)
+
+no_further : ValueAlike seats 4 true (Pointer 0 5) 105 → ⊥
+no_further h = omega (arith, h.1.1.0)

@@ -1,0 +1,3 @@
+-- What stands beside what, in a run of a typed program and in that of its word tree.
+pub mod Seats
+pub mod Beside
