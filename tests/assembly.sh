@@ -1,24 +1,8 @@
 #!/usr/bin/env bash
 # The built program's assembler, its listings and its generated programs on real files. Expected values come from docs/ and were worked
 # out by hand, or by the other programs here.
-set -u
-top=$(cd "$(dirname "${BASH_SOURCE[0]}")/.." && pwd)
-program=$top/crates/c25cc/out/c25cc
-room=$(mktemp -d) || exit 1
-trap 'rm -rf "$room"' EXIT
-cd "$room" || exit 1
-failed=0
-
-fail() { echo "assembly: $*"; failed=1; }
-
-# wants STATUS TEXT WORD..: the status and all of the output of a command.
-wants() {
-    local status=$1 text=$2 got
-    shift 2
-    got=$("$program" "$@"; echo "status $?")
-    [ "$got" = "${text:+$text
-}status $status" ] || fail "'$*' gave: $got"
-}
+script=assembly
+. "$(dirname "${BASH_SOURCE[0]}")/common.sh"
 
 # refuses WHY TEXT: the text a.asm, with the escapes of printf %b, is refused so, and the image that was there stays.
 refuses() {

@@ -1,24 +1,8 @@
 #!/usr/bin/env bash
 # The built program's certificates on real files: what `build` stores and reports with each option, and what `check` says of it, of
 # certificates written by hand, and of damaged ones. Expected values come from docs/ and were worked out by hand.
-set -u
-top=$(cd "$(dirname "${BASH_SOURCE[0]}")/.." && pwd)
-program=$top/crates/c25cc/out/c25cc
-room=$(mktemp -d) || exit 1
-trap 'rm -rf "$room"' EXIT
-cd "$room" || exit 1
-failed=0
-
-fail() { echo "checks: $*"; failed=1; }
-
-# wants STATUS TEXT WORD..: the status and all of the output of a command.
-wants() {
-    local status=$1 text=$2 got
-    shift 2
-    got=$("$program" "$@"; echo "status $?")
-    [ "$got" = "${text:+$text
-}status $status" ] || fail "'$*' gave: $got"
-}
+script=checks
+. "$(dirname "${BASH_SOURCE[0]}")/common.sh"
 
 # builds REPORT CHECKED WORD..: a build of the source a.c with these options, its report, and what a check of what it stored says.
 builds() {

@@ -1,19 +1,12 @@
 #!/usr/bin/env bash
 # The built program on real files: its examples, its statuses and lines, what it compiles, and how fast it starts.
 # Expected values stand in examples/, here and in the other files of tests/; they come from docs/.
-set -u
-top=$(cd "$(dirname "${BASH_SOURCE[0]}")/.." && pwd)
-room=$(mktemp -d) || exit 1
-trap 'rm -rf "$room"' EXIT
-cd "$room" || exit 1
-program=$top/crates/c25cc/out/c25cc
+script=program
+. "$(dirname "${BASH_SOURCE[0]}")/common.sh"
 # What a build of a function without a scalar reports.
 report='main: 0 scalars, 1 registers, 0 accesses, 0 address instructions, optimal'
-failed=0
 
-fail() { echo "program: $*"; failed=1; }
-
-# wants STATUS LINE WORD..: the status and all of the output of a command.
+# wants STATUS LINE WORD..: the status and all of the output of the first command, which builds the program where that is wanted.
 wants() {
     local status=$1 line=$2 got
     shift 2

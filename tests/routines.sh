@@ -1,12 +1,8 @@
 #!/usr/bin/env bash
 # The routines for / and % and for >> by a count that is no constant, in the words of compiled programs: by every divisor 40 dividends each, and every
 # word by every count. What they come to is computed by awk. Four programs run at a time.
-set -u
-top=$(cd "$(dirname "${BASH_SOURCE[0]}")/.." && pwd)
-room=$(mktemp -d) || exit 1
-trap 'rm -rf "$room"' EXIT
-cd "$room" || exit 1
-program=$top/crates/c25cc/out/c25cc
+script=routines
+. "$(dirname "${BASH_SOURCE[0]}")/common.sh"
 # How many divisors, or words that are shifted, a program has.
 part=4096
 dividends='0 1 2 3 5 7 10 15 16 31 100 127 128 255 256 257 999 1000 4095 4096 10000 12345 16383 16384 20000 30000 32766 32767
