@@ -2,9 +2,11 @@
 #![tactic(auto)]
 
 mod arrangement;
+mod blocks;
 mod scalar_list;
 mod sequence;
 
 pub use arrangement::Arrangement;
+pub use blocks::Blocks;
 pub use scalar_list::ScalarList;
 pub use sequence::{Block, MOST_SCALARS, MOST_STEP, Sequence};

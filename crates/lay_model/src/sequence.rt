@@ -2,6 +2,7 @@
 ghost use Rattle.std.specs.Prelude.{◌≡◌, ◌≤◌, length, vec_len};
 ghost use Rattle.lay_model.specs.Sequences.{IsSequence, IsBlock};
 
+use crate::blocks::Blocks;
 use crate::scalar_list::ScalarList;
 use std::marker::Model;
 
@@ -60,7 +61,7 @@ impl Block {
 pub struct Sequence {
     scalars: u8,
     step: u8,
-    blocks: Vec<Block>,
+    blocks: Blocks,
 }
 
 impl Model for Sequence {
@@ -68,16 +69,16 @@ impl Model for Sequence {
 
     ghost Value = { Sequence };
 
-    ghost view = { λ s. record { scalars = s.scalars; step = s.step; blocks = s.blocks.items } };
+    ghost view = { λ s. record { scalars = s.scalars; step = s.step; blocks = s.blocks } };
 
-    ghost invariant = { λ s. IsSequence (record { scalars = s.scalars; step = s.step; blocks = s.blocks.items }) };
+    ghost invariant = { λ s. IsSequence (record { scalars = s.scalars; step = s.step; blocks = s.blocks }) };
 }
 
 impl Sequence {
     /// The sequence of these blocks. It takes no memory.
-    pub fn new(scalars: u8, step: u8, blocks: Vec<Block>) -> Self
-        requires { IsSequence (record { scalars = scalars; step = step; blocks = blocks.items }) }
-        ensures { result ≡ record { scalars = scalars; step = step; blocks = blocks.items } }
+    pub fn new(scalars: u8, step: u8, blocks: Blocks) -> Self
+        requires { IsSequence (record { scalars = scalars; step = step; blocks = blocks }) }
+        ensures { result ≡ record { scalars = scalars; step = step; blocks = blocks } }
     {
         Sequence {
             scalars,
@@ -114,7 +115,7 @@ impl Sequence {
         }
     }
 
-    pub fn blocks(&self) -> &[Block]
+    pub fn blocks(&self) -> &Blocks
         ensures { result.now ≡ self.now.blocks }
     {
         &self.blocks
