@@ -55,8 +55,9 @@ fn cost_over(seq: &Sequence, places: &Places) -> u64
     prove!(few);
     let step = seq.step();
     let mut cost = 0;
-    for block in seq.blocks() {
-        cost += u64::from(block.weight()) * block_cost(step, places, block.accesses());
+    let blocks = seq.blocks();
+    for index in 0..blocks.len() {
+        cost += u64::from(blocks.weight(index)) * block_cost(step, places, blocks.accesses(index));
     }
     cost
 }

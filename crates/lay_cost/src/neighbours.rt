@@ -6,7 +6,7 @@ ghost use Rattle.lay_cost.specs.Restricted.{in_bits};
 ghost use Rattle.lay_cost.specs.Weights.{AreWeights, weight_at};
 ghost use Rattle.lay_cost.specs.Memory.{HasPair, HasNext, HasBlock, HasRows, AreSmall};
 
-use lay_model::{Block, MOST_SCALARS, Sequence};
+use lay_model::{MOST_SCALARS, Sequence};
 use std::alloc::Global;
 use std::marker::Model;
 use word_base::NoMemory;
@@ -88,20 +88,21 @@ pub fn loads(seq: &Sequence, set: u64) -> u64
     let few = seq.scalars() <= MOST_SCALARS;
     prove!(few);
     let mut loads = 0;
-    for block in seq.blocks() {
-        loads += load(block, set);
+    let blocks = seq.blocks();
+    for index in 0..blocks.len() {
+        loads += load(blocks.weight(index), blocks.accesses(index), set);
     }
     loads
 }
 
 // What a block adds to them.
-fn load(block: &Block, set: u64) -> u64
-    requires { All (λ s. s < 64) block.now.accesses }
-    ensures load { result ≡ (if list_any (in_bits set) block.now.accesses then block.now.weight else 0) }
-    ensures few { result ≤ block.now.weight * length block.now.accesses }
+fn load(weight: u32, accesses: &[u8], set: u64) -> u64
+    requires { All (λ s. s < 64) accesses.now }
+    ensures load { result ≡ (if list_any (in_bits set) accesses.now then weight else 0) }
+    ensures few { result ≤ weight * length accesses.now }
 {
-    if holds_some(block.accesses(), set) {
-        u64::from(block.weight())
+    if holds_some(accesses, set) {
+        u64::from(weight)
     } else {
         0
     }
@@ -144,8 +145,14 @@ fn add_blocks(weights: &mut [u64], seq: &Sequence, set: u64)
 {
     let few = seq.scalars() <= MOST_SCALARS;
     prove!(few);
-    for block in seq.blocks() {
-        add_block(weights, u64::from(block.weight()), block.accesses(), set);
+    let blocks = seq.blocks();
+    for index in 0..blocks.len() {
+        add_block(
+            weights,
+            u64::from(blocks.weight(index)),
+            blocks.accesses(index),
+            set,
+        );
     }
 }
 

@@ -9,5 +9,5 @@ use Rattle.lay_cost.proofs.counting.cost_over.Goals as goal
 pub returns-clause-cost : goal.returns-clause-cost
 returns-clause-cost c =
     let table = c.args.places.now.places in
-    let is : c.loop-block.cost ≡ sum_by (λ b. b.weight * block_cost c.args.seq.now.step (placement_in table) (filter (is_placed table) b.accesses)) c.args.seq.now.blocks = grind (arith, common_steps) in
+    let is : c.loop-index.cost ≡ sum_by (λ b. b.weight * block_cost c.args.seq.now.step (placement_in table) (filter (is_placed table) b.accesses)) c.args.seq.now.blocks = grind (arith, common_steps) in
     rw (cost_of_restricted c.args.seq.now (is_placed table) (placement_in table)) is

@@ -9,7 +9,7 @@ use Rattle.lay_cost.proofs.neighbours.add_blocks.Goals as goal
 pub add_block-requires-clause-room : goal.add_block-requires-clause-room
 add_block-requires-clause-room c =
     let seq = c.args.seq.now in
-    small_table (in_bits c.args.set) (take c.loop-block.block-index seq.blocks) c.loop-block.weights (2 ^ 62) c.loop-block.invariant (omega (arith, sum_by-take-le counted seq.blocks c.loop-block.block-index, c.scalars-few.ensures.sequence.countable))
+    small_table (in_bits c.args.set) (take c.loop-index.index seq.blocks) c.loop-index.weights (2 ^ 62) c.loop-index.invariant (omega (arith, sum_by-take-le counted seq.blocks c.loop-index.index, c.scalars-few.ensures.sequence.countable))
 
 pub returns-clause-rows : goal.returns-clause-rows
-returns-clause-rows c = rows_so_far c.args.seq.now (in_bits c.args.set) c.loop-block.block-index c.loop-block.weights c.scalars-few.ensures.sequence c.loop-block.invariant
+returns-clause-rows c = rows_so_far c.args.seq.now (in_bits c.args.set) c.loop-index.index c.loop-index.weights c.scalars-few.ensures.sequence c.loop-index.invariant

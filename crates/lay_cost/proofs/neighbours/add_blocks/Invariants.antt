@@ -4,5 +4,5 @@ use Rattle.lay_cost.specs.Restricted.{in_bits}
 use Rattle.lay_cost.proofs.Pairs.{AreSoFar}
 use Rattle.lay_cost.proofs.neighbours.add_blocks.Given as goal
 
-abbrev pub invariant-loop-block : goal.invariant-loop-block
-invariant-loop-block l = AreSoFar (in_bits l.set) (take l.block-index l.seq.blocks) l.weights
+abbrev pub invariant-loop-index : goal.invariant-loop-index
+invariant-loop-index l = AreSoFar (in_bits l.set) (take l.index l.seq.blocks) l.weights

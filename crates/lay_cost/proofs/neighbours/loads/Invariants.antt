@@ -5,8 +5,8 @@ use Rattle.lay_model.specs.Sequences.{counted}
 use Rattle.lay_cost.specs.Restricted.{in_bits}
 use Rattle.lay_cost.proofs.neighbours.loads.Given as goal
 
-abbrev pub invariant-loop-block : goal.invariant-loop-block
-invariant-loop-block l = record {
-  so_far : l.loads ≡ sum_by (λ b. if list_any (in_bits l.set) b.accesses then b.weight else 0) (take l.block-index l.seq.blocks);
-  few : l.loads ≤ sum_by counted (take l.block-index l.seq.blocks);
+abbrev pub invariant-loop-index : goal.invariant-loop-index
+invariant-loop-index l = record {
+  so_far : l.loads ≡ sum_by (λ b. if list_any (in_bits l.set) b.accesses then b.weight else 0) (take l.index l.seq.blocks);
+  few : l.loads ≤ sum_by counted (take l.index l.seq.blocks);
 }
