@@ -10,7 +10,7 @@ use crate::block_lines::read_block;
 use crate::fault::SeqFault;
 use crate::fields::{read_scalars, read_step};
 use crate::lines::Lines;
-use lay_model::{Block, MOST_SCALARS, Sequence};
+use lay_model::{Blocks, MOST_SCALARS, Sequence};
 use std::alloc::Global;
 
 /// The most that weights times numbers of accesses are together.
@@ -63,16 +63,12 @@ fn read_head<'a>(lines: &mut Lines<'a>) -> Result<Head<'a>, SeqFault>
 }
 
 // Reads the blocks and the last line.
-fn read_blocks(
-    alloc: Global,
-    lines: &mut Lines<'_>,
-    head: &Head<'_>,
-) -> Result<Vec<Block>, SeqFault>
+fn read_blocks(alloc: Global, lines: &mut Lines<'_>, head: &Head<'_>) -> Result<Blocks, SeqFault>
     requires { IsHead lines.old head.now.scalars head.now.step head.now.line.now }
     ensures bytes { lines.new.bytes ≡ lines.old.bytes }
-    ensures read { MatchResult result (λ blocks. HasWhole lines.new (record { scalars = head.now.scalars; step = head.now.step; blocks = blocks.items })) (Says lines.new.bytes) }
+    ensures read { MatchResult result (λ blocks. HasWhole lines.new (record { scalars = head.now.scalars; step = head.now.step; blocks = blocks })) (Says lines.new.bytes) }
 {
-    let mut blocks = Vec::new(alloc);
+    let mut blocks = Blocks::new(alloc);
     let mut room = MOST_COUNTED;
     let mut line = head.line;
     while line != b"end".as_slice() {
@@ -80,7 +76,7 @@ fn read_blocks(
             return Err(lines.fault());
         };
         room -= u64::from(block.weight()) * block.accesses().len() as u64;
-        blocks.push(block)?;
+        blocks.push(block.weight(), block.accesses())?;
         line = lines.next_or_fault()?;
     }
     Ok(blocks)

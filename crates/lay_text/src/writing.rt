@@ -5,7 +5,7 @@ ghost use Rattle.lay_text.specs.SequenceText.{spaced, block_line, sequence_text}
 ghost use Rattle.lay_text.specs.SequenceReading.{Reads};
 
 use crate::decimal::push_decimal;
-use lay_model::{Block, Sequence};
+use lay_model::{Blocks, Sequence};
 use std::alloc::Global;
 use word_base::NoMemory;
 
@@ -31,24 +31,24 @@ pub fn push_spaced(text: &mut Vec<u8>, scalars: &[u8]) -> Result<(), NoMemory>
 }
 
 // The line of a block.
-fn push_block(text: &mut Vec<u8>, block: &Block) -> Result<(), NoMemory>
-    ensures text { OnOk result (text.new.items ≡ text.old.items ++ with_feed (block_line block.now)) }
-    ensures weight { OnOk result (block.now.weight < 2 ^ 32) }
+fn push_block(text: &mut Vec<u8>, weight: u32, accesses: &[u8]) -> Result<(), NoMemory>
+    ensures text { OnOk result (text.new.items ≡ text.old.items ++ with_feed (block_line (record { weight = weight; accesses = accesses.now }))) }
+    ensures weight { OnOk result (weight < 2 ^ 32) }
 {
     text.extend_from_slice(b"block ")?;
-    push_decimal(text, u64::from(block.weight()))?;
-    push_spaced(text, block.accesses())?;
+    push_decimal(text, u64::from(weight))?;
+    push_spaced(text, accesses)?;
     text.push(b'\n')?;
     Ok(())
 }
 
 /// The lines of all blocks.
-pub fn push_blocks(text: &mut Vec<u8>, blocks: &[Block]) -> Result<(), NoMemory>
+pub fn push_blocks(text: &mut Vec<u8>, blocks: &Blocks) -> Result<(), NoMemory>
     ensures text { OnOk result (text.new.items ≡ text.old.items ++ lines_text (map block_line blocks.now)) }
     ensures weights { OnOk result (All (λ b. b.weight < 2 ^ 32) blocks.now) }
 {
-    for block in blocks {
-        push_block(text, block)?;
+    for index in 0..blocks.len() {
+        push_block(text, blocks.weight(index), blocks.accesses(index))?;
     }
     Ok(())
 }

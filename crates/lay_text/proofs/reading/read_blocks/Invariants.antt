@@ -5,7 +5,7 @@ use Rattle.lay_text.proofs.reading.read_blocks.Given as goal
 abbrev pub invariant-loop-line : goal.invariant-loop-line
 invariant-loop-line l = record {
   same : l.lines.bytes ≡ l.initial.lines.bytes;
-  so_far : BlocksSoFar l.lines l.head.scalars l.head.step l.room l.line l.blocks.items;
+  so_far : BlocksSoFar l.lines l.head.scalars l.head.step l.room l.line l.blocks;
 }
 
 abbrev pub decreases-loop-line : goal.decreases-loop-line

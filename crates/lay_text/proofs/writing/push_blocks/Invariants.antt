@@ -4,8 +4,8 @@ use Rattle.lay_text.specs.Lines.{lines_text}
 use Rattle.lay_text.specs.SequenceText.{block_line}
 use Rattle.lay_text.proofs.writing.push_blocks.Given as goal
 
-abbrev pub invariant-loop-block : goal.invariant-loop-block
-invariant-loop-block l = record {
-  text : l.text.items ++ lines_text (map block_line (drop l.block-index l.blocks)) ≡ l.initial.text.items ++ lines_text (map block_line l.blocks);
-  weights : AllWithin (λ b. b.weight < 2 ^ 32) l.blocks 0 l.block-index;
+abbrev pub invariant-loop-index : goal.invariant-loop-index
+invariant-loop-index l = record {
+  text : l.text.items ++ lines_text (map block_line (drop l.index l.blocks)) ≡ l.initial.text.items ++ lines_text (map block_line l.blocks);
+  weights : AllWithin (λ b. b.weight < 2 ^ 32) l.blocks 0 l.index;
 }
