@@ -6,9 +6,8 @@ ghost use Rattle.acc_code.specs.AccView.{function_items_of, item_list, item_of};
 use crate::item::AccItem;
 use crate::operand::AccOperand;
 use crate::program::AccFunction;
-use lay_model::{Block, ScalarList, Sequence};
+use lay_model::{Blocks, Sequence};
 use std::alloc::Global;
-use std::mem;
 use word_base::NoMemory;
 
 /// The greatest number of accesses of a sequence.
@@ -20,27 +19,27 @@ pub fn sequence(alloc: Global, function: &AccFunction) -> Result<Sequence, NoMem
     requires in_frame { IsInFrame (function_items_of function.now) }
     ensures { IfOk result (λ s. s ≡ sequence_of (function_items_of function.now)) }
 {
-    let mut blocks = Blocks::new(alloc);
-    list(alloc, &mut blocks, function.body.as_slice())?;
-    blocks.cut(alloc)?;
+    let mut blocks = Gathered::new(alloc);
+    list(&mut blocks, function.body.as_slice())?;
+    blocks.cut()?;
     sequence_with(function.scalars, blocks.closed)
 }
 
 /// The blocks up to some place of the code.
 #[derive(Drop)]
-struct Blocks {
-    closed: Vec<Block>,
+struct Gathered {
+    closed: Blocks,
     /// The accesses since the last cut.
     block: Vec<u8>,
 }
 
-impl Blocks {
+impl Gathered {
     fn new(alloc: Global) -> Self
-        ensures closed { result.closed.items ≡ [] }
+        ensures closed { result.closed ≡ [] }
         ensures block { result.block.items ≡ [] }
     {
-        Blocks {
-            closed: Vec::new(alloc),
+        Gathered {
+            closed: Blocks::new(alloc),
             block: Vec::new(alloc),
         }
     }
@@ -52,18 +51,19 @@ impl Blocks {
         Ok(self.block.push(scalar)?)
     }
 
-    fn cut(&mut self, alloc: Global) -> Result<(), NoMemory>
-        ensures { OnOk result (Gathers self.old.closed.items self.old.block.items cut self.new.closed.items self.new.block.items) }
+    fn cut(&mut self) -> Result<(), NoMemory>
+        ensures { OnOk result (Gathers self.old.closed self.old.block.items cut self.new.closed self.new.block.items) }
     {
         if self.block.is_empty() {
             return Ok(());
         }
-        let accesses = mem::replace(&mut self.block, Vec::new(alloc));
-        Ok(self.closed.push(Block::new(1, ScalarList::new(accesses)))?)
+        self.closed.push(1, &self.block)?;
+        self.block.clear();
+        Ok(())
     }
 
     fn operand(&mut self, operand: AccOperand) -> Result<(), NoMemory>
-        ensures { OnOk result (Gathers self.old.closed.items self.old.block.items (operand_accesses operand) self.new.closed.items self.new.block.items) }
+        ensures { OnOk result (Gathers self.old.closed self.old.block.items (operand_accesses operand) self.new.closed self.new.block.items) }
     {
         match operand {
             AccOperand::Scalar(scalar) => self.access(scalar),
@@ -73,34 +73,34 @@ impl Blocks {
 }
 
 #[cycle(accesses)]
-fn list(alloc: Global, blocks: &mut Blocks, items: &[AccItem]) -> Result<(), NoMemory>
-    ensures { OnOk result (Gathers blocks.old.closed.items blocks.old.block.items (accesses (item_list items.now)) blocks.new.closed.items blocks.new.block.items) }
+fn list(blocks: &mut Gathered, items: &[AccItem]) -> Result<(), NoMemory>
+    ensures { OnOk result (Gathers blocks.old.closed blocks.old.block.items (accesses (item_list items.now)) blocks.new.closed blocks.new.block.items) }
 {
     for x in items {
-        item(alloc, blocks, x)?;
+        item(blocks, x)?;
     }
     Ok(())
 }
 
 // A list between two cuts.
 #[cycle(accesses)]
-fn part(alloc: Global, blocks: &mut Blocks, items: &[AccItem]) -> Result<(), NoMemory>
-    ensures { OnOk result (Gathers blocks.old.closed.items blocks.old.block.items (λ rest. accesses (item_list items.now) (cut rest)) blocks.new.closed.items blocks.new.block.items) }
+fn part(blocks: &mut Gathered, items: &[AccItem]) -> Result<(), NoMemory>
+    ensures { OnOk result (Gathers blocks.old.closed blocks.old.block.items (λ rest. accesses (item_list items.now) (cut rest)) blocks.new.closed blocks.new.block.items) }
 {
-    list(alloc, blocks, items)?;
-    blocks.cut(alloc)
+    list(blocks, items)?;
+    blocks.cut()
 }
 
 #[cycle(accesses)]
-fn item(alloc: Global, blocks: &mut Blocks, x: &AccItem) -> Result<(), NoMemory>
-    ensures { OnOk result (Gathers blocks.old.closed.items blocks.old.block.items (item_accesses (item_of x.now)) blocks.new.closed.items blocks.new.block.items) }
+fn item(blocks: &mut Gathered, x: &AccItem) -> Result<(), NoMemory>
+    ensures { OnOk result (Gathers blocks.old.closed blocks.old.block.items (item_accesses (item_of x.now)) blocks.new.closed blocks.new.block.items) }
 {
     match x {
         AccItem::Op { operand, .. } => blocks.operand(*operand),
         AccItem::If { yes, no, .. } => {
-            blocks.cut(alloc)?;
-            part(alloc, blocks, yes)?;
-            part(alloc, blocks, no)
+            blocks.cut()?;
+            part(blocks, yes)?;
+            part(blocks, no)
         }
         AccItem::Loop {
             before,
@@ -108,29 +108,29 @@ fn item(alloc: Global, blocks: &mut Blocks, x: &AccItem) -> Result<(), NoMemory>
             after,
             ..
         } => {
-            blocks.cut(alloc)?;
-            part(alloc, blocks, before)?;
-            part(alloc, blocks, body)?;
-            part(alloc, blocks, after)
+            blocks.cut()?;
+            part(blocks, before)?;
+            part(blocks, body)?;
+            part(blocks, after)
         }
         AccItem::Switch { body, .. } => {
-            blocks.cut(alloc)?;
-            part(alloc, blocks, body)
+            blocks.cut()?;
+            part(blocks, body)
         }
-        _ => blocks.cut(alloc),
+        _ => blocks.cut(),
     }
 }
 
 // So many accesses as to pass the bound of a sequence never fit in memory.
-fn sequence_with(scalars: u8, blocks: Vec<Block>) -> Result<Sequence, NoMemory>
+fn sequence_with(scalars: u8, blocks: Blocks) -> Result<Sequence, NoMemory>
     requires few { scalars ≤ 64 }
-    requires blocks { All (IsAccessBlock scalars) blocks.items }
-    ensures { IfOk result (λ s. s ≡ record { scalars = scalars; step = 1; blocks = blocks.items }) }
+    requires blocks { All (IsAccessBlock scalars) blocks }
+    ensures { IfOk result (λ s. s ≡ record { scalars = scalars; step = 1; blocks = blocks }) }
 {
     let mut count: u64 = 0;
-    for block in &blocks {
+    for index in 0..blocks.len() {
         count = count
-            .checked_add(block.accesses().len() as u64)
+            .checked_add(blocks.accesses(index).len() as u64)
             .ok_or(NoMemory)?;
     }
     if count > MOST_ACCESSES {

@@ -5,4 +5,4 @@ use Rattle.acc_code.proofs.accesses.+accesses.Given as goal
 
 -- the items before the place of the loop have been gone through
 abbrev pub invariant-list-loop-x : goal.invariant-list-loop-x
-invariant-list-loop-x l = Gathers l.initial.blocks.closed.items l.initial.blocks.block.items (accesses (item_list (take l.x-index l.items))) l.blocks.closed.items l.blocks.block.items
+invariant-list-loop-x l = Gathers l.initial.blocks.closed l.initial.blocks.block.items (accesses (item_list (take l.x-index l.items))) l.blocks.closed l.blocks.block.items
