@@ -12,7 +12,7 @@ use crate::fields;
 use crate::lines::Lines;
 use crate::list_lines::{is_arranged, read_list};
 use crate::marks::{MARKS_TO_A_LINE, is_short, push_marks};
-use lay_model::{Block, MOST_SCALARS, MOST_STEP, ScalarList, Sequence};
+use lay_model::{Blocks, MOST_SCALARS, MOST_STEP, ScalarList, Sequence};
 use lay_text::read_block;
 use lay_tree::{Log, Mark};
 use std::alloc::Global;
@@ -73,14 +73,14 @@ pub(crate) fn read_blocks(
     ensures seq { IfOk result (λ seq. (seq.scalars ≡ head.scalars) × (seq.step ≡ head.step)) }
     ensures next { IfOk result (λ _. BeginsNot (codes "block ") lines.new.text) }
 {
-    let mut blocks = Vec::new(alloc);
+    let mut blocks = Blocks::new(alloc);
     let mut room = MOST_COUNTED;
     while let Some(line) = lines.next_with(b"block ") {
         let Some(block) = read_block(alloc, line, head.scalars, room)? else {
             return Err(lines.fault());
         };
         room -= u64::from(block.weight()) * block.accesses().len() as u64;
-        blocks.push(block)?;
+        blocks.push(block.weight(), block.accesses())?;
     }
     Ok(Sequence::new(head.scalars, head.step, blocks))
 }

@@ -10,9 +10,9 @@ use Rattle.lay_cert.proofs.frames.read_blocks.Given as goal
 
 abbrev pub invariant-loop-line : goal.invariant-loop-line
 invariant-loop-line l = record {
-  is_open : IsOpen l.head.scalars l.head.step (step_line l.head.step ∷ []) l.blocks.items;
-  room_is : sum_by counted l.blocks.items + l.room ≡ 2 ^ 60;
-  so_far : (bytes : List ℕ) (steps : Bool) (fs : List Frame) (h : Head) → h.scalars ≡ l.head.scalars → Stands bytes l.initial.lines (Inside steps fs (Listing h [] [] [])) → Stands bytes l.lines (Inside steps fs (Listing h l.blocks.items [] []));
+  is_open : IsOpen l.head.scalars l.head.step (step_line l.head.step ∷ []) l.blocks;
+  room_is : sum_by counted l.blocks + l.room ≡ 2 ^ 60;
+  so_far : (bytes : List ℕ) (steps : Bool) (fs : List Frame) (h : Head) → h.scalars ≡ l.head.scalars → Stands bytes l.initial.lines (Inside steps fs (Listing h [] [] [])) → Stands bytes l.lines (Inside steps fs (Listing h l.blocks [] []));
 }
 
 abbrev pub decreases-loop-line : goal.decreases-loop-line
