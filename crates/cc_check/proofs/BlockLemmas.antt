@@ -4,6 +4,7 @@ use Rattle.std.specs.Str.{bytes_eq}
 use Rattle.std.proofs.lemmas.Bool.{cases_lt, ne_eqb, eq-eqb}
 use Rattle.std.proofs.lemmas.List.{at_drop_more, drop_all, get_or-map, length-map}
 use Rattle.lay_model.specs.Sequences.{Block}
+use Rattle.lay_model.specs.Flat.{block_at}
 use Rattle.cc_check.specs.Findings.{first_difference}
 
 -- ---- one block
@@ -85,8 +86,8 @@ one_over xs ys i common is le ge differ =
     ap Some same ∙ ⊎_elim (λ lt. first_over xs ys i (omega (arith, lt)) (omega (arith, lt))) (λ more. second_over xs ys i (omega (arith, more)) (omega (arith, more))) (cases_lt (length xs) (length ys))
 
 -- what is found of the blocks at an index
-pub block_test : (table : List ℕ) (bs : List Block) (ws : Blocks) (i : ℕ) (b : Block) (w xs ys : List ℕ) (r : Bool) → i < length bs → b ≡ get_or bs i b → w ≡ get_or ws i w → xs ≡ b.accesses → ys ≡ w → r ≡ bytes_eq (map (slice_index table) xs) ys
+pub block_test : (table : List ℕ) (bs : List Block) (ws : Blocks) (i : ℕ) (w xs ys : List ℕ) (r : Bool) → i < length bs → xs ≡ (block_at bs i).accesses → w ≡ get_or ws i w → ys ≡ w → r ≡ bytes_eq (map (slice_index table) xs) ys
     → bytes_eq (get_or (map (λ b. map (slice_index table) b.accesses) bs) i w) (get_or ws i w) ≡ r
-block_test table bs ws i b w xs ys r lt is_b is_w is_xs is_ys tested =
+block_test table bs ws i w xs ys r lt is_xs is_w is_ys tested =
     let g : Block → List ℕ = λ b. map (slice_index table) b.accesses in
-    ap₂ bytes_eq (get_or-map g bs i b w lt ∙ ap g (sym is_b) ∙ ap (map (slice_index table)) (sym is_xs)) (sym is_w ∙ sym is_ys) ∙ sym tested
+    ap₂ bytes_eq (get_or-map g bs i _ w lt ∙ ap (map (slice_index table)) (sym is_xs)) (sym is_w ∙ sym is_ys) ∙ sym tested

@@ -7,7 +7,7 @@ ghost use Rattle.cc_check.specs.Findings.{expected_blocks, first_difference};
 use crate::addresses::Addresses;
 use c25_walk::AddressBlock;
 use lay_cert::CertFrame;
-use lay_model::{Block, MOST_SCALARS};
+use lay_model::{Blocks, MOST_SCALARS};
 
 // Whether these are the addresses of the accesses.
 fn are_accessed(addresses: &Addresses, accesses: &[u8], walked: &[u16]) -> bool
@@ -28,7 +28,7 @@ fn are_accessed(addresses: &Addresses, accesses: &[u8], walked: &[u16]) -> bool
 // The first block that differs.
 fn first_difference_by(
     addresses: &Addresses,
-    blocks: &[Block],
+    blocks: &Blocks,
     walked: &[AddressBlock],
 ) -> Option<u64>
     requires { All (λ b. All (λ s. s < 64) b.accesses) blocks.now }
@@ -36,11 +36,7 @@ fn first_difference_by(
 {
     let common = blocks.len().min(walked.len());
     for index in 0..common {
-        if !are_accessed(
-            addresses,
-            blocks[index].accesses(),
-            walked[index].addresses(),
-        ) {
+        if !are_accessed(addresses, blocks.accesses(index), walked[index].addresses()) {
             return Some(index as u64);
         }
     }
