@@ -38,8 +38,9 @@ fn access_count(seq: &Sequence) -> Result<u32, NoMemory>
     ensures { IfOk result (λ count. count ≡ rows.access_count seq.now) }
 {
     let mut count: u32 = 0;
-    for block in seq.blocks() {
-        let more = u32::try_from(block.accesses().len()).map_err(|_| NoMemory)?;
+    let blocks = seq.blocks();
+    for index in 0..blocks.len() {
+        let more = u32::try_from(blocks.accesses(index).len()).map_err(|_| NoMemory)?;
         count = count.checked_add(more).ok_or(NoMemory)?;
     }
     Ok(count)
