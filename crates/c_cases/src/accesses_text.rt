@@ -56,13 +56,14 @@ fn push_function(alloc: Global, out: &mut String, f: &AccFunction) -> Result<(),
 }
 
 fn push_blocks(out: &mut String, sequence: &Sequence) -> Result<(), NoMemory> {
-    if sequence.blocks().is_empty() {
+    let blocks = sequence.blocks();
+    if blocks.len() == 0 {
         out.push('-')?;
     }
     let mut between = "";
-    for block in sequence.blocks() {
+    for index in 0..blocks.len() {
         out.push_str(between)?;
-        push_block(out, block.accesses())?;
+        push_block(out, blocks.accesses(index))?;
         between = " | ";
     }
     Ok(())
@@ -118,8 +119,9 @@ fn function_counts(alloc: Global, f: &AccFunction) -> Result<(usize, usize), NoM
 
 fn access_count(sequence: &Sequence) -> usize {
     let mut count: usize = 0;
-    for block in sequence.blocks() {
-        count = count.saturating_add(block.accesses().len());
+    let blocks = sequence.blocks();
+    for index in 0..blocks.len() {
+        count = count.saturating_add(blocks.accesses(index).len());
     }
     count
 }
