@@ -29,7 +29,7 @@ both_kept {seats = seats} {p = p} {q = q} {f = f} {h = h} {g = g} {k = k} r next
     (λ v x w t s. rel_after (Valued seats (record { pointing = p; value = v; word = x } ∷ hs) q) (r hs) (h w) (k t) _ _ (b.by _ w t s) (λ y. grow x y) (λ u y w t s. step hs v x u y w t s))
 
 module _ (seats : Seats) where
-  write_memory : (hs : List Held) (w : World) (t : Tree) (wanted : Bool) (v : Value) (x : ℕ) (a : Alike seats (record { pointing = wanted; value = v; word = x } ∷ hs) w t) (object : ℕ) (at : ℕ) (b : Option ℕ) (s : Seat) → seats object ≡ s → LiesThere b s
+  write_memory : (hs : List Held) (w : World) (t : Tree) (wanted : Bool) (v : Value) (x : ℕ) (a : Alike seats (record { pointing = wanted; value = v; word = x } ∷ hs) w t) (object : ℕ) (at : ℕ) (b : Option ℕ) (s : Seat) → seats.seat object ≡ s → LiesThere b s
       → Rel (Valued seats hs wanted) (source.save object 0 wanted v at w) (after (need b t) (λ y. run.write_word y x))
   write_memory hs w t wanted v x a object at None s is h = absurd h
   write_memory hs w t wanted v x a object at (Some b) Vacant is h = absurd h
@@ -37,13 +37,13 @@ module _ (seats : Seats) where
   write_memory hs w t wanted v x a object at (Some b) (InFrame k) is h = absurd h
   write_memory hs w t wanted v x a object at (Some b) (Waits o) is h = absurd h
 
-  pub write_named : (addresses : Addresses) (name : VarRef) (hs : List Held) (w : World) (t : Tree) (wanted : Bool) (v : Value) (x : ℕ) (a : Alike seats (record { pointing = wanted; value = v; word = x } ∷ hs) w t) (object : ℕ) (at : ℕ) → IsSeatOf addresses name (seats object)
+  pub write_named : (addresses : Addresses) (name : VarRef) (hs : List Held) (w : World) (t : Tree) (wanted : Bool) (v : Value) (x : ℕ) (a : Alike seats (record { pointing = wanted; value = v; word = x } ∷ hs) w t) (object : ℕ) (at : ℕ) → IsSeatOf addresses name (seats.seat object)
       → Rel (Valued seats hs wanted) (source.save object 0 wanted v at w) (run.write_name addresses name x t)
   write_named addresses (Scalar n) hs w t wanted v x a object at h = write_in_frame seats hs w t wanted v x a object n at h
-  write_named addresses (Local n) hs w t wanted v x a object at h = write_memory hs w t wanted v x a object at (addresses (Local n)) (seats object) refl h
-  write_named addresses (Static n) hs w t wanted v x a object at h = write_memory hs w t wanted v x a object at (addresses (Static n)) (seats object) refl h
+  write_named addresses (Local n) hs w t wanted v x a object at h = write_memory hs w t wanted v x a object at (addresses (Local n)) (seats.seat object) refl h
+  write_named addresses (Static n) hs w t wanted v x a object at h = write_memory hs w t wanted v x a object at (addresses (Static n)) (seats.seat object) refl h
 
-  pub assign_name_kept : {f : source.Does Value} {g : Does Tree ℕ} (addresses : Addresses) (name : VarRef) (object : ℕ) (wanted : Bool) (at : ℕ) → IsSeatOf addresses name (seats object) → Values seats wanted f g
+  pub assign_name_kept : {f : source.Does Value} {g : Does Tree ℕ} (addresses : Addresses) (name : VarRef) (object : ℕ) (wanted : Bool) (at : ℕ) → IsSeatOf addresses name (seats.seat object) → Values seats wanted f g
       → Forms seats wanted (source.◌>>=◌ f (λ x. source.◌>>=◌ (source.save object 0 wanted x at) evaluation.some)) (run.assign_name_does addresses name g)
   assign_name_kept {f = f} {g = g} addresses name object wanted at is h = record {
     by = λ hs w t a.

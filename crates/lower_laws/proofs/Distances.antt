@@ -23,7 +23,7 @@ use Rattle.lower_laws.proofs.Forms.{Optional}
 use Rattle.lower_laws.proofs.Comparing.{lives}
 
 -- the low 16 bits of a number are a word
-low16_few : (z : ℤ) → low16 z < 65536
+pub low16_few : (z : ℤ) → low16 z < 65536
 low16_few (pos n) = omega arith
 low16_few (negsuc n) = omega arith
 
@@ -49,10 +49,10 @@ module _ (seats : Seats) (hs : List Held) (w : World) (t : Tree) (a : Alike seat
       let same : pos i -ℤ pos j ≡ pos y -ℤ pos z = same_difference p.start i j y z p.word (q.word ∙ ap (λ s. s + j) (sym start)) in
       fitted (signed_of i -ℤ signed_of j) (pos y -ℤ pos z) _ (ap (λ n. n -ℤ signed_of j) left ∙ ap (λ n. pos i -ℤ n) right ∙ same)
 
-  if_lives : (next : source.Does Value) (x k : ℕ) (p : Option Obj) → w.store.living k ≡ p → (seats k ≢ Vacant → Rel (Optional seats hs false) (source.after (next w) evaluation.some) (Gives x t))
+  if_lives : (next : source.Does Value) (x k : ℕ) (p : Option Obj) → w.store.living k ≡ p → (seats.seat k ≢ Vacant → Rel (Optional seats hs false) (source.after (next w) evaluation.some) (Gives x t))
       → Rel (Optional seats hs false) (source.after (evaluation.if_living p at next w) evaluation.some) (Gives x t)
   if_lives next x k None e h = fails x
-  if_lives next x k (Some o) e h = h (lives seats w.store.made (seats k) (w.store.living k) o t.outside.memory t.frame (a.objects k) e)
+  if_lives next x k (Some o) e h = h (lives seats w.store.made (seats.seat k) (w.store.living k) o t.outside.memory t.frame (a.objects k) e)
 
   two_objects : (k i y l j z : ℕ) (b : Bool) → (k == l) ≡ b → Points seats k i y → Points seats l j z
       → Rel (Optional seats hs false) (source.after ((if b then evaluation.ordering op.Sub i j at else evaluation.equality op.Sub false at) w) evaluation.some) (Gives (low16 (pos y -ℤ pos z)) t)
@@ -66,7 +66,7 @@ module _ (seats : Seats) (hs : List Held) (w : World) (t : Tree) (a : Alike seat
   distance_kept m n (Pointer k i) (Word x) y z p q = absurd q
   distance_kept m n (Pointer k i) (Pointer l j) y z p q =
       if_lives _ (low16 (pos y -ℤ pos z)) k (w.store.living k) refl
-      (λ v. if_lives _ (low16 (pos y -ℤ pos z)) l (w.store.living l) refl (λ u. two_objects k i y l j z (k == l) refl (to_living seats k i y (seats k) refl v p.1.1) (to_living seats l j z (seats l) refl u q.1.1)))
+      (λ v. if_lives _ (low16 (pos y -ℤ pos z)) l (w.store.living l) refl (λ u. two_objects k i y l j z (k == l) refl (to_living seats k i y (seats.seat k) refl v p.1.1) (to_living seats l j z (seats.seat l) refl u q.1.1)))
   distance_kept m n (Pointer k i) Null y z p q = if_lives _ (low16 (pos y -ℤ pos z)) k (w.store.living k) refl (λ v. fails (low16 (pos y -ℤ pos z)))
   distance_kept m n Null (Word x) y z p q = absurd q
   distance_kept m n Null (Pointer l j) y z p q = if_lives _ (low16 (pos y -ℤ pos z)) l (w.store.living l) refl (λ v. fails (low16 (pos y -ℤ pos z)))

@@ -1,14 +1,17 @@
 -- Two objects side by side: a pointer into one, one behind its last cell, and one to an object that ended.
-use Rattle.std.proofs.Common.{zero, suc, refl, inl, arith}
+use Rattle.std.proofs.Common.{ℕ, zero, suc, [], refl, inl, arith}
 use Rattle.std.specs.Prelude.{true, false}
 use Rattle.c_tree.specs.Store.{Word, Pointer, Null}
-use Rattle.lower_laws.specs.Seats.{Seats, Vacant, LiesAt, InFrame, ValueAlike, Apart}
+use Rattle.lower_laws.specs.Seats.{Seat, Seats, Vacant, LiesAt, InFrame, ValueAlike, Apart}
+
+abbrev four_seats : ℕ → Seat
+four_seats zero = LiesAt 100 4
+four_seats (suc zero) = LiesAt 105 1
+four_seats (suc (suc zero)) = InFrame 0
+four_seats (suc (suc (suc k))) = Vacant
 
 abbrev seats : Seats
-seats zero = LiesAt 100 4
-seats (suc zero) = LiesAt 105 1
-seats (suc (suc zero)) = InFrame 0
-seats (suc (suc (suc k))) = Vacant
+seats = record { seat = four_seats; points = λ k. true; rooms = []; least = 2 }
 
 into : ValueAlike seats 4 true (Pointer 0 3) 103
 into = (omega arith, (omega arith, (omega arith, refl)))
@@ -26,7 +29,7 @@ word : ValueAlike seats 4 false (Word 65535) 65535
 word = (refl, omega arith)
 
 -- the spare word of the first keeps its pointers from being those of the second
-next_to : Apart (seats 0) (seats 1)
+next_to : Apart (four_seats 0) (four_seats 1)
 next_to = inl (omega arith)
 
 -- none points to a scalar, to what was not made, or further than behind the last cell

@@ -44,7 +44,7 @@ some_kept seats hs pointing x y h = followed (Valued seats hs pointing) (Optiona
 
 -- a node counts
 pub worked : (seats : Seats) (hs : List Held) (w : World) (t : Tree) (k : ℕ) → Alike seats hs w t → Alike seats hs w (record t { work = k })
-worked seats hs w t k a = record { seated = a.seated; unmade = a.unmade; objects = a.objects; held = a.held; input = a.input; words = a.words; outs = a.outs }
+worked seats hs w t k a = record { seated = a.seated; rooms = a.rooms; least = a.least; unmade = a.unmade; kinds = a.kinds; objects = a.objects; held = a.held; input = a.input; words = a.words; outs = a.outs }
 
 -- what a used expression keeps, whatever is held; and a form, which may give no value
 pub record Values (seats : Seats) (pointing : Bool) (f : source.Does Value) (g : Does Tree ℕ) : Type 0 where
@@ -74,13 +74,13 @@ module _ (seats : Seats) where
   null_constant x is = record { by = λ hs w t a. holding seats hs (record { pointing = true; value = Null; word = x }) w _ (worked seats hs w t _ a) is }
 
   -- an object that lies somewhere was made
-  was_made : (made k : ℕ) (s : Seat) → seats k ≡ s → s ≢ Vacant → ((j : ℕ) → made ≤ j → seats j ≡ Vacant) → k < made
+  pub was_made : (made k : ℕ) (s : Seat) → seats.seat k ≡ s → s ≢ Vacant → ((j : ℕ) → made ≤ j → seats.seat j ≡ Vacant) → k < made
   was_made made k s is lives h = ⊎_elim (λ lt. lt) (λ le. absurd (lives (sym is ∙ h k le))) (cases_lt k made)
 
-  not_vacant : (a n : ℕ) → LiesAt a n ≢ Vacant
+  pub not_vacant : (a n : ℕ) → LiesAt a n ≢ Vacant
   not_vacant a n e = cc
 
-  read_memory : (hs : List Held) (w : World) (t : Tree) (a : Alike seats hs w t) (object : ℕ) (wanted : Bool) (at : ℕ) (b : Option ℕ) (s : Seat) → seats object ≡ s → LiesThere b s → Rel (Valued seats hs wanted) (source.load object 0 wanted at w) (after (need b t) run.read_word)
+  read_memory : (hs : List Held) (w : World) (t : Tree) (a : Alike seats hs w t) (object : ℕ) (wanted : Bool) (at : ℕ) (b : Option ℕ) (s : Seat) → seats.seat object ≡ s → LiesThere b s → Rel (Valued seats hs wanted) (source.load object 0 wanted at w) (after (need b t) run.read_word)
   read_memory hs w t a object wanted at None s is h = absurd h
   read_memory hs w t a object wanted at (Some b) Vacant is h = absurd h
   read_memory hs w t a object wanted at (Some b) (LiesAt c n) is h = read_at seats hs w t a object 0 b wanted at (subst (λ s. PointsAt s 0 b) (sym is) (omega arith, omega (arith, h)))
@@ -88,19 +88,19 @@ module _ (seats : Seats) where
   read_memory hs w t a object wanted at (Some b) (Waits o) is h = absurd h
 
   -- what a name holds
-  pub read_named : (addresses : Addresses) (v : VarRef) (hs : List Held) (w : World) (t : Tree) (a : Alike seats hs w t) (object : ℕ) (wanted : Bool) (at : ℕ) → IsSeatOf addresses v (seats object)
+  pub read_named : (addresses : Addresses) (v : VarRef) (hs : List Held) (w : World) (t : Tree) (a : Alike seats hs w t) (object : ℕ) (wanted : Bool) (at : ℕ) → IsSeatOf addresses v (seats.seat object)
       → Rel (Valued seats hs wanted) (source.load object 0 wanted at w) (run.read_name addresses v t)
   read_named addresses (Scalar n) hs w t a object wanted at h = read_in_frame seats hs w t a object n wanted at h
-  read_named addresses (Local n) hs w t a object wanted at h = read_memory hs w t a object wanted at (addresses (Local n)) (seats object) refl h
-  read_named addresses (Static n) hs w t a object wanted at h = read_memory hs w t a object wanted at (addresses (Static n)) (seats object) refl h
+  read_named addresses (Local n) hs w t a object wanted at h = read_memory hs w t a object wanted at (addresses (Local n)) (seats.seat object) refl h
+  read_named addresses (Static n) hs w t a object wanted at h = read_memory hs w t a object wanted at (addresses (Static n)) (seats.seat object) refl h
 
-  pub name_kept : (addresses : Addresses) (v : VarRef) (object : ℕ) (wanted : Bool) (at : ℕ) → IsSeatOf addresses v (seats object) → Forms seats wanted (source.◌>>=◌ (source.load object 0 wanted at) evaluation.some) (run.name_does addresses v)
+  pub name_kept : (addresses : Addresses) (v : VarRef) (object : ℕ) (wanted : Bool) (at : ℕ) → IsSeatOf addresses v (seats.seat object) → Forms seats wanted (source.◌>>=◌ (source.load object 0 wanted at) evaluation.some) (run.name_does addresses v)
   name_kept addresses v object wanted at h = record {
     by = λ hs w t a. some_kept seats hs wanted (source.load object 0 wanted at w) (run.read_name addresses v (record t { work = t.work + 5 })) (read_named addresses v hs w _ (worked seats hs w t _ a) object wanted at h);
   }
 
   -- where its object lies
-  address_at : (hs : List Held) (w : World) (t : Tree) (a : Alike seats hs w t) (object : ℕ) (b : Option ℕ) (s : Seat) → seats object ≡ s → LiesThere b s → Rel (Optional seats hs true) (evaluation.some (Pointer object 0) w) (need b t)
+  address_at : (hs : List Held) (w : World) (t : Tree) (a : Alike seats hs w t) (object : ℕ) (b : Option ℕ) (s : Seat) → seats.seat object ≡ s → LiesThere b s → Rel (Optional seats hs true) (evaluation.some (Pointer object 0) w) (need b t)
   address_at hs w t a object None s is h = absurd h
   address_at hs w t a object (Some b) Vacant is h = absurd h
   address_at hs w t a object (Some b) (LiesAt c n) is h =
@@ -110,10 +110,10 @@ module _ (seats : Seats) where
   address_at hs w t a object (Some b) (InFrame k) is h = absurd h
   address_at hs w t a object (Some b) (Waits o) is h = absurd h
 
-  pub address_kept : (addresses : Addresses) (v : VarRef) (object : ℕ) → IsAddressable v → IsSeatOf addresses v (seats object) → Forms seats true (evaluation.some (Pointer object 0)) (run.address_does (addresses v))
+  pub address_kept : (addresses : Addresses) (v : VarRef) (object : ℕ) → IsAddressable v → IsSeatOf addresses v (seats.seat object) → Forms seats true (evaluation.some (Pointer object 0)) (run.address_does (addresses v))
   address_kept addresses (Scalar n) object able h = absurd able
-  address_kept addresses (Local n) object able h = record { by = λ hs w t a. address_at hs w _ (worked seats hs w t _ a) object (addresses (Local n)) (seats object) refl h }
-  address_kept addresses (Static n) object able h = record { by = λ hs w t a. address_at hs w _ (worked seats hs w t _ a) object (addresses (Static n)) (seats object) refl h }
+  address_kept addresses (Local n) object able h = record { by = λ hs w t a. address_at hs w _ (worked seats hs w t _ a) object (addresses (Local n)) (seats.seat object) refl h }
+  address_kept addresses (Static n) object able h = record { by = λ hs w t a. address_at hs w _ (worked seats hs w t _ a) object (addresses (Static n)) (seats.seat object) refl h }
 
   -- what a pointer points to
   pointed_to : (hs : List Held) (wanted : Bool) (at : ℕ) (p : Value) (y : ℕ) (w : World) (t : Tree) → Valued seats hs true p y w t

@@ -13,19 +13,19 @@ use Rattle.code_runs.specs.TreeRun as run
 use Rattle.code_runs.specs.TreeRun.{Tree, Addresses, Calls}
 use Rattle.lower_laws.proofs.Growing.{Grows, prefix_refl, behind, give_grows, fail_grows, too_many_grows, ticked, bind_grows, choose_grows, write_words_grow, write_name_grows, decide_grows, value_grows, effect_grows}
 
-in_order_grows : (flow : Flow) {f : Does Tree Flow} → Grows f → Grows (in_order flow f)
+pub in_order_grows : (flow : Flow) {f : Does Tree Flow} → Grows f → Grows (in_order flow f)
 in_order_grows Next g = g
 in_order_grows Broke g = give_grows Broke
 in_order_grows Continued g = give_grows Continued
 in_order_grows Returned g = give_grows Returned
 
-turn_grows : (flow : Flow) {f : Does Tree Flow} → Grows f → Grows (run.after_turn flow f)
+pub turn_grows : (flow : Flow) {f : Does Tree Flow} → Grows f → Grows (run.after_turn flow f)
 turn_grows Next g = g
 turn_grows Broke g = give_grows Next
 turn_grows Continued g = g
 turn_grows Returned g = give_grows Returned
 
-switch_grows : (flow : Flow) → Grows (behind_switch {S = Tree} flow)
+pub switch_grows : (flow : Flow) → Grows (behind_switch {S = Tree} flow)
 switch_grows Next = give_grows Next
 switch_grows Broke = give_grows Next
 switch_grows Continued = give_grows Continued
@@ -41,10 +41,10 @@ turns_first_grow zero b a = too_many_grows
 turns_first_grow (suc n) b a =
     bind_grows (ticked 14 (λ _. b)) (λ flow. turn_grows flow (bind_grows a (λ t. choose_grows t (turns_first_grow n b a) (give_grows Next))))
 
-returning_grows : (x : Option ℕ) → Grows (run.returning x)
+pub returning_grows : (x : Option ℕ) → Grows (run.returning x)
 returning_grows x = record { by = λ v. prefix_refl v.outside.outs }
 
-fill_grows : (q : Places) (o : Option ObjectTree) (a : Option ℕ) → Grows (run.fill_does q o a)
+pub fill_grows : (q : Places) (o : Option ObjectTree) (a : Option ℕ) → Grows (run.fill_does q o a)
 fill_grows q None a = fail_grows
 fill_grows q (Some o) None = fail_grows
 fill_grows q (Some o) (Some a) = bind_grows (ticked (9 + (9 * length o.initial + 64 * o.length)) (λ _. write_words_grow a 0 (initial_words q o))) (λ _. give_grows Next)

@@ -7,7 +7,7 @@ use Rattle.word_base.specs.Words.{Good, Bad, signed_of, low16, int_add, int_subt
 use Rattle.word_base.specs.declared.outcome.UndefinedKind.TheVariants.{Overflow}
 use Rattle.lower_laws.proofs.Moving.{low16_is}
 
-signed_is : (x : ℕ) → (signed_of x ≡ pos x) ⊎ (signed_of x ≡ pos x -ℤ pos 65536)
+pub signed_is : (x : ℕ) → (signed_of x ≡ pos x) ⊎ (signed_of x ≡ pos x -ℤ pos 65536)
 signed_is x =
     ⊎_elim
     (λ lt. inl (sym (cond_below x 32768 (pos x) (pos x -ℤ pos 65536) lt)))
@@ -27,7 +27,7 @@ difference_low x y m n lt (inl p) (inr q) = low16_is (m -ℤ n) 0 (x + (65536 - 
 difference_low x y m n lt (inr p) (inl q) = low16_is (m -ℤ n) 2 (x + (65536 - y)) (omega (arith, ints, p, q, lt))
 difference_low x y m n lt (inr p) (inr q) = low16_is (m -ℤ n) 1 (x + (65536 - y)) (omega (arith, ints, p, q, lt))
 
-fits : (d e : ℤ) (b : Bool) (z : ℕ) → low16 d ≡ low16 e → (if b then Bad Overflow else Good (low16 d)) ≡ Good z → Good (low16 e) ≡ Good z
+pub fits : (d e : ℤ) (b : Bool) (z : ℕ) → low16 d ≡ low16 e → (if b then Bad Overflow else Good (low16 d)) ≡ Good z → Good (low16 e) ≡ Good z
 fits d e true z same is = absurd (bad_good is)
   where
     bad_good : Bad Overflow ≡ Good z → ⊥

@@ -46,12 +46,12 @@ module _ (seats : Seats) (made : ℕ) where
   count_is (InFrame k) o m f i y h p = absurd p
   count_is (Waits q) o m f i y h p = absurd p
 
-module _ (seats : Seats) (hs : List Held) (w : World) (t : Tree) (a : Alike seats hs w t) (at object i y x : ℕ) (few : object < w.store.made) (p : PointsAt (seats object) i y) where
+module _ (seats : Seats) (hs : List Held) (w : World) (t : Tree) (a : Alike seats hs w t) (at object i y x : ℕ) (few : object < w.store.made) (p : PointsAt (seats.seat object) i y) where
   within : (z : ℤ) (o : Obj) (j : ℕ) (b : Bool) → nat_lt (length o.cells) j ≡ b → w.store.living object ≡ Some o → ((start : ℕ) → y ≡ start + i → start + j < 65536 → x ≡ start + j)
       → Rel (Optional seats hs true) (source.after (evaluation.made_pointer (if b then None else Some j) object at w) evaluation.some) (Gives x t)
   within z o j true e is word = failing seats hs (Optional seats hs true) BadPointer at w t (give x) a (give_grows x)
   within z o j false e is word =
-      let s = count_is seats w.store.made (seats object) o t.outside.memory t.frame i y (subst (λ q. SeatAlike seats w.store.made (seats object) q t.outside.memory t.frame) is (a.objects object)) p in
+      let s = count_is seats w.store.made (seats.seat object) o t.outside.memory t.frame i y (subst (λ q. SeatAlike seats w.store.made (seats.seat object) q t.outside.memory t.frame) is (a.objects object)) p in
       let le : j ≤ length o.cells = ltb-false (length o.cells) j e in
       let place = a.seated.place object s.0 (length o.cells) s.1 in
       let fits : s.0 + j < 65536 = omega (arith, le, place.last) in
@@ -69,12 +69,12 @@ module _ (seats : Seats) (hs : List Held) (w : World) (t : Tree) (a : Alike seat
   moved by word = moved_in (pos i +ℤ by) (w.store.living object) refl word
 
 -- a pointer and an integer behind it
-pub plus_kept : (seats : Seats) (hs : List Held) (w : World) (t : Tree) → Alike seats hs w t → (at object i y b : ℕ) (k l : Kind) → object < w.store.made → PointsAt (seats object) i y
+pub plus_kept : (seats : Seats) (hs : List Held) (w : World) (t : Tree) → Alike seats hs w t → (at object i y b : ℕ) (k l : Kind) → object < w.store.made → PointsAt (seats.seat object) i y
     → Rel (Optional seats hs true) (source.after (evaluation.of_two op.Add k l (Pointer object i) (Word b) at w) evaluation.some) (run.calc (unsigned_add y b) t)
 plus_kept seats hs w t a at object i y b k l few p =
     moved seats hs w t a at object i y ((y + b) % 65536) few p (number l b) (λ j start e is fits. ap (λ y. (y + b) % 65536) is ∙ up_word start i b j (number l b) fits (number_is l b) e)
 
-pub plus_left_kept : (seats : Seats) (hs : List Held) (w : World) (t : Tree) → Alike seats hs w t → (at object i y b : ℕ) (k l : Kind) → object < w.store.made → PointsAt (seats object) i y
+pub plus_left_kept : (seats : Seats) (hs : List Held) (w : World) (t : Tree) → Alike seats hs w t → (at object i y b : ℕ) (k l : Kind) → object < w.store.made → PointsAt (seats.seat object) i y
     → Rel (Optional seats hs true) (source.after (evaluation.of_two op.Add k l (Word b) (Pointer object i) at w) evaluation.some) (run.calc (unsigned_add b y) t)
 plus_left_kept seats hs w t a at object i y b k l few p =
     moved seats hs w t a at object i y ((b + y) % 65536) few p (number k b)
@@ -97,7 +97,7 @@ down_word a i b j n small fits (inr p) e =
     let f : i + 65536 ≡ j + b = omega (arith, ints, e, p) in
     low16_is (pos (a + i) -ℤ pos b) 1 (a + j) (omega (arith, ints, f)) ∙ omega (arith, fits)
 
-pub minus_kept : (seats : Seats) (hs : List Held) (w : World) (t : Tree) → Alike seats hs w t → (at object i y b : ℕ) (k l : Kind) → b < 65536 → object < w.store.made → PointsAt (seats object) i y
+pub minus_kept : (seats : Seats) (hs : List Held) (w : World) (t : Tree) → Alike seats hs w t → (at object i y b : ℕ) (k l : Kind) → b < 65536 → object < w.store.made → PointsAt (seats.seat object) i y
     → Rel (Optional seats hs true) (source.after (evaluation.of_two op.Sub k l (Pointer object i) (Word b) at w) evaluation.some) (run.calc (unsigned_subtract y b) t)
 minus_kept seats hs w t a at object i y b k l small few p =
     moved seats hs w t a at object i y (low16 (pos y -ℤ pos b)) few p (neg_ℤ (number l b))

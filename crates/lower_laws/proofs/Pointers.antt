@@ -6,7 +6,7 @@ pub use Rattle.lower_laws.specs.Seats.{Points}
 use Rattle.lower_laws.specs.Seats.{Seat, Vacant, LiesAt, InFrame, Waits, Seats, PointsAt, Apart, AreSeats}
 
 -- a pointer to what isn't vacant points so
-pub to_living : (seats : Seats) (object i y : ℕ) (s : Seat) → seats object ≡ s → s ≢ Vacant → PointsAt s i y → Points seats object i y
+pub to_living : (seats : Seats) (object i y : ℕ) (s : Seat) → seats.seat object ≡ s → s ≢ Vacant → PointsAt s i y → Points seats object i y
 to_living seats object i y Vacant is lives h = absurd (lives refl)
 to_living seats object i y (LiesAt a n) is lives h = record { start = a; count = n; seat = is; within = h.0; word = h.1 }
 to_living seats object i y (InFrame k) is lives h = absurd h
@@ -26,8 +26,8 @@ pub differs : (a n b m i j : ℕ) → i ≤ n → j ≤ m → Apart (LiesAt a n)
 differs a n b m i j li lj (inl lt) e = omega (arith, li, lj, lt, e)
 differs a n b m i j li lj (inr lt) e = omega (arith, li, lj, lt, e)
 
-pub both_at : (seats : Seats) (k l : ℕ) (p q : Seat) → seats k ≡ p → seats l ≡ q → Apart (seats k) (seats l) → Apart p q
-both_at seats k l p q e f h = subst (λ x. Apart p x) f (subst (λ x. Apart x (seats l)) e h)
+pub both_at : (seats : Seats) (k l : ℕ) (p q : Seat) → seats.seat k ≡ p → seats.seat l ≡ q → Apart (seats.seat k) (seats.seat l) → Apart p q
+both_at seats k l p q e f h = subst (λ x. Apart p x) f (subst (λ x. Apart x (seats.seat l)) e h)
 
 -- pointers to two objects have different addresses
 pub objects_differ : (seats : Seats) (k i y l j z : ℕ) → AreSeats seats → k ≢ l → Points seats k i y → Points seats l j z → y ≢ z

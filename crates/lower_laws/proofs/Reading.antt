@@ -23,15 +23,15 @@ Valued seats hs pointing v x w t = Alike seats (record { pointing = pointing; va
 
 -- a value joins those that are held
 pub holding : (seats : Seats) (hs : List Held) (h : Held) (w : World) (t : Tree) → Alike seats hs w t → ValueAlike seats w.store.made h.pointing h.value h.word → Alike seats (h ∷ hs) w t
-holding seats hs h w t a v = record { seated = a.seated; unmade = a.unmade; objects = a.objects; held = (v, a.held); input = a.input; words = a.words; outs = a.outs }
+holding seats hs h w t a v = record { seated = a.seated; rooms = a.rooms; least = a.least; unmade = a.unmade; kinds = a.kinds; objects = a.objects; held = (v, a.held); input = a.input; words = a.words; outs = a.outs }
 
 -- and is held no more
 pub let_go : (seats : Seats) (hs : List Held) (h : Held) (w : World) (t : Tree) → Alike seats (h ∷ hs) w t → Alike seats hs w t
-let_go seats hs h w t a = record { seated = a.seated; unmade = a.unmade; objects = a.objects; held = a.held.1; input = a.input; words = a.words; outs = a.outs }
+let_go seats hs h w t a = record { seated = a.seated; rooms = a.rooms; least = a.least; unmade = a.unmade; kinds = a.kinds; objects = a.objects; held = a.held.1; input = a.input; words = a.words; outs = a.outs }
 
 -- the first of two is held no more
 pub let_second_go : (seats : Seats) (hs : List Held) (g h : Held) (w : World) (t : Tree) → Alike seats (g ∷ h ∷ hs) w t → Alike seats (g ∷ hs) w t
-let_second_go seats hs g h w t a = record { seated = a.seated; unmade = a.unmade; objects = a.objects; held = (a.held.0, a.held.1.1); input = a.input; words = a.words; outs = a.outs }
+let_second_go seats hs g h w t a = record { seated = a.seated; rooms = a.rooms; least = a.least; unmade = a.unmade; kinds = a.kinds; objects = a.objects; held = (a.held.0, a.held.1.1); input = a.input; words = a.words; outs = a.outs }
 
 -- where a typed program fails, the outputs so far are a beginning
 pub failing : (seats : Seats) (hs : List Held) {A B : Type 0} (q : Post A B) (kind : UndefinedKind) (at : ℕ) (w : World) (t : Tree) (f : Tree → Res Tree B) → Alike seats hs w t → Grows f → Rel q (source.fail kind at w) (f t)
@@ -72,11 +72,11 @@ module _ (seats : Seats) (hs : List Held) (w : World) (t : Tree) (a : Alike seat
   scalar_from wanted (Some (source.Holds v)) y at h = given wanted v y at (h (source.Holds v) refl)
 
   -- through a pointer, whether its object lives or not
-  pub read_at : (object i y : ℕ) (wanted : Bool) (at : ℕ) → PointsAt (seats object) i y → Rel (Valued seats hs wanted) (source.load object i wanted at w) (run.read_word y t)
+  pub read_at : (object i y : ℕ) (wanted : Bool) (at : ℕ) → PointsAt (seats.seat object) i y → Rel (Valued seats hs wanted) (source.load object i wanted at w) (run.read_word y t)
   read_at object i y wanted at p =
-      read_from wanted (cell_of (w.store.living object) i wanted) (t.outside.memory y) at (λ d is. cell_at seats w.store.made (seats object) (w.store.living object) t.outside.memory t.frame i y wanted d (a.objects object) p is)
+      read_from wanted (cell_of (w.store.living object) i wanted) (t.outside.memory y) at (λ d is. cell_at seats w.store.made (seats.seat object) (w.store.living object) t.outside.memory t.frame i y wanted d (a.objects object) p is)
 
   -- a scalar in the frame
-  pub read_in_frame : (object k : ℕ) (wanted : Bool) (at : ℕ) → seats object ≡ InFrame k → Rel (Valued seats hs wanted) (source.load object 0 wanted at w) (run.read_scalar k t)
+  pub read_in_frame : (object k : ℕ) (wanted : Bool) (at : ℕ) → seats.seat object ≡ InFrame k → Rel (Valued seats hs wanted) (source.load object 0 wanted at w) (run.read_scalar k t)
   read_in_frame object k wanted at is =
-      scalar_from wanted (cell_of (w.store.living object) 0 wanted) (t.frame k) at (λ d e. scalar_at seats w.store.made (seats object) (w.store.living object) t.outside.memory t.frame k wanted d is (a.objects object) e)
+      scalar_from wanted (cell_of (w.store.living object) 0 wanted) (t.frame k) at (λ d e. scalar_at seats w.store.made (seats.seat object) (w.store.living object) t.outside.memory t.frame k wanted d is (a.objects object) e)

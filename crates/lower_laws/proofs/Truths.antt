@@ -63,10 +63,10 @@ pub record Decides (seats : Seats) (f : source.Does (Option Value)) (g : Does Tr
   pub by : (hs : List Held) (w : World) (t : Tree) → Alike seats hs w t → Rel (Deciding seats hs) (f w) (g t)
 
 module _ (seats : Seats) where
-  ask : (hs : List Held) (w : World) (t : Tree) (k i y at : ℕ) (p : Option Obj) → w.store.living k ≡ p → Alike seats hs w t → PointsAt (seats k) i y → Rel (Same seats hs) (evaluation.if_living p at (source.give true) w) (Gives (not (y == 0)) t)
+  ask : (hs : List Held) (w : World) (t : Tree) (k i y at : ℕ) (p : Option Obj) → w.store.living k ≡ p → Alike seats hs w t → PointsAt (seats.seat k) i y → Rel (Same seats hs) (evaluation.if_living p at (source.give true) w) (Gives (not (y == 0)) t)
   ask hs w t k i y at None e a p = failing seats hs (Same seats hs) BadPointer at w t (give (not (y == 0))) a (give_grows _)
   ask hs w t k i y at (Some o) e a p =
-      let there = to_living seats k i y (seats k) refl (lives seats w.store.made (seats k) (w.store.living k) o t.outside.memory t.frame (a.objects k) e) p in
+      let there = to_living seats k i y (seats.seat k) refl (lives seats w.store.made (seats.seat k) (w.store.living k) o t.outside.memory t.frame (a.objects k) e) p in
       (sym (ap not (ne_eqb y 0 (never_0 seats k i y a.seated there))), a)
 
   -- the test of a value

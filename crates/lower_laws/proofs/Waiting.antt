@@ -16,7 +16,7 @@ waits (InFrame k) (Some o) = Waits o
 waits (Waits p) o = Waits p
 
 abbrev pub waiting : (ℕ → Option Obj) → Seats → Seats
-waiting living seats = λ k. waits (seats k) (living k)
+waiting living seats = record seats { seat = λ k. waits (seats.seat k) (living k) }
 
 points_waiting : (s : Seat) (o : Option Obj) (i y : ℕ) → PointsAt s i y → PointsAt (waits s o) i y
 points_waiting Vacant o i y h = h
@@ -29,7 +29,7 @@ carried_waiting seats made living false (Word x) y h = h
 carried_waiting seats made living false (Pointer object i) y h = h
 carried_waiting seats made living false Null y h = h
 carried_waiting seats made living true (Word x) y h = h
-carried_waiting seats made living true (Pointer object i) y h = (h.0, (h.1.0, points_waiting (seats object) (living object) i y h.1.1))
+carried_waiting seats made living true (Pointer object i) y h = (h.0, (h.1.0, points_waiting (seats.seat object) (living object) i y h.1.1))
 carried_waiting seats made living true Null y h = h
 
 place_waiting : (s : Seat) (o : Option Obj) (a n : ℕ) → waits s o ≡ LiesAt a n → s ≡ LiesAt a n
@@ -74,13 +74,16 @@ with_waiting seats made living = record { by = carried_waiting seats made living
 pub waits_for_call : (seats : Seats) (hs : List Held) (w : World) (t : Tree) (f : Frame) (r : Option ℕ) → Alike seats hs w t → Alike (waiting w.store.living seats) hs w (record t { frame = f; result = r })
 waits_for_call seats hs w t f r a = record {
   seated = record {
-    place = λ k b n is. a.seated.place k b n (place_waiting (seats k) (w.store.living k) b n is);
-    apart = λ k l ne. apart_waiting (seats k) (seats l) (w.store.living k) (w.store.living l) (a.seated.apart k l ne);
+    place = λ k b n is. a.seated.place k b n (place_waiting (seats.seat k) (w.store.living k) b n is);
+    apart = λ k l ne. apart_waiting (seats.seat k) (seats.seat l) (w.store.living k) (w.store.living l) (a.seated.apart k l ne);
   };
+  rooms = a.rooms;
+  least = a.least;
+  kinds = a.kinds;
   unmade = λ k le. ap (λ s. waits s (w.store.living k)) (a.unmade k le);
   objects = λ k.
-      seat_carried seats w.store.made (waiting w.store.living seats) w.store.made (with_waiting seats w.store.made w.store.living) (waits (seats k) (w.store.living k)) (w.store.living k) t.outside.memory f
-      (seat_waiting seats w.store.made (seats k) (w.store.living k) t.outside.memory t.frame f (a.objects k));
+      seat_carried seats w.store.made (waiting w.store.living seats) w.store.made (with_waiting seats w.store.made w.store.living) (waits (seats.seat k) (w.store.living k)) (w.store.living k) t.outside.memory f
+      (seat_waiting seats w.store.made (seats.seat k) (w.store.living k) t.outside.memory t.frame f (a.objects k));
   held = held_carried seats w.store.made (waiting w.store.living seats) w.store.made (with_waiting seats w.store.made w.store.living) hs a.held;
   input = a.input;
   words = a.words;
@@ -101,7 +104,7 @@ module _ (seats : Seats) (hs : List Held) (w : World) (t : Tree) (a : Alike seat
   carried_again false (Pointer object i) y h = h
   carried_again false Null y h = h
   carried_again true (Word x) y h = h
-  carried_again true (Pointer object i) y h = (h.0, (h.1.0, points_again seats w.store.made (seats object) (w.store.living object) t.outside.memory t.frame i y (a.objects object) h.1.1))
+  carried_again true (Pointer object i) y h = (h.0, (h.1.0, points_again seats w.store.made (seats.seat object) (w.store.living object) t.outside.memory t.frame i y (a.objects object) h.1.1))
   carried_again true Null y h = h
 
   pub again : Carried (waiting w.store.living seats) made seats made
@@ -134,10 +137,13 @@ module _ (seats : Seats) (hs : List Held) (w : World) (t : Tree) (a : Alike seat
 pub called_back : (seats : Seats) (hs held : List Held) (w v : World) (t u : Tree) (r : Option ℕ) → Alike seats hs w t → w.store.made ≤ v.store.made → Alike (waiting w.store.living seats) held v u → Alike seats held v (record u { frame = t.frame; result = r })
 called_back seats hs held w v t u r a le b = record {
   seated = a.seated;
+  rooms = b.rooms;
+  least = omega (arith, a.least, le);
+  kinds = b.kinds;
   unmade = λ k more. a.unmade k (omega (arith, le, more));
   objects = λ k.
-      seat_again seats hs w t a v.store.made le (seats k) (w.store.living k) (v.store.living k) t.outside.memory u.outside.memory t.frame u.frame (a.objects k)
-      (seat_carried (waiting w.store.living seats) v.store.made seats v.store.made (again seats hs w t a v.store.made le) (waits (seats k) (w.store.living k)) (v.store.living k) u.outside.memory u.frame (b.objects k));
+      seat_again seats hs w t a v.store.made le (seats.seat k) (w.store.living k) (v.store.living k) t.outside.memory u.outside.memory t.frame u.frame (a.objects k)
+      (seat_carried (waiting w.store.living seats) v.store.made seats v.store.made (again seats hs w t a v.store.made le) (waits (seats.seat k) (w.store.living k)) (v.store.living k) u.outside.memory u.frame (b.objects k));
   held = held_carried (waiting w.store.living seats) v.store.made seats v.store.made (again seats hs w t a v.store.made le) held b.held;
   input = b.input;
   words = b.words;

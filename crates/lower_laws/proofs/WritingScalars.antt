@@ -16,7 +16,7 @@ use Rattle.lower_laws.proofs.Growing.{write_name_grows}
 use Rattle.lower_laws.proofs.Rules.{Rel}
 use Rattle.lower_laws.proofs.Cells.{found, set_here, set_length}
 use Rattle.lower_laws.proofs.Reading.{Valued, failing}
-use Rattle.lower_laws.proofs.Writing.{scalar_apart, scalar_here}
+use Rattle.lower_laws.proofs.Writing.{kinds_written, scalar_apart, scalar_here}
 
 module _ (seats : Seats) (made : ℕ) where
   own : (k : ℕ) (o : Obj) (f : Frame) (x : ℕ) (v : Value) → FrameAlike seats made k o f → ValueAlike seats made (is_pointer o.kind) v x → FrameAlike seats made k (record o { cells = slice_set o.cells 0 (source.Holds v) }) (with_scalar k x f)
@@ -47,23 +47,23 @@ module _ (seats : Seats) (made : ℕ) where
   other_seat k x (Waits q) None m f far h = h
   other_seat k x (Waits q) (Some o) m f far h = h
 
-module _ (seats : Seats) (hs : List Held) (w : World) (t : Tree) (a : Alike seats hs w t) (object k : ℕ) (v : Value) (x : ℕ) (wanted : Bool) (c : source.Cell) (at : seats object ≡ InFrame k) (e : cell_of (w.store.living object) 0 wanted ≡ Some c) (is : ValueAlike seats w.store.made wanted v x) where
-  seat_behind : (j : ℕ) (b : Bool) → (j == object) ≡ b → SeatAlike seats w.store.made (seats j) (cond b (with_cell (w.store.living object) 0 v) (w.store.living j)) t.outside.memory (with_scalar k x t.frame)
+module _ (seats : Seats) (hs : List Held) (w : World) (t : Tree) (a : Alike seats hs w t) (object k : ℕ) (v : Value) (x : ℕ) (wanted : Bool) (c : source.Cell) (at : seats.seat object ≡ InFrame k) (e : cell_of (w.store.living object) 0 wanted ≡ Some c) (is : ValueAlike seats w.store.made wanted v x) where
+  seat_behind : (j : ℕ) (b : Bool) → (j == object) ≡ b → SeatAlike seats w.store.made (seats.seat j) (cond b (with_cell (w.store.living object) 0 v) (w.store.living j)) t.outside.memory (with_scalar k x t.frame)
   seat_behind j true same =
       let j_is : j ≡ object = eqb-true j object same in
-      subst (λ s. SeatAlike seats w.store.made s (with_cell (w.store.living object) 0 v) t.outside.memory (with_scalar k x t.frame)) (ap seats (sym j_is))
-      (own_seat seats w.store.made (seats object) k (w.store.living object) t.outside.memory t.frame x v wanted c at e (a.objects object) is)
+      subst (λ s. SeatAlike seats w.store.made s (with_cell (w.store.living object) 0 v) t.outside.memory (with_scalar k x t.frame)) (ap seats.seat (sym j_is))
+      (own_seat seats w.store.made (seats.seat object) k (w.store.living object) t.outside.memory t.frame x v wanted c at e (a.objects object) is)
   seat_behind j false differ =
-      other_seat seats w.store.made k x (seats j) (w.store.living j) t.outside.memory t.frame (subst (λ s. Apart s (seats j)) at (a.seated.apart object j (λ p. eqb-false j object differ (sym p)))) (a.objects j)
+      other_seat seats w.store.made k x (seats.seat j) (w.store.living j) t.outside.memory t.frame (subst (λ s. Apart s (seats.seat j)) at (a.seated.apart object j (λ p. eqb-false j object differ (sym p)))) (a.objects j)
 
   -- both states behind a write
   pub wrote_scalar : Alike seats hs (store_value object 0 v w) (record t { frame = with_scalar k x t.frame })
-  wrote_scalar = record { seated = a.seated; unmade = a.unmade; objects = λ j. seat_behind j (j == object) refl; held = a.held; input = a.input; words = a.words; outs = a.outs }
+  wrote_scalar = record { seated = a.seated; rooms = a.rooms; least = a.least; unmade = a.unmade; kinds = kinds_written seats.points w.store.living object 0 v a.kinds; objects = λ j. seat_behind j (j == object) refl; held = a.held; input = a.input; words = a.words; outs = a.outs }
 
 module _ (seats : Seats) (hs : List Held) (w : World) (t : Tree) (wanted : Bool) (v : Value) (x : ℕ) (a : Alike seats (record { pointing = wanted; value = v; word = x } ∷ hs) w t) where
-  put_scalar : (object k place : ℕ) (c : Option source.Cell) → cell_of (w.store.living object) 0 wanted ≡ c → seats object ≡ InFrame k → Rel (Valued seats hs wanted) (source.write_cell c object 0 v place w) (run.write_scalar k x t)
+  put_scalar : (object k place : ℕ) (c : Option source.Cell) → cell_of (w.store.living object) 0 wanted ≡ c → seats.seat object ≡ InFrame k → Rel (Valued seats hs wanted) (source.write_cell c object 0 v place w) (run.write_scalar k x t)
   put_scalar object k place None e p = failing seats _ (Valued seats hs wanted) BadPointer place w t (run.write_scalar k x) a (write_name_grows (λ v. None) (Scalar k) x)
   put_scalar object k place (Some c) e p = wrote_scalar seats _ w t a object k v x wanted c p e a.held.0
 
-  pub write_in_frame : (object k place : ℕ) → seats object ≡ InFrame k → Rel (Valued seats hs wanted) (source.save object 0 wanted v place w) (run.write_scalar k x t)
+  pub write_in_frame : (object k place : ℕ) → seats.seat object ≡ InFrame k → Rel (Valued seats hs wanted) (source.save object 0 wanted v place w) (run.write_scalar k x t)
   write_in_frame object k place p = put_scalar object k place (cell_of (w.store.living object) 0 wanted) refl p

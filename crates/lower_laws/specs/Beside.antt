@@ -1,5 +1,6 @@
 -- The two runs side by side: the objects of a typed program, and words at addresses and in the frame of the active function.
-use Rattle.std.specs.Prelude.{◌≡◌, ⊤, ℕ, ◌+◌, ◌≤◌, Bool, List, [], ◌∷◌, length, slice_get, Option, Some, None}
+use Rattle.std.specs.Prelude.{◌≡◌, ⊤, ℕ, ◌+◌, ◌<◌, ◌≤◌, Bool, List, [], ◌∷◌, length, slice_get, Option, Some, None}
+use Rattle.std.specs.List.{AllByRecursion}
 use Rattle.word_base.specs.Ports.{IsInput}
 use Rattle.c_tree.specs.Store as source
 use Rattle.c_tree.specs.Store.{Value, Obj, World, is_pointer}
@@ -8,13 +9,17 @@ use Rattle.code_runs.specs.Outside.{Memory, Frame}
 use Rattle.c_tree.specs.declared.program.VarRef.{VarRef}
 use Rattle.c_tree.specs.declared.program.VarRef.TheVariants as name
 use Rattle.code_runs.specs.TreeRun.{Tree, Addresses}
-use Rattle.lower_laws.specs.Seats.{Seat, Vacant, LiesAt, InFrame, Waits, Seats, ValueAlike, AreSeats}
+use Rattle.lower_laws.specs.Seats.{Room, Seat, Vacant, LiesAt, InFrame, Waits, Seats, ValueAlike, AreSeats}
 
 -- a word of memory that may be written
 abbrev pub Lives : words.Cell → Type 0
 Lives words.Nowhere = ⊥
 Lives words.Unwritten = ⊤
 Lives (words.Holds y) = ⊤
+
+-- a room that lives
+abbrev pub IsRoom : Memory → Room → Type 0
+IsRoom m r = (i : ℕ) → i < r.count → Lives (m (r.start + i))
 
 -- a value that is held while something else is evaluated, and its word
 pub record Held : Type 0 where
@@ -64,8 +69,11 @@ module _ (seats : Seats) (made : ℕ) where
 -- both states, with values that are held
 pub record Alike (seats : Seats) (hs : List Held) (w : World) (t : Tree) : Type 0 where
   pub seated : AreSeats seats
-  pub unmade : (k : ℕ) → w.store.made ≤ k → seats k ≡ Vacant
-  pub objects : (k : ℕ) → SeatAlike seats w.store.made (seats k) (w.store.living k) t.outside.memory t.frame
+  pub rooms : AllByRecursion (IsRoom t.outside.memory) seats.rooms
+  pub least : seats.least ≤ w.store.made
+  pub unmade : (k : ℕ) → w.store.made ≤ k → seats.seat k ≡ Vacant
+  pub kinds : (k : ℕ) (o : Obj) → w.store.living k ≡ Some o → is_pointer o.kind ≡ seats.points k
+  pub objects : (k : ℕ) → SeatAlike seats w.store.made (seats.seat k) (w.store.living k) t.outside.memory t.frame
   pub held : HeldAlike seats w.store.made hs
   pub input : t.outside.input ≡ w.input
   pub words : IsInput w.input

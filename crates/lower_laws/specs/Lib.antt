@@ -1,3 +1,5 @@
 -- What stands beside what, in a run of a typed program and in that of its word tree.
 pub mod Seats
 pub mod Beside
+pub mod Surroundings
+pub mod Lowering

@@ -1,6 +1,6 @@
 -- Where the objects of a typed program lie in words at addresses, and which word a value is then. All that live at once lie apart, and each has a
 -- spare word behind its cells, since a pointer may point behind the last one.
-use Rattle.std.specs.Prelude.{◌≡◌, ◌≢◌, ◌⊎◌, ⊤, ℕ, ◌+◌, ◌<◌, ◌≤◌, Bool, true, false, ◌==◌, if◌then◌else◌}
+use Rattle.std.specs.Prelude.{◌≡◌, ◌≢◌, ◌⊎◌, ⊤, ℕ, ◌+◌, ◌<◌, ◌≤◌, Bool, true, false, ◌==◌, if◌then◌else◌, List}
 use Rattle.c_tree.specs.Store.{Value, Word, Pointer, Null, Obj}
 use Rattle.c_tree.specs.declared.limits.TheConstants.{MOST_CELLS}
 
@@ -12,13 +12,22 @@ pub data Seat : Type 0 where
   InFrame : ℕ → Seat
   Waits : Obj → Seat
 
--- by the numbers of objects
-abbrev pub Seats : Type 0
-Seats = ℕ → Seat
+-- words of memory that live beside all objects: those of a local object of a function that runs or waits, from its entry to its return
+pub record Room : Type 0 where
+  pub start : ℕ
+  pub count : ℕ
+
+-- by the numbers of objects, with whether their cells hold pointers; besides, the rooms, and how many objects had been made when the active function
+-- was called
+pub record Seats : Type 0 where
+  pub seat : ℕ → Seat
+  pub points : ℕ → Bool
+  pub rooms : List Room
+  pub least : ℕ
 
 -- another seat for one object: where it is made, and where it ends
 abbrev pub with_seat : ℕ → Seat → Seats → Seats
-with_seat object s seats = λ k. if k == object then s else seats k
+with_seat object s seats = record seats { seat = λ k. if k == object then s else seats.seat k }
 
 -- a pointer to an index of what has an address is a word; one to an ended object is any; and nothing points into a frame
 abbrev pub PointsAt : Seat → ℕ → ℕ → Type 0
@@ -34,7 +43,7 @@ module _ (seats : Seats) where
   ValueAlike made false (Pointer object i) y = ⊥
   ValueAlike made false Null y = ⊥
   ValueAlike made true (Word x) y = ⊥
-  ValueAlike made true (Pointer object i) y = (object < made) × ((y < 65536) × PointsAt (seats object) i y)
+  ValueAlike made true (Pointer object i) y = (object < made) × ((y < 65536) × PointsAt (seats.seat object) i y)
   ValueAlike made true Null y = y ≡ 0
 
 -- an object of 1 to 32,767 cells, in words that aren't registers of the machine
@@ -52,18 +61,18 @@ Apart p q = ⊤
 
 -- seats of objects that may live at once
 pub record AreSeats (seats : Seats) : Type 0 where
-  pub place : (k a n : ℕ) → seats k ≡ LiesAt a n → IsPlace a n
-  pub apart : (k l : ℕ) → k ≢ l → Apart (seats k) (seats l)
+  pub place : (k a n : ℕ) → seats.seat k ≡ LiesAt a n → IsPlace a n
+  pub apart : (k l : ℕ) → k ≢ l → Apart (seats.seat k) (seats.seat l)
 
 -- a seat for a new object beside the others
 pub record IsFree (seats : Seats) (object : ℕ) (s : Seat) : Type 0 where
   pub place : (a n : ℕ) → s ≡ LiesAt a n → IsPlace a n
-  pub apart : (l : ℕ) → l ≢ object → Apart s (seats l)
+  pub apart : (l : ℕ) → l ≢ object → Apart s (seats.seat l)
 
 -- a pointer to a living object
 pub record Points (seats : Seats) (object i y : ℕ) : Type 0 where
   pub start : ℕ
   pub count : ℕ
-  pub seat : seats object ≡ LiesAt start count
+  pub seat : seats.seat object ≡ LiesAt start count
   pub within : i ≤ count
   pub word : y ≡ start + i

@@ -2,4 +2,3 @@
 pub mod OfWords
 pub mod FitStatements
 pub mod Selecting
-pub mod TypedOfWords

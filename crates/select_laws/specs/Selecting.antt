@@ -1,30 +1,18 @@
 -- Programs whose runs selection keeps: well-formed ones of words, with objects at addresses of data memory.
 use Rattle.std.specs.Prelude.{⊤, ℕ, ◌≡◌, ◌<◌, ◌≤◌, true, List, slice_get, Some}
-use Rattle.std.specs.List.{AllByRecursion}
-use Rattle.c_tree.specs.declared.program.Initial.{Initial}
-use Rattle.c_tree.specs.declared.program.Initial.TheVariants as initial
 use Rattle.c_tree.specs.declared.program.VarRef.{VarRef}
-use Rattle.c_tree.specs.TypedTree.{ObjectTree}
 use Rattle.tree_code.specs.WellFormedCode.{IsCode}
 use Rattle.tree_code.specs.WordTree.{FunctionCode, ProgramCode}
 use Rattle.acc_select.specs.Selected.{is_main}
 use Rattle.code_runs.specs.Outside.{Places, address_of}
 use Rattle.code_runs.specs.TreeRun.{Addresses}
+use Rattle.code_runs.specs.TypedOfWords.{StartsWithWords}
 use Rattle.select_laws.specs.FitStatements.{IsFitStatement, ReturnsValues}
 use Rattle.select_laws.specs.OfWords.{IsOfWords}
 
 -- objects lie in data memory, and not at its first 16 words, so that no address is the count of a shift
 abbrev pub AreFar : Addresses → Type 0
 AreFar at = (v : VarRef) (a : ℕ) → at v ≡ Some a → (16 ≤ a) × (a < 65536)
-
--- what a listed cell of an object starts with is a word
-abbrev pub StartsWithWord : Initial → Type 0
-StartsWithWord (initial.Word w) = w < 65536
-StartsWithWord (initial.Address object index) = ⊤
-StartsWithWord initial.Null = ⊤
-
-abbrev pub StartsWithWords : List ObjectTree → Type 0
-StartsWithWords objects = AllByRecursion (λ o. AllByRecursion StartsWithWord o.initial) objects
 
 pub record IsWordProgram (q : Places) (p : ProgramCode) : Type 0 where
   pub code : IsCode p

@@ -1,9 +1,20 @@
 -- Typed programs of words: each constant of an expression, and each listed word of an object, is below 65536. That an operation that assigns
 -- gives a word, and no truth, is no clause: the rules of types leave comparisons out there.
-use Rattle.std.specs.Prelude.{◌<◌, ⊤, All, Option, Some, None}
+use Rattle.std.specs.Prelude.{◌<◌, ⊤, List, All, Option, Some, None}
+use Rattle.std.specs.List.{AllByRecursion}
+use Rattle.c_tree.specs.declared.program.Initial.{Initial}
+use Rattle.c_tree.specs.declared.program.Initial.TheVariants as initial
 use Rattle.c_tree.specs.TypedTree as tree
-use Rattle.c_tree.specs.TypedTree.{Expr, Node, Lvalue, Named, At, Form, Exprs, Stmt, Stmts, Choices, FunctionTree, ProgramTree}
-use Rattle.select_laws.specs.Selecting.{StartsWithWords}
+use Rattle.c_tree.specs.TypedTree.{Expr, Node, Lvalue, Named, At, Form, Exprs, Stmt, Stmts, Choices, ObjectTree, FunctionTree, ProgramTree}
+
+-- what a listed cell of an object starts with is a word
+abbrev pub StartsWithWord : Initial → Type 0
+StartsWithWord (initial.Word w) = w < 65536
+StartsWithWord (initial.Address object index) = ⊤
+StartsWithWord initial.Null = ⊤
+
+abbrev pub StartsWithWords : List ObjectTree → Type 0
+StartsWithWords objects = AllByRecursion (λ o. AllByRecursion StartsWithWord o.initial) objects
 
 abbrev mutual
   pub UsesWords : Expr → Type 0

@@ -1,0 +1,4 @@
+pub mod Composing
+pub mod Addresses
+pub mod Placing
+pub mod Examples

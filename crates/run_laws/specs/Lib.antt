@@ -1,0 +1,2 @@
+-- What the law of translation says.
+pub mod PlanPlaces
