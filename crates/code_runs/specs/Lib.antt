@@ -8,4 +8,3 @@ pub mod AccRun
 pub mod Keeps
 pub mod Weights
 pub mod SourceWeights
-pub mod TypedOfWords

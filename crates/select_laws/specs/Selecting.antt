@@ -6,7 +6,7 @@ use Rattle.tree_code.specs.WordTree.{FunctionCode, ProgramCode}
 use Rattle.acc_select.specs.Selected.{is_main}
 use Rattle.code_runs.specs.Outside.{Places, address_of}
 use Rattle.code_runs.specs.TreeRun.{Addresses}
-use Rattle.code_runs.specs.TypedOfWords.{StartsWithWords}
+use Rattle.tree_code.specs.TypedOfWords.{StartsWithWords}
 use Rattle.select_laws.specs.FitStatements.{IsFitStatement, ReturnsValues}
 use Rattle.select_laws.specs.OfWords.{IsOfWords}
 

@@ -3,6 +3,7 @@ pub mod Views
 pub mod CountingLemmas
 pub mod LoweredLemmas
 pub mod KeptLemmas
+pub mod WordsLemmas
 pub mod SoundLemmas
 pub mod CodeLemmas
 pub mod Examples

@@ -32,7 +32,7 @@ alike : {A B C : Type 0} (node : A → B → C) {a c : A} {b d : B} → a ≡ c 
 alike node {c = c} {b = b} first second = ap (λ x. node x b) first ∙ ap (node c) second
 
 -- the part of a list before the next place, with its element
-next : {A : Type 0} (list : List A) (i : ℕ) (x : A) → x ≡ get_or list i x → i < length list → take i list ++ x ∷ [] ≡ take (i + 1) list
+pub next : {A : Type 0} (list : List A) (i : ℕ) (x : A) → x ≡ get_or list i x → i < length list → take i list ++ x ∷ [] ≡ take (i + 1) list
 next list i x is within = sym (take_more list i x within ∙ ap (λ y. take i list ++ y ∷ []) (sym is))
 
 argument_pushed : (ws : List WordExpr) (w : WordExpr) (xs : List TypedExpr) (x : TypedExpr)

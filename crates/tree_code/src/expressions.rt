@@ -3,6 +3,7 @@ ghost use Rattle.std.specs.Prelude.{◌≡◌, IfOk};
 ghost use Rattle.c_tree.specs.View as typed;
 ghost use Rattle.tree_code.specs.Lowered as lowering;
 ghost use Rattle.tree_code.specs.Lowered.{lowered, lowered_form, lowered_target, lowered_list, lowered_optional};
+ghost use Rattle.tree_code.specs.TypedOfWords.{UsesWords, FormUsesWords, TargetUsesWords, AllUseWords, OptionalUsesWords};
 ghost use Rattle.tree_code.specs.WordTree as word;
 ghost use Rattle.tree_code.specs.WordView.{word_expr_of, word_form_of, word_lvalue_of, word_argument_list, optional_word_of};
 
@@ -78,7 +79,8 @@ fn operator_on(
 /// The word tree of an expression.
 #[cycle(expressions)]
 pub(crate) fn expression(alloc: Global, e: &TypedExpr) -> Result<WordExpr, NoMemory>
-    ensures { IfOk result (λ w. word_expr_of w ≡ lowered (typed.expr_of e.now)) }
+    ensures tree { IfOk result (λ w. word_expr_of w ≡ lowered (typed.expr_of e.now)) }
+    ensures words { IfOk result (λ _. UsesWords (typed.expr_of e.now)) }
 {
     operation(alloc, &e.form, e.kind, e.at)
 }
@@ -90,7 +92,8 @@ fn operation(
     kind: Option<ScalarType>,
     at: u32,
 ) -> Result<WordExpr, NoMemory>
-    ensures { IfOk result (λ w. word_expr_of w ≡ lowered_form (typed.form_of form.now) kind at) }
+    ensures tree { IfOk result (λ w. word_expr_of w ≡ lowered_form (typed.form_of form.now) kind at) }
+    ensures words { IfOk result (λ _. FormUsesWords (typed.form_of form.now)) }
 {
     match form {
         ExprForm::Const(word) => leaf(WordForm::Const(*word), at),
@@ -132,14 +135,16 @@ fn leaf(form: WordForm, at: u32) -> Result<WordExpr, NoMemory>
 
 #[cycle(expressions)]
 fn part(alloc: Global, e: &TypedExpr) -> Result<Box<WordExpr>, NoMemory>
-    ensures { IfOk result (λ w. word_expr_of w.value ≡ lowered (typed.expr_of e.now)) }
+    ensures tree { IfOk result (λ w. word_expr_of w.value ≡ lowered (typed.expr_of e.now)) }
+    ensures words { IfOk result (λ _. UsesWords (typed.expr_of e.now)) }
 {
     boxed(alloc, expression(alloc, e)?)
 }
 
 #[cycle(expressions)]
 fn load(alloc: Global, value: &TypedExpr, at: u32) -> Result<WordExpr, NoMemory>
-    ensures { IfOk result (λ w. word_expr_of w ≡ word.Node (word.Load (lowered (typed.expr_of value.now))) at) }
+    ensures tree { IfOk result (λ w. word_expr_of w ≡ word.Node (word.Load (lowered (typed.expr_of value.now))) at) }
+    ensures words { IfOk result (λ _. UsesWords (typed.expr_of value.now)) }
 {
     let value = part(alloc, value)?;
     Ok(WordExpr {
@@ -150,7 +155,8 @@ fn load(alloc: Global, value: &TypedExpr, at: u32) -> Result<WordExpr, NoMemory>
 
 #[cycle(expressions)]
 fn not(alloc: Global, value: &TypedExpr, at: u32) -> Result<WordExpr, NoMemory>
-    ensures { IfOk result (λ w. word_expr_of w ≡ word.Node (word.Not (lowered (typed.expr_of value.now))) at) }
+    ensures tree { IfOk result (λ w. word_expr_of w ≡ word.Node (word.Not (lowered (typed.expr_of value.now))) at) }
+    ensures words { IfOk result (λ _. UsesWords (typed.expr_of value.now)) }
 {
     let value = part(alloc, value)?;
     Ok(WordExpr {
@@ -161,7 +167,8 @@ fn not(alloc: Global, value: &TypedExpr, at: u32) -> Result<WordExpr, NoMemory>
 
 #[cycle(expressions)]
 fn out(alloc: Global, port: u8, value: &TypedExpr, at: u32) -> Result<WordExpr, NoMemory>
-    ensures { IfOk result (λ w. word_expr_of w ≡ word.Node (word.Out port (lowered (typed.expr_of value.now))) at) }
+    ensures tree { IfOk result (λ w. word_expr_of w ≡ word.Node (word.Out port (lowered (typed.expr_of value.now))) at) }
+    ensures words { IfOk result (λ _. UsesWords (typed.expr_of value.now)) }
 {
     let value = part(alloc, value)?;
     Ok(WordExpr {
@@ -172,7 +179,8 @@ fn out(alloc: Global, port: u8, value: &TypedExpr, at: u32) -> Result<WordExpr, 
 
 #[cycle(expressions)]
 fn unary(alloc: Global, op: UnaryOp, value: &TypedExpr, at: u32) -> Result<WordExpr, NoMemory>
-    ensures { IfOk result (λ w. word_expr_of w ≡ lowering.lowered_unary op (lowering.is_converted (typed.expr_of value.now)) (lowered (typed.expr_of value.now)) at) }
+    ensures tree { IfOk result (λ w. word_expr_of w ≡ lowering.lowered_unary op (lowering.is_converted (typed.expr_of value.now)) (lowered (typed.expr_of value.now)) at) }
+    ensures words { IfOk result (λ _. UsesWords (typed.expr_of value.now)) }
 {
     let converted = is_conversion(&value.form);
     operator_on(alloc, op, converted, expression(alloc, value)?, at)
@@ -187,7 +195,8 @@ fn binary(
     left: Box<WordExpr>,
     at: u32,
 ) -> Result<WordExpr, NoMemory>
-    ensures { IfOk result (λ w. word_expr_of w ≡ word.Node (word.Binary op (word_expr_of left.value) (lowered (typed.expr_of right.now))) at) }
+    ensures tree { IfOk result (λ w. word_expr_of w ≡ word.Node (word.Binary op (word_expr_of left.value) (lowered (typed.expr_of right.now))) at) }
+    ensures words { IfOk result (λ _. UsesWords (typed.expr_of right.now)) }
 {
     let right = part(alloc, right)?;
     Ok(WordExpr {
@@ -198,7 +207,8 @@ fn binary(
 
 #[cycle(expressions)]
 fn and(alloc: Global, right: &TypedExpr, left: Box<WordExpr>, at: u32) -> Result<WordExpr, NoMemory>
-    ensures { IfOk result (λ w. word_expr_of w ≡ word.Node (word.And (word_expr_of left.value) (lowered (typed.expr_of right.now))) at) }
+    ensures tree { IfOk result (λ w. word_expr_of w ≡ word.Node (word.And (word_expr_of left.value) (lowered (typed.expr_of right.now))) at) }
+    ensures words { IfOk result (λ _. UsesWords (typed.expr_of right.now)) }
 {
     let right = part(alloc, right)?;
     Ok(WordExpr {
@@ -209,7 +219,8 @@ fn and(alloc: Global, right: &TypedExpr, left: Box<WordExpr>, at: u32) -> Result
 
 #[cycle(expressions)]
 fn or(alloc: Global, right: &TypedExpr, left: Box<WordExpr>, at: u32) -> Result<WordExpr, NoMemory>
-    ensures { IfOk result (λ w. word_expr_of w ≡ word.Node (word.Or (word_expr_of left.value) (lowered (typed.expr_of right.now))) at) }
+    ensures tree { IfOk result (λ w. word_expr_of w ≡ word.Node (word.Or (word_expr_of left.value) (lowered (typed.expr_of right.now))) at) }
+    ensures words { IfOk result (λ _. UsesWords (typed.expr_of right.now)) }
 {
     let right = part(alloc, right)?;
     Ok(WordExpr {
@@ -225,7 +236,8 @@ fn comma(
     left: Box<WordExpr>,
     at: u32,
 ) -> Result<WordExpr, NoMemory>
-    ensures { IfOk result (λ w. word_expr_of w ≡ word.Node (word.Comma (word_expr_of left.value) (lowered (typed.expr_of right.now))) at) }
+    ensures tree { IfOk result (λ w. word_expr_of w ≡ word.Node (word.Comma (word_expr_of left.value) (lowered (typed.expr_of right.now))) at) }
+    ensures words { IfOk result (λ _. UsesWords (typed.expr_of right.now)) }
 {
     let right = part(alloc, right)?;
     Ok(WordExpr {
@@ -242,7 +254,8 @@ fn pick(
     yes: Box<WordExpr>,
     at: u32,
 ) -> Result<WordExpr, NoMemory>
-    ensures { IfOk result (λ w. word_expr_of w ≡ word.Node (word.Pick (word_expr_of test.value) (word_expr_of yes.value) (lowered (typed.expr_of no.now))) at) }
+    ensures tree { IfOk result (λ w. word_expr_of w ≡ word.Node (word.Pick (word_expr_of test.value) (word_expr_of yes.value) (lowered (typed.expr_of no.now))) at) }
+    ensures words { IfOk result (λ _. UsesWords (typed.expr_of no.now)) }
 {
     let no = part(alloc, no)?;
     Ok(WordExpr {
@@ -253,7 +266,8 @@ fn pick(
 
 #[cycle(expressions)]
 fn assign(alloc: Global, value: &TypedExpr, to: WordTarget, at: u32) -> Result<WordExpr, NoMemory>
-    ensures { IfOk result (λ w. word_expr_of w ≡ word.Node (word.Assign (word_lvalue_of to.form to.at) (lowered (typed.expr_of value.now))) at) }
+    ensures tree { IfOk result (λ w. word_expr_of w ≡ word.Node (word.Assign (word_lvalue_of to.form to.at) (lowered (typed.expr_of value.now))) at) }
+    ensures words { IfOk result (λ _. UsesWords (typed.expr_of value.now)) }
 {
     let value = part(alloc, value)?;
     Ok(WordExpr {
@@ -270,7 +284,8 @@ fn assign_op(
     to: WordTarget,
     at: u32,
 ) -> Result<WordExpr, NoMemory>
-    ensures { IfOk result (λ w. word_expr_of w ≡ word.Node (word.AssignOp op (word_lvalue_of to.form to.at) (lowered (typed.expr_of value.now))) at) }
+    ensures tree { IfOk result (λ w. word_expr_of w ≡ word.Node (word.AssignOp op (word_lvalue_of to.form to.at) (lowered (typed.expr_of value.now))) at) }
+    ensures words { IfOk result (λ _. UsesWords (typed.expr_of value.now)) }
 {
     let value = part(alloc, value)?;
     Ok(WordExpr {
@@ -281,7 +296,8 @@ fn assign_op(
 
 #[cycle(expressions)]
 fn step_before(alloc: Global, up: bool, to: &Target, at: u32) -> Result<WordExpr, NoMemory>
-    ensures { IfOk result (λ w. word_expr_of w ≡ word.Node (word.StepBefore up (lowered_target (typed.lvalue_of to.now.form to.now.at))) at) }
+    ensures tree { IfOk result (λ w. word_expr_of w ≡ word.Node (word.StepBefore up (lowered_target (typed.lvalue_of to.now.form to.now.at))) at) }
+    ensures words { IfOk result (λ _. TargetUsesWords (typed.lvalue_of to.now.form to.now.at)) }
 {
     let to = target(alloc, to)?;
     Ok(WordExpr {
@@ -292,7 +308,8 @@ fn step_before(alloc: Global, up: bool, to: &Target, at: u32) -> Result<WordExpr
 
 #[cycle(expressions)]
 fn step_after(alloc: Global, up: bool, to: &Target, at: u32) -> Result<WordExpr, NoMemory>
-    ensures { IfOk result (λ w. word_expr_of w ≡ word.Node (word.StepAfter up (lowered_target (typed.lvalue_of to.now.form to.now.at))) at) }
+    ensures tree { IfOk result (λ w. word_expr_of w ≡ word.Node (word.StepAfter up (lowered_target (typed.lvalue_of to.now.form to.now.at))) at) }
+    ensures words { IfOk result (λ _. TargetUsesWords (typed.lvalue_of to.now.form to.now.at)) }
 {
     let to = target(alloc, to)?;
     Ok(WordExpr {
@@ -303,7 +320,8 @@ fn step_after(alloc: Global, up: bool, to: &Target, at: u32) -> Result<WordExpr,
 
 #[cycle(expressions)]
 fn call(alloc: Global, function: u16, list: &[TypedExpr], at: u32) -> Result<WordExpr, NoMemory>
-    ensures { IfOk result (λ w. word_expr_of w ≡ word.Node (word.Call function (lowered_list (typed.argument_list list.now))) at) }
+    ensures tree { IfOk result (λ w. word_expr_of w ≡ word.Node (word.Call function (lowered_list (typed.argument_list list.now))) at) }
+    ensures words { IfOk result (λ _. AllUseWords (typed.argument_list list.now)) }
 {
     let args = arguments(alloc, list)?;
     Ok(WordExpr {
@@ -314,7 +332,8 @@ fn call(alloc: Global, function: u16, list: &[TypedExpr], at: u32) -> Result<Wor
 
 #[cycle(expressions)]
 fn target(alloc: Global, to: &Target) -> Result<WordTarget, NoMemory>
-    ensures { IfOk result (λ w. word_lvalue_of w.form w.at ≡ lowered_target (typed.lvalue_of to.now.form to.now.at)) }
+    ensures tree { IfOk result (λ w. word_lvalue_of w.form w.at ≡ lowered_target (typed.lvalue_of to.now.form to.now.at)) }
+    ensures words { IfOk result (λ _. TargetUsesWords (typed.lvalue_of to.now.form to.now.at)) }
 {
     let at = to.at;
     match &to.form {
@@ -328,7 +347,8 @@ fn target(alloc: Global, to: &Target) -> Result<WordTarget, NoMemory>
 
 #[cycle(expressions)]
 fn address(alloc: Global, pointer: &TypedExpr, at: u32) -> Result<WordTarget, NoMemory>
-    ensures { IfOk result (λ w. word_lvalue_of w.form w.at ≡ word.At (lowered (typed.expr_of pointer.now)) at) }
+    ensures tree { IfOk result (λ w. word_lvalue_of w.form w.at ≡ word.At (lowered (typed.expr_of pointer.now)) at) }
+    ensures words { IfOk result (λ _. UsesWords (typed.expr_of pointer.now)) }
 {
     let pointer = part(alloc, pointer)?;
     Ok(WordTarget {
@@ -339,7 +359,8 @@ fn address(alloc: Global, pointer: &TypedExpr, at: u32) -> Result<WordTarget, No
 
 #[cycle(expressions)]
 fn arguments(alloc: Global, list: &[TypedExpr]) -> Result<Vec<WordExpr>, NoMemory>
-    ensures { IfOk result (λ all. word_argument_list all.items ≡ lowered_list (typed.argument_list list.now)) }
+    ensures tree { IfOk result (λ all. word_argument_list all.items ≡ lowered_list (typed.argument_list list.now)) }
+    ensures words { IfOk result (λ _. AllUseWords (typed.argument_list list.now)) }
 {
     let mut all = Vec::new(alloc);
     for e in list {
@@ -350,7 +371,8 @@ fn arguments(alloc: Global, list: &[TypedExpr]) -> Result<Vec<WordExpr>, NoMemor
 
 /// The word tree of an expression that may be absent.
 pub(crate) fn optional(alloc: Global, e: &Option<TypedExpr>) -> Result<Option<WordExpr>, NoMemory>
-    ensures { IfOk result (λ w. optional_word_of w ≡ lowered_optional (typed.option_expr_of e.now)) }
+    ensures tree { IfOk result (λ w. optional_word_of w ≡ lowered_optional (typed.option_expr_of e.now)) }
+    ensures words { IfOk result (λ _. OptionalUsesWords (typed.option_expr_of e.now)) }
 {
     match e {
         Some(e) => Ok(Some(expression(alloc, e)?)),

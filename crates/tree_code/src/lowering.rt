@@ -6,6 +6,7 @@ ghost use Rattle.c_tree.specs.View.{object_of};
 ghost use Rattle.c_tree.specs.ProgramView.{program_of};
 ghost use Rattle.tree_code.specs.ProgramView.{tree_of};
 ghost use Rattle.tree_code.specs.Lowered.{HasFewScalars, lowered_function, lowered_program};
+ghost use Rattle.tree_code.specs.TypedOfWords.{StartsWithWords, FunctionHasWords, HasWords};
 ghost use Rattle.tree_code.specs.WordTree.{code};
 ghost use Rattle.tree_code.specs.WellFormedCode.{IsCode};
 ghost use Rattle.tree_code.specs.WordTemporaries.{word_statement_temporaries};
@@ -22,7 +23,8 @@ use word_base::{Items, NoMemory};
 
 /// The word tree of a program. It fails only where an allocation fails.
 pub fn lower(alloc: Global, program: &Program) -> Result<TreeProgram, NoMemory>
-    ensures { IfOk result (λ t. tree_of t ≡ lowered_program (program_of program.now)) }
+    ensures tree { IfOk result (λ t. tree_of t ≡ lowered_program (program_of program.now)) }
+    ensures words { IfOk result (λ _. HasWords (program_of program.now)) }
 {
     let functions = functions(alloc, program.functions.as_slice())?;
     let statics = copied_objects(alloc, program.statics.as_slice())?;
@@ -38,7 +40,8 @@ fn of_parts(statics: Items<Object>, functions: Items<TreeFunction>) -> TreeProgr
 
 fn functions(alloc: Global, list: &[Function]) -> Result<Items<TreeFunction>, NoMemory>
     requires { All (λ f. HasFewScalars (typed.function_of f)) list.now }
-    ensures { IfOk result (λ all. map function_code_of all ≡ map lowered_function (map typed.function_of list.now)) }
+    ensures tree { IfOk result (λ all. map function_code_of all ≡ map lowered_function (map typed.function_of list.now)) }
+    ensures words { IfOk result (λ _. All FunctionHasWords (map typed.function_of list.now)) }
 {
     let mut all = Vec::new(alloc);
     for f in list {
@@ -49,7 +52,8 @@ fn functions(alloc: Global, list: &[Function]) -> Result<Items<TreeFunction>, No
 
 fn function(alloc: Global, f: &Function) -> Result<TreeFunction, NoMemory>
     requires { HasFewScalars (typed.function_of f.now) }
-    ensures { IfOk result (λ t. function_code_of t ≡ lowered_function (typed.function_of f.now)) }
+    ensures tree { IfOk result (λ t. function_code_of t ≡ lowered_function (typed.function_of f.now)) }
+    ensures words { IfOk result (λ _. FunctionHasWords (typed.function_of f.now)) }
 {
     let body = lowered_body(alloc, &f.body)?;
     with_body(alloc, f, body)
@@ -57,7 +61,8 @@ fn function(alloc: Global, f: &Function) -> Result<TreeFunction, NoMemory>
 
 fn with_body(alloc: Global, f: &Function, body: WordStmt) -> Result<TreeFunction, NoMemory>
     requires { length f.now.scalars + word_statement_temporaries (word_stmt_of body) ≤ MOST_FRAME_SCALARS }
-    ensures { IfOk result (λ t. function_code_of t ≡ record { name = f.now.name; scalars = length f.now.scalars + word_statement_temporaries (word_stmt_of body); params = f.now.params; locals = map typed.object_of f.now.locals; body = word_stmt_of body }) }
+    ensures tree { IfOk result (λ t. function_code_of t ≡ record { name = f.now.name; scalars = length f.now.scalars + word_statement_temporaries (word_stmt_of body); params = f.now.params; locals = map typed.object_of f.now.locals; body = word_stmt_of body }) }
+    ensures words { IfOk result (λ _. StartsWithWords (map typed.object_of f.now.locals)) }
 {
     let name = copied_name(alloc, &f.name)?;
     let params = copied_references(alloc, f.params.as_slice())?;

@@ -3,6 +3,7 @@ ghost use Rattle.std.specs.Prelude.{◌≡◌, IfOk, []};
 ghost use Rattle.c_tree.specs.View as typed;
 ghost use Rattle.c_tree.specs.TypedTree as tree;
 ghost use Rattle.tree_code.specs.Lowered.{lowered, lowered_optional, lowered_statement, lowered_statements, lowered_choices};
+ghost use Rattle.tree_code.specs.TypedOfWords.{UsesWords, OptionalUsesWords, StatementUsesWords, StatementsUseWords, ChoicesUseWords};
 ghost use Rattle.tree_code.specs.WordTree as word;
 ghost use Rattle.tree_code.specs.WordView.{optional_word_of, word_stmt_of, word_statement_list, word_choice_list, word_choice_before};
 
@@ -15,14 +16,16 @@ use word_base::NoMemory;
 
 /// The word tree of a statement.
 pub(crate) fn lowered_body(alloc: Global, s: &TypedStmt) -> Result<WordStmt, NoMemory>
-    ensures { IfOk result (λ w. word_stmt_of w ≡ lowered_statement (typed.stmt_of s.now)) }
+    ensures tree { IfOk result (λ w. word_stmt_of w ≡ lowered_statement (typed.stmt_of s.now)) }
+    ensures words { IfOk result (λ _. StatementUsesWords (typed.stmt_of s.now)) }
 {
     statement(alloc, s)
 }
 
 #[cycle(statements)]
 fn statement(alloc: Global, s: &TypedStmt) -> Result<WordStmt, NoMemory>
-    ensures { IfOk result (λ w. word_stmt_of w ≡ lowered_statement (typed.stmt_of s.now)) }
+    ensures tree { IfOk result (λ w. word_stmt_of w ≡ lowered_statement (typed.stmt_of s.now)) }
+    ensures words { IfOk result (λ _. StatementUsesWords (typed.stmt_of s.now)) }
 {
     match s {
         TypedStmt::Break => Ok(WordStmt::Break),
@@ -51,13 +54,15 @@ fn statement(alloc: Global, s: &TypedStmt) -> Result<WordStmt, NoMemory>
 }
 
 fn effect(alloc: Global, e: &TypedExpr) -> Result<WordStmt, NoMemory>
-    ensures { IfOk result (λ w. word_stmt_of w ≡ word.Do_expr (lowered (typed.expr_of e.now))) }
+    ensures tree { IfOk result (λ w. word_stmt_of w ≡ word.Do_expr (lowered (typed.expr_of e.now))) }
+    ensures words { IfOk result (λ _. UsesWords (typed.expr_of e.now)) }
 {
     Ok(WordStmt::Expr(expression(alloc, e)?))
 }
 
 fn returned(alloc: Global, e: &Option<TypedExpr>) -> Result<WordStmt, NoMemory>
-    ensures { IfOk result (λ w. word_stmt_of w ≡ word.Return (lowered_optional (typed.option_expr_of e.now))) }
+    ensures tree { IfOk result (λ w. word_stmt_of w ≡ word.Return (lowered_optional (typed.option_expr_of e.now))) }
+    ensures words { IfOk result (λ _. OptionalUsesWords (typed.option_expr_of e.now)) }
 {
     Ok(WordStmt::Return(optional(alloc, e)?))
 }
@@ -70,14 +75,16 @@ fn boxed(alloc: Global, s: WordStmt) -> Result<Box<WordStmt>, NoMemory>
 
 #[cycle(statements)]
 fn part(alloc: Global, s: &TypedStmt) -> Result<Box<WordStmt>, NoMemory>
-    ensures { IfOk result (λ w. word_stmt_of w.value ≡ lowered_statement (typed.stmt_of s.now)) }
+    ensures tree { IfOk result (λ w. word_stmt_of w.value ≡ lowered_statement (typed.stmt_of s.now)) }
+    ensures words { IfOk result (λ _. StatementUsesWords (typed.stmt_of s.now)) }
 {
     boxed(alloc, statement(alloc, s)?)
 }
 
 #[cycle(statements)]
 fn block(alloc: Global, declared: &[VarRef], list: &[TypedStmt]) -> Result<WordStmt, NoMemory>
-    ensures { IfOk result (λ w. word_stmt_of w ≡ word.Block declared.now (lowered_statements (typed.statement_list list.now))) }
+    ensures tree { IfOk result (λ w. word_stmt_of w ≡ word.Block declared.now (lowered_statements (typed.statement_list list.now))) }
+    ensures words { IfOk result (λ _. StatementsUseWords (typed.statement_list list.now)) }
 {
     let body = statements(alloc, list)?;
     let declared = declared.to_vec(alloc)?;
@@ -92,7 +99,8 @@ fn if_else(
     yes: Box<WordStmt>,
     test: &TypedExpr,
 ) -> Result<WordStmt, NoMemory>
-    ensures { IfOk result (λ w. word_stmt_of w ≡ word.If (lowered (typed.expr_of test.now)) (word_stmt_of yes.value) (lowered_statement (typed.stmt_of no.now))) }
+    ensures tree { IfOk result (λ w. word_stmt_of w ≡ word.If (lowered (typed.expr_of test.now)) (word_stmt_of yes.value) (lowered_statement (typed.stmt_of no.now))) }
+    ensures words { IfOk result (λ _. UsesWords (typed.expr_of test.now) × StatementUsesWords (typed.stmt_of no.now)) }
 {
     let no = part(alloc, no)?;
     if_both(alloc, test, yes, no)
@@ -104,7 +112,8 @@ fn if_both(
     yes: Box<WordStmt>,
     no: Box<WordStmt>,
 ) -> Result<WordStmt, NoMemory>
-    ensures { IfOk result (λ w. word_stmt_of w ≡ word.If (lowered (typed.expr_of test.now)) (word_stmt_of yes.value) (word_stmt_of no.value)) }
+    ensures tree { IfOk result (λ w. word_stmt_of w ≡ word.If (lowered (typed.expr_of test.now)) (word_stmt_of yes.value) (word_stmt_of no.value)) }
+    ensures words { IfOk result (λ _. UsesWords (typed.expr_of test.now)) }
 {
     let test = expression(alloc, test)?;
     Ok(WordStmt::If {
@@ -116,7 +125,8 @@ fn if_both(
 
 #[cycle(statements)]
 fn if_alone(alloc: Global, yes: &TypedStmt, test: &TypedExpr) -> Result<WordStmt, NoMemory>
-    ensures { IfOk result (λ w. word_stmt_of w ≡ word.If (lowered (typed.expr_of test.now)) (lowered_statement (typed.stmt_of yes.now)) (word.Block [] word.done)) }
+    ensures tree { IfOk result (λ w. word_stmt_of w ≡ word.If (lowered (typed.expr_of test.now)) (lowered_statement (typed.stmt_of yes.now)) (word.Block [] word.done)) }
+    ensures words { IfOk result (λ _. UsesWords (typed.expr_of test.now) × StatementUsesWords (typed.stmt_of yes.now)) }
 {
     let yes = part(alloc, yes)?;
     let test = expression(alloc, test)?;
@@ -129,7 +139,8 @@ fn if_alone(alloc: Global, yes: &TypedStmt, test: &TypedExpr) -> Result<WordStmt
 
 #[cycle(statements)]
 fn while_loop(alloc: Global, body: &TypedStmt, test: &TypedExpr) -> Result<WordStmt, NoMemory>
-    ensures { IfOk result (λ w. word_stmt_of w ≡ word.While (lowered (typed.expr_of test.now)) (lowered_statement (typed.stmt_of body.now))) }
+    ensures tree { IfOk result (λ w. word_stmt_of w ≡ word.While (lowered (typed.expr_of test.now)) (lowered_statement (typed.stmt_of body.now))) }
+    ensures words { IfOk result (λ _. UsesWords (typed.expr_of test.now) × StatementUsesWords (typed.stmt_of body.now)) }
 {
     let body = part(alloc, body)?;
     let test = expression(alloc, test)?;
@@ -138,7 +149,8 @@ fn while_loop(alloc: Global, body: &TypedStmt, test: &TypedExpr) -> Result<WordS
 
 #[cycle(statements)]
 fn do_loop(alloc: Global, body: &TypedStmt, test: &TypedExpr) -> Result<WordStmt, NoMemory>
-    ensures { IfOk result (λ w. word_stmt_of w ≡ word.Do_while (lowered_statement (typed.stmt_of body.now)) (lowered (typed.expr_of test.now))) }
+    ensures tree { IfOk result (λ w. word_stmt_of w ≡ word.Do_while (lowered_statement (typed.stmt_of body.now)) (lowered (typed.expr_of test.now))) }
+    ensures words { IfOk result (λ _. StatementUsesWords (typed.stmt_of body.now) × UsesWords (typed.expr_of test.now)) }
 {
     let body = part(alloc, body)?;
     let test = expression(alloc, test)?;
@@ -153,7 +165,8 @@ fn for_loop(
     test: &Option<TypedExpr>,
     third: &Option<TypedExpr>,
 ) -> Result<WordStmt, NoMemory>
-    ensures { IfOk result (λ w. word_stmt_of w ≡ word.For (lowered_optional (typed.option_expr_of first.now)) (lowered_optional (typed.option_expr_of test.now)) (lowered_optional (typed.option_expr_of third.now)) (lowered_statement (typed.stmt_of body.now))) }
+    ensures tree { IfOk result (λ w. word_stmt_of w ≡ word.For (lowered_optional (typed.option_expr_of first.now)) (lowered_optional (typed.option_expr_of test.now)) (lowered_optional (typed.option_expr_of third.now)) (lowered_statement (typed.stmt_of body.now))) }
+    ensures words { IfOk result (λ _. OptionalUsesWords (typed.option_expr_of first.now) × OptionalUsesWords (typed.option_expr_of test.now) × OptionalUsesWords (typed.option_expr_of third.now) × StatementUsesWords (typed.stmt_of body.now)) }
 {
     let body = part(alloc, body)?;
     for_over(alloc, first, test, third, body)
@@ -167,7 +180,8 @@ fn for_over(
     third: &Option<TypedExpr>,
     body: Box<WordStmt>,
 ) -> Result<WordStmt, NoMemory>
-    ensures { IfOk result (λ w. word_stmt_of w ≡ word.For (lowered_optional (typed.option_expr_of first.now)) (lowered_optional (typed.option_expr_of test.now)) (lowered_optional (typed.option_expr_of third.now)) (word_stmt_of body.value)) }
+    ensures tree { IfOk result (λ w. word_stmt_of w ≡ word.For (lowered_optional (typed.option_expr_of first.now)) (lowered_optional (typed.option_expr_of test.now)) (lowered_optional (typed.option_expr_of third.now)) (word_stmt_of body.value)) }
+    ensures words { IfOk result (λ _. OptionalUsesWords (typed.option_expr_of first.now) × OptionalUsesWords (typed.option_expr_of test.now) × OptionalUsesWords (typed.option_expr_of third.now)) }
 {
     let first = optional(alloc, first)?;
     for_from(alloc, first, test, third, body)
@@ -181,7 +195,8 @@ fn for_from(
     third: &Option<TypedExpr>,
     body: Box<WordStmt>,
 ) -> Result<WordStmt, NoMemory>
-    ensures { IfOk result (λ w. word_stmt_of w ≡ word.For (optional_word_of first) (lowered_optional (typed.option_expr_of test.now)) (lowered_optional (typed.option_expr_of third.now)) (word_stmt_of body.value)) }
+    ensures tree { IfOk result (λ w. word_stmt_of w ≡ word.For (optional_word_of first) (lowered_optional (typed.option_expr_of test.now)) (lowered_optional (typed.option_expr_of third.now)) (word_stmt_of body.value)) }
+    ensures words { IfOk result (λ _. OptionalUsesWords (typed.option_expr_of test.now) × OptionalUsesWords (typed.option_expr_of third.now)) }
 {
     let test = optional(alloc, test)?;
     let third = optional(alloc, third)?;
@@ -195,7 +210,8 @@ fn for_from(
 
 #[cycle(statements)]
 fn switch(alloc: Global, all: &[Choice], value: &TypedExpr) -> Result<WordStmt, NoMemory>
-    ensures { IfOk result (λ w. word_stmt_of w ≡ word.Switch (lowered (typed.expr_of value.now)) (lowered_choices (typed.choice_list all.now))) }
+    ensures tree { IfOk result (λ w. word_stmt_of w ≡ word.Switch (lowered (typed.expr_of value.now)) (lowered_choices (typed.choice_list all.now))) }
+    ensures words { IfOk result (λ _. UsesWords (typed.expr_of value.now) × ChoicesUseWords (typed.choice_list all.now)) }
 {
     let choices = choices(alloc, all)?;
     let value = expression(alloc, value)?;
@@ -204,7 +220,8 @@ fn switch(alloc: Global, all: &[Choice], value: &TypedExpr) -> Result<WordStmt, 
 
 #[cycle(statements)]
 fn statements(alloc: Global, list: &[TypedStmt]) -> Result<Vec<WordStmt>, NoMemory>
-    ensures { IfOk result (λ all. word_statement_list all.items ≡ lowered_statements (typed.statement_list list.now)) }
+    ensures tree { IfOk result (λ all. word_statement_list all.items ≡ lowered_statements (typed.statement_list list.now)) }
+    ensures words { IfOk result (λ _. StatementsUseWords (typed.statement_list list.now)) }
 {
     let mut all = Vec::new(alloc);
     for s in list {
@@ -215,7 +232,8 @@ fn statements(alloc: Global, list: &[TypedStmt]) -> Result<Vec<WordStmt>, NoMemo
 
 #[cycle(statements)]
 fn choices(alloc: Global, list: &[Choice]) -> Result<Vec<WordChoice>, NoMemory>
-    ensures { IfOk result (λ all. word_choice_list all.items ≡ lowered_choices (typed.choice_list list.now)) }
+    ensures tree { IfOk result (λ all. word_choice_list all.items ≡ lowered_choices (typed.choice_list list.now)) }
+    ensures words { IfOk result (λ _. ChoicesUseWords (typed.choice_list list.now)) }
 {
     let mut all = Vec::new(alloc);
     for part in list {
@@ -226,7 +244,8 @@ fn choices(alloc: Global, list: &[Choice]) -> Result<Vec<WordChoice>, NoMemory>
 
 #[cycle(statements)]
 fn choice(alloc: Global, part: &Choice) -> Result<WordChoice, NoMemory>
-    ensures { IfOk result (λ w. word_choice_before w word.no_more ≡ lowered_choices (typed.choice_before part.now tree.no_more)) }
+    ensures tree { IfOk result (λ w. word_choice_before w word.no_more ≡ lowered_choices (typed.choice_before part.now tree.no_more)) }
+    ensures words { IfOk result (λ _. ChoicesUseWords (typed.choice_before part.now tree.no_more)) }
 {
     match part {
         Choice::Case(word) => Ok(WordChoice::Case(*word)),

@@ -1,8 +1,9 @@
-use Rattle.std.proofs.Common.{◌≡◌, refl, map, rules}
+use Rattle.std.proofs.Common.{◌≡◌, refl, subst, map, All, rules}
 use Rattle.c_tree.specs.View as typed
 use Rattle.c_tree.specs.View.{object_of}
 use Rattle.c_tree.specs.ProgramView.{program_of}
 use Rattle.tree_code.specs.Lowered.{lowered_function}
+use Rattle.tree_code.specs.TypedOfWords.{StartsWithWords, FunctionHasWords}
 use Rattle.tree_code.specs.WordView.{function_code_of}
 use Rattle.tree_code.proofs.CodeLemmas.{code_of, few_scalars}
 use Rattle.tree_code.proofs.lowering.lower.Goals as goal
@@ -16,3 +17,9 @@ of_parts-requires c =
 pub functions-requires : goal.functions-requires
 functions-requires c =
     few_scalars (program_of c.args.program.now) c.args.program.now.functions c.as_slice.result.now refl c.as_slice.ensures c.args.program.now.well_formed
+
+pub returns-clause-words : goal.returns-clause-words
+returns-clause-words c = record {
+  statics = subst (λ l. StartsWithWords (map object_of l)) c.as_slice-2.ensures c.in_ok-statics.ensures.words;
+  functions = subst (λ l. All FunctionHasWords (map typed.function_of l)) c.as_slice.ensures c.in_ok-functions.ensures.words;
+}
