@@ -11,7 +11,7 @@ use Rattle.c25_isa.specs.Agrees.{Agrees}
 use Rattle.c25_isa.specs.Image.{Contents}
 use Rattle.lay_cert.specs.Frames.{Frame}
 use Rattle.cc_frames.specs.declared.options.Options.{Options}
-use Rattle.cc_image.specs.Images.{AccessAs, HasFrames, HasImage}
+use Rattle.cc_image.specs.Images.{AccessAs, HasFrames, HasImage, KeepsRuns}
 use Rattle.cc_thin.specs.Thin.{IsThinProgram}
 
 -- the bytes have a tree, this a typed program, and that has the image, which is linked from its pieces and the routines, and the frames, which are
@@ -27,4 +27,6 @@ pub record IsBuilt (o : Options) (bytes : List ℕ) (image : Contents) (frames :
   pub framed : HasFrames o program frames
   -- each frame is laid out for the accesses of its function in the source
   pub accesses : AccessAs o.step program frames
+  -- what its accumulator code does, with objects where the plan has them, is what the program does
+  pub keeps : ∥ KeepsRuns o program ∥₁
   pub agrees : IsThinProgram program → Agrees (source_run program) image.words

@@ -1,7 +1,17 @@
 -- What emission wants of the code of a program, and what the faults of phases say of the program.
 use Rattle.std.proofs.Common.{◌≡◌, ◌<◌, ℕ, zero, suc, List, [], ◌∷◌, length, refl, sym, subst, arith}
-use Rattle.std.specs.Prelude.{All, slice_get, slice_index_or, Some, Result, Ok, Err, IfErr, IsErrAnd}
+use Rattle.std.specs.Prelude.{All, slice_get, slice_index_or, Some, Result, Ok, Err, IfOk, IfErr, IsErrAnd}
+use Rattle.std.proofs.Math.Logic.{∥∥₁_map}
+use Rattle.word_base.specs.Ports.{Input, IsInput}
+use Rattle.c_tree.specs.SourceRun.{source_run}
 use Rattle.c_tree.specs.TypedTree.{ProgramTree}
+use Rattle.c_tree.specs.WellFormedProgram.{IsProgram}
+use Rattle.tree_code.specs.TypedOfWords.{HasWords}
+use Rattle.acc_select.specs.Selected.{selected}
+use Rattle.code_runs.specs.Keeps.{acc_run}
+use Rattle.lower_laws.specs.Lowering.{KeepsSource}
+use Rattle.mem_plan.specs.Plan.{AreArranged, IsPlan}
+use Rattle.run_laws.specs.PlanPlaces.{places_of}
 use Rattle.tree_code.specs.WordTree.{ProgramCode}
 use Rattle.tree_code.specs.Lowered.{lowered_program}
 use Rattle.acc_code.specs.AccTree.{FunctionItems}
@@ -17,7 +27,7 @@ use Rattle.cc_image.specs.declared.fault.TranslationFault.{TranslationFault}
 use Rattle.cc_image.specs.declared.fault.TranslationFault.TheVariants.{Plan, Link, NoMemory}
 use Rattle.cc_image.specs.Faults.{Says, SaysOfTree, SaysOfPieces}
 use Rattle.cc_frames.specs.declared.options.Options.{Options}
-use Rattle.cc_image.specs.Images.{IsPlanOf, all_pieces}
+use Rattle.cc_image.specs.Images.{IsPlanOf, KeepsRuns, all_pieces, layouts}
 
 pub element_at : {A : Type 0} (xs : List A) (k : ℕ) (d : A) → k < length xs → slice_get xs k ≡ Some (slice_index_or xs k d)
 element_at [] k d within = absurd (omega (arith, within))
@@ -35,6 +45,20 @@ emittable_right p gs is = λ k d within.
     let g = slice_index_or gs k d in
     let each = is.each k f.0 g f.1 (element_at gs k d within) in
     all_right g.scalars (object_cells p f.0) (called_parameters p f.0) (uses_helper f.0.body) g.body each.body.refers
+
+-- what is made has what is so of all that could be
+pub ok_then : {A E : Type 0} {P Q : A → Type 0} (r : Result A E) → IfOk r P → ((a : A) → P a → Q a) → IfOk r Q
+ok_then (Ok a) h k = k a h
+ok_then (Err e) h k = tt
+
+-- the law of runs for the layouts of a program
+abbrev pub RunsKept : Type 0
+RunsKept = (t : ProgramTree) (arrangements : List (List (List ℕ))) (plan : DataPlan) (input : Input) (n : ℕ) → IsProgram t → HasWords t → AreArranged (lowered_program t).functions arrangements → IsPlan (lowered_program t) arrangements plan → IsInput input
+    → KeepsSource (source_run t input n) (acc_run (places_of plan) (lowered_program t) (selected (lowered_program t)) input n)
+
+pub runs_kept : RunsKept → (o : Options) (t : ProgramTree) (p : ProgramCode) → p ≡ lowered_program t → ∥ IsProgram t ∥₁ → HasWords t → AreArranged p.functions (layouts o p) → ∥ KeepsRuns o t ∥₁
+runs_kept law o t p same known words arranged =
+    ∥∥₁_map known (λ is plan planned input n inputs. law t (layouts o (lowered_program t)) plan input n is words (subst (λ p. AreArranged p.functions (layouts o p)) same arranged) planned inputs)
 
 pub tree_says : (o : Options) (t : ProgramTree) (p : ProgramCode) (why : TranslationFault) → p ≡ lowered_program t → SaysOfTree p why → Says o t why
 tree_says o t p (Plan (plan_faults.DataFull words)) same h = subst (λ q. SaysOfTree q (Plan (plan_faults.DataFull words))) same h

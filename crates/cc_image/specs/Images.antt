@@ -1,6 +1,8 @@
 -- What a typed program becomes (docs/TRANSLATION.md): word trees, accumulator code, layouts of frames, a plan of data memory, pieces, an image and a
 -- certificate. A command chooses how frames are laid out.
 use Rattle.std.specs.Prelude.{◌≡◌, ℕ, ◌<◌, ◌≤◌, List, ◌++◌, map}
+use Rattle.word_base.specs.Ports.{Input, IsInput}
+use Rattle.c_tree.specs.SourceRun.{source_run}
 use Rattle.c_tree.specs.TypedTree.{ProgramTree}
 use Rattle.tree_code.specs.WordTree.{ProgramCode}
 use Rattle.tree_code.specs.Lowered.{lowered_program}
@@ -11,6 +13,9 @@ use Rattle.mem_plan.specs.declared.data_plan.PlanFault.TheVariants as plan_fault
 use Rattle.mem_plan.specs.Plan.{IsPlan, IsTooLarge}
 use Rattle.frame_emit.specs.Emitted.{emitted}
 use Rattle.access_laws.specs.SourceSequences.{source_sequence}
+use Rattle.code_runs.specs.Keeps.{acc_run}
+use Rattle.lower_laws.specs.Lowering.{KeepsSource}
+use Rattle.run_laws.specs.PlanPlaces.{places_of}
 use Rattle.lay_cert.specs.Frames.{Frame}
 use Rattle.cc_frames.specs.declared.options.Options.{Options}
 use Rattle.cc_frames.specs.Frames.{layout_of, frames_of}
@@ -56,6 +61,11 @@ pub record HasFrames (o : Options) (t : ProgramTree) (frames : List Frame) : Typ
 -- frames are laid out for the accesses of a program's functions, in order
 abbrev pub AccessAs : ℕ → ProgramTree → List Frame → Type 0
 AccessAs step t frames = map (λ (f : Frame). f.seq) frames ≡ map (source_sequence step) t.functions
+
+-- what its accumulator code does, with objects where a plan of it has them, is what the program does, on any input and with any number of turns
+abbrev pub KeepsRuns : Options → ProgramTree → Type 0
+KeepsRuns o t = (plan : DataPlan) → IsPlanOf o t plan → (input : Input) (n : ℕ) → IsInput input
+    → KeepsSource (source_run t input n) (acc_run (places_of plan) (lowered_program t) (selected (lowered_program t)) input n)
 
 -- its data need so many words, which are too many
 abbrev pub HasTooMuchData : ProgramTree → ℕ → Type 0

@@ -10,11 +10,12 @@ ghost use Rattle.c_tree.specs.ProgramView.{program_of};
 ghost use Rattle.c_tree.specs.TypedTree.{ProgramTree};
 ghost use Rattle.cc_frames.specs.Frames.{AreOptions, AreLayouts, ClaimsHold, accesses_of, frames_of};
 ghost use Rattle.cc_image.specs.Faults.{Says, SaysOfPieces, SaysOfTree};
-ghost use Rattle.cc_image.specs.Images.{AccessAs, HasFrames, HasImage, all_pieces, layouts as laid_out, with_helpers as with_called};
+ghost use Rattle.cc_image.specs.Images.{AccessAs, HasFrames, HasImage, KeepsRuns, all_pieces, layouts as laid_out, with_helpers as with_called};
 ghost use Rattle.lay_cert.specs.Frames.{Frame};
-ghost use Rattle.mem_plan.specs.Plan.{IsPlan};
+ghost use Rattle.mem_plan.specs.Plan.{AreArranged, IsPlan};
 ghost use Rattle.tree_code.specs.Lowered.{lowered_program};
 ghost use Rattle.tree_code.specs.ProgramView.{tree_of};
+ghost use Rattle.tree_code.specs.TypedOfWords.{HasWords};
 
 use crate::fault::TranslationFault;
 use acc_select::{AccFunction, AccProgram, select};
@@ -54,6 +55,7 @@ struct Planned {
 
 fn choose(alloc: Global, program: &Program) -> Result<Chosen, NoMemory>
     ensures tree { IfOk result (λ c. tree_of c.tree ≡ lowered_program (program_of program.now)) }
+    ensures words { IfOk result (λ _. HasWords (program_of program.now)) }
     ensures code { IfOk result (λ c. functions_of c.code ≡ selected (tree_of c.tree)) }
     ensures emittable { IfOk result (λ c. IsEmittable (tree_of c.tree) (functions_of c.code)) }
 {
@@ -84,6 +86,7 @@ fn with_plan<R: Threads + Sync, G: Gate + Sync>(
     requires code { functions_of chosen.now.code ≡ selected (tree_of chosen.now.tree) }
     ensures layouts { IfOk result (λ p. AreLayouts options (selected (tree_of chosen.now.tree)) p.layouts) }
     ensures plan { IfOk result (λ p. IsPlan (tree_of chosen.now.tree) (laid_out options (tree_of chosen.now.tree)) p.plan) }
+    ensures arranged { IfOk result (λ _. AreArranged (tree_of chosen.now.tree).functions (laid_out options (tree_of chosen.now.tree))) }
     ensures refused { IfErr result (SaysOfTree (tree_of chosen.now.tree)) }
 {
     cc_frames::layouts_are_arranged();
@@ -197,6 +200,7 @@ fn finished<R: Threads + Sync, G: Gate + Sync>(
     requires code { functions_of chosen.now.code ≡ selected (tree_of chosen.now.tree) }
     ensures image { (t : ProgramTree) → tree_of chosen.now.tree ≡ lowered_program t → IfOk result (λ made. HasImage options t made.image) }
     ensures frames { (t : ProgramTree) → tree_of chosen.now.tree ≡ lowered_program t → IfOk result (λ made. HasFrames options t made.certificate) }
+    ensures arranged { IfOk result (λ _. AreArranged (tree_of chosen.now.tree).functions (laid_out options (tree_of chosen.now.tree))) }
     ensures accesses { IfOk result (λ made. map (λ (f : Frame). f.seq) made.certificate ≡ map (accesses_of options) (selected (tree_of chosen.now.tree))) }
     ensures claims { IfOk result (λ made. All ClaimsHold made.certificate) }
     ensures refused { (t : ProgramTree) → tree_of chosen.now.tree ≡ lowered_program t → IfErr result (Says options t) }
@@ -222,6 +226,8 @@ pub fn translate<R: Threads + Sync, G: Gate + Sync>(
     requires { AreOptions options }
     ensures image { IfOk result (λ made. HasImage options (program_of program.now) made.image) }
     ensures frames { IfOk result (λ made. HasFrames options (program_of program.now) made.certificate) }
+    // What the accumulator code does is what the program does.
+    ensures keeps { IfOk result (λ _. ∥ KeepsRuns options (program_of program.now) ∥₁) }
     // Each frame is laid out for the accesses of its function in the source.
     ensures accesses { IfOk result (λ made. AccessAs options.step (program_of program.now) made.certificate) }
     // A frame costs what it says, and where it is claimed to be optimal no layout costs less.
@@ -229,6 +235,7 @@ pub fn translate<R: Threads + Sync, G: Gate + Sync>(
     ensures refused { IfErr result (Says options (program_of program.now)) }
 {
     access_laws::accesses_are_kept();
+    run_laws::translation_keeps_runs();
     let chosen = choose(alloc, program)?;
     finished(rt, alloc, gate, options, &chosen)
 }

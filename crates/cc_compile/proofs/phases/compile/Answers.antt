@@ -37,6 +37,7 @@ returns-clause-built g c =
       has = image;
       framed = subst (λ (fs : List Frame). HasFrames c.args.options program fs) (sym c.in_ok-with_rows.ensures.certificate) c.in_ok-translated.ensures.frames;
       accesses = subst (λ (fs : List Frame). AccessAs c.args.options.step program fs) (sym c.in_ok-with_rows.ensures.certificate) c.in_ok-translated.ensures.accesses;
+      keeps = c.in_ok-translated.ensures.keeps;
       agrees = λ thin. c.thin_images_agree.ensures c.args.options program _ c.requires.options thin image;
     }
 

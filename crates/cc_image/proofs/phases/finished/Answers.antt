@@ -50,6 +50,9 @@ returns-clause-frames g c = λ t is.
       are = c.in_ok-certificate.ensures ∙ ap (λ (p : ProgramCode). frames_of o (selected p) plan.frames) is;
     }
 
+pub returns-clause-arranged : goal.returns-clause-arranged
+returns-clause-arranged g c = c.in_ok-planned.ensures.arranged
+
 pub returns-clause-claims : goal.returns-clause-claims
 returns-clause-claims g c =
     subst (All ClaimsHold) (sym c.in_ok-certificate.ensures)

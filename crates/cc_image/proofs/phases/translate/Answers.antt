@@ -5,9 +5,11 @@ use Rattle.acc_select.specs.Selected.{selected}
 use Rattle.lay_cert.specs.Frames.{Frame}
 use Rattle.lay_model.specs.Sequences.{Sequence}
 use Rattle.tree_code.specs.Lowered.{lowered_program}
+use Rattle.tree_code.specs.ProgramView.{tree_of}
 use Rattle.tree_code.specs.WordTree.{ProgramCode}
 use Rattle.cc_frames.specs.Frames.{accesses_of}
 use Rattle.c_tree.specs.ProgramView.{program_of}
+use Rattle.cc_image.proofs.TranslationLemmas.{ok_then, runs_kept}
 use Rattle.cc_image.proofs.phases.translate.Goals as goal
 
 pub returns-clause-image : goal.returns-clause-image
@@ -26,3 +28,9 @@ returns-clause-accesses g c =
     let kept : map (accesses_of o) (selected (lowered_program t)) ≡ map (source_sequence o.step) t.functions = c.accesses_are_kept.ensures.sequences o.step t c.args.program.now.well_formed in
     subst (λ (xs : List Sequence). IfOk c.finished.result (λ made. map (λ (f : Frame). f.seq) made.certificate ≡ xs))
     (ap (λ (p : ProgramCode). map (accesses_of o) (selected p)) c.in_ok-chosen.ensures.tree ∙ kept) c.finished.ensures.accesses
+
+pub returns-clause-keeps : goal.returns-clause-keeps
+returns-clause-keeps g c =
+    let t = program_of c.args.program.now in
+    ok_then c.finished.result c.finished.ensures.arranged
+    (λ made arranged. runs_kept c.translation_keeps_runs.ensures.keeps c.args.options t (tree_of c.in_ok-chosen.chosen.tree) c.in_ok-chosen.ensures.tree c.args.program.now.well_formed c.in_ok-chosen.ensures.words arranged)
