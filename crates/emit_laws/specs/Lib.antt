@@ -1,0 +1,2 @@
+-- What laws of emission say.
+pub mod Standing

@@ -1,0 +1,3 @@
+-- What laws of rows say.
+pub mod Registers
+pub mod Rows
