@@ -1,8 +1,6 @@
 -- What is known of an operand stands in its word.
-use Rattle.std.proofs.Common.{◌≡◌, ◌≢◌, ℕ, ◌+◌, Bool, Option, Some, None, refl, sym, ap, ◌∙◌, subst}
-use Rattle.std.specs.Prelude.{length}
+use Rattle.std.proofs.Common.{◌≡◌, ℕ, Option, Some, None, refl, sym, ap, ◌∙◌}
 use Rattle.std.proofs.lemmas.Option.{none-some, same_Some}
-use Rattle.c_tree.specs.declared.program.VarRef.{VarRef}
 use Rattle.c25_isa.specs.State.{Memory}
 use Rattle.acc_code.specs.declared.operand.AccOperand.{AccOperand}
 use Rattle.acc_code.specs.declared.operand.AccOperand.TheVariants as operand
@@ -10,7 +8,7 @@ use Rattle.code_runs.specs.Outside as words
 use Rattle.code_runs.specs.Outside.{word_of}
 use Rattle.code_runs.specs.TreeRun.{Addresses}
 use Rattle.code_runs.specs.AccRun.{Machine, held, word_at}
-use Rattle.frame_runs.specs.Places.{Places, object_address}
+use Rattle.frame_runs.specs.Places.{Places}
 use Rattle.emit_laws.specs.Standing.{HaveAddresses, StandsBeside, place_of}
 
 -- a cell that holds a word

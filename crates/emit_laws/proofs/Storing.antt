@@ -10,7 +10,7 @@ use Rattle.acc_code.specs.declared.operand.AccOperand.{AccOperand}
 use Rattle.acc_code.specs.declared.operand.AccOperand.TheVariants as operand
 use Rattle.code_runs.specs.Outside as words
 use Rattle.code_runs.specs.Outside.{with_word, with_scalar, with_memory}
-use Rattle.code_runs.specs.Parts.{Res, Gives, Fails, Flow, Next}
+use Rattle.code_runs.specs.Parts.{Gives, Fails, Flow}
 use Rattle.code_runs.specs.TreeRun.{Addresses}
 use Rattle.code_runs.specs.AccRun.{Machine, store_to, write_cell, write_word, given_for}
 use Rattle.frame_runs.specs.Places.{Places, SCRATCH}

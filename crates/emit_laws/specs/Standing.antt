@@ -4,7 +4,6 @@ use Rattle.c_tree.specs.declared.program.VarRef.{VarRef}
 use Rattle.c25_isa.specs.State.{Memory}
 use Rattle.acc_code.specs.declared.operand.AccOperand.{AccOperand}
 use Rattle.acc_code.specs.declared.operand.AccOperand.TheVariants as operand
-use Rattle.c25_code.specs.Work.{Work}
 use Rattle.code_runs.specs.Outside as words
 use Rattle.code_runs.specs.TreeRun.{Addresses}
 use Rattle.code_runs.specs.AccRun.{Machine}
