@@ -18,7 +18,7 @@ ghost use Rattle.tree_code.specs.ProgramView.{tree_of};
 ghost use Rattle.tree_code.specs.TypedOfWords.{HasWords};
 
 use crate::fault::TranslationFault;
-use acc_select::{AccFunction, AccProgram, select};
+use acc_select::{AccFunction, AccProgram};
 use c_tree::Program;
 use c25_helper::called_helpers;
 use c25_isa::{Image, Piece};
@@ -26,10 +26,12 @@ use c25_link::{counted_words, link};
 use cc_frames::{Layouts, Options, certificate_of, lay_out};
 use frame_emit::emit;
 use lay_cert::Certificate;
+use lower_laws::lower;
 use mem_plan::{DataPlan, plan};
+use select_laws::select;
 use std::alloc::Global;
 use std::thread::Threads;
-use tree_code::{TreeProgram, lower};
+use tree_code::TreeProgram;
 use word_base::{Gate, NoMemory};
 
 /// What a typed program becomes: its words, and what shows how its frames are laid out.

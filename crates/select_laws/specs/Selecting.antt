@@ -4,6 +4,9 @@ use Rattle.c_tree.specs.declared.program.VarRef.{VarRef}
 use Rattle.tree_code.specs.WellFormedCode.{IsCode}
 use Rattle.tree_code.specs.WordTree.{FunctionCode, ProgramCode}
 use Rattle.acc_select.specs.Selected.{is_main}
+use Rattle.word_base.specs.Ports.{Input, IsInput}
+use Rattle.acc_code.specs.AccTree.{FunctionItems}
+use Rattle.code_runs.specs.Keeps.{Keeps, acc_run, tree_run}
 use Rattle.code_runs.specs.Outside.{Places, address_of}
 use Rattle.code_runs.specs.TreeRun.{Addresses}
 use Rattle.tree_code.specs.TypedOfWords.{StartsWithWords}
@@ -20,3 +23,7 @@ pub record IsWordProgram (q : Places) (p : ProgramCode) : Type 0 where
   pub statics : StartsWithWords p.statics
   pub bodies : (f : ℕ) (g : FunctionCode) → slice_get p.functions f ≡ Some g → IsFitStatement IsOfWords (address_of q f) q g.locals g.body
   pub main : (f : ℕ) (g : FunctionCode) → slice_get p.functions f ≡ Some g → is_main g.name ≡ true → ReturnsValues g.body
+
+-- accumulator code keeps the runs of a word tree, with objects at any places that they may have, on any input and with any number of turns
+abbrev pub KeepsEverywhere : ProgramCode → List FunctionItems → Type 0
+KeepsEverywhere p code = (q : Places) (input : Input) (n : ℕ) → IsWordProgram q p → IsInput input → Keeps (tree_run q p input n) (acc_run q p code input n)
