@@ -71,11 +71,11 @@ sound C body p t =
     (kept AnyLabel C (Sound C) (λ e es a c h. (c, told AnyLabel C e a, h)) body (placed C false false false body p t) [] _ 1 (λ l g h. tt) (no_case AnyLabel 0 _ (no_cases_directly body p))).by 0 (Finish 0 ∷ []) (tt, tt, tt)
 
 -- entries at a body's end
-abbrev Ending : List Entry → Type 0
+abbrev pub Ending : List Entry → Type 0
 Ending [] = Unit {0}
 Ending (e ∷ es) = Later Finishes (e ∷ es) × Ending es
 
-ending : (body : ItemList) → Ending (body_entries body)
+pub ending : (body : ItemList) → Ending (body_entries body)
 ending body = ((kept_anywhere (λ es. Later Finishes es × Ending es) (λ e es h. (inr h.0, (inr h.0, h.1))) body [] _ 1).by 0 (Finish 0 ∷ []) (inl tt, (inl tt, tt))).1
 
 abbrev None_before : ℕ → Type 0
@@ -172,7 +172,7 @@ module _ (m : Setting) where
       Unset false = ⊥
 
   -- an entry's marks are its own label
-  entry_places : (e : Entry) (s : State) (k : ℕ) → IsMarkOf k (entry_items m s e) → Places k e
+  pub entry_places : (e : Entry) (s : State) (k : ℕ) → IsMarkOf k (entry_items m s e) → Places k e
   entry_places (Run os) s k h = plain_mark k (code_in m os) h
   entry_places (Head l) s k (inl e) = e
   entry_places (Head l) s k (inr h) = absurd h
@@ -294,7 +294,7 @@ module _ (m : Setting) where
   entry_closes (Finish l) s k q = absurd q
 
   -- each mark once
-  unmarked : (es : List Entry) (s : State) (k : ℕ) → Avoids k es → IsMarkOf k (cut m s es) → ⊥
+  pub unmarked : (es : List Entry) (s : State) (k : ℕ) → Avoids k es → IsMarkOf k (cut m s es) → ⊥
   unmarked [] s k a h = h
   unmarked (e ∷ es) s k a h = ⊎_elim (λ p. a.0 (entry_places e s k p)) (λ q. unmarked es (behind_entry m s e) k a.1 q) (split_mark k (entry_items m s e) _ h)
 
