@@ -8,7 +8,7 @@ use Rattle.lower_laws.specs.Lowering.{KeepsSource}
 use Rattle.lower_laws.proofs.calls.lower.Goals as goal
 
 pub returns-clause-keeps : goal.returns-clause-keeps
-returns-clause-keeps g c =
+returns-clause-keeps c =
     let p = program_of c.args.program.now in
     let kept = c.lowering_keeps_runs.ensures.keeps in
     ∥∥₁_map c.args.program.now.well_formed
