@@ -194,21 +194,21 @@ module _ (q : Places) (p : ProgramTree) (f : ℕ) (g : FunctionTree) (function :
         → RunHere names c (λ env. execution.from_case calls n x cs env) (run.from_case does (address_of q f) q g.locals n x (lowered_choices cs))
     from_case_keeps names known objects c x tree.no_more formed words calling = next_runs q p f (object_in p g) (points g.result) names c
     from_case_keeps names known objects c x (tree.case y rest) formed words calling =
-        either_runs names c (x == y) (choices_keep names known objects c rest formed words calling) (from_case_keeps names known objects c x rest formed words calling)
+        either_runs names c (x == y) (choices_keep names known objects c rest formed words.1 calling) (from_case_keeps names known objects c x rest formed words.1 calling)
     from_case_keeps names known objects c x (tree.default rest) formed words calling = from_case_keeps names known objects c x rest formed words calling
     from_case_keeps names known objects c x (tree.body s rest) formed words calling = from_case_keeps names known objects c x rest formed.1 words.1 (calls_right p f (statement_uses s) (choices_uses rest) calling)
 
     from_default_keeps : (names : Names) → names.function ≡ functions → AreObjects (object_in p g) names.object → (c : Enclosing) (cs : Choices) → HasChoices (object_in p g) g.result names c cs → ChoicesUseWords cs → CallsOf p f (choices_uses cs)
         → RunHere names c (λ env. execution.from_default calls n cs env) (run.from_default does (address_of q f) q g.locals n (lowered_choices cs))
     from_default_keeps names known objects c tree.no_more formed words calling = next_runs q p f (object_in p g) (points g.result) names c
-    from_default_keeps names known objects c (tree.case y rest) formed words calling = from_default_keeps names known objects c rest formed words calling
+    from_default_keeps names known objects c (tree.case y rest) formed words calling = from_default_keeps names known objects c rest formed words.1 calling
     from_default_keeps names known objects c (tree.default rest) formed words calling = choices_keep names known objects c rest formed words calling
     from_default_keeps names known objects c (tree.body s rest) formed words calling = from_default_keeps names known objects c rest formed.1 words.1 (calls_right p f (statement_uses s) (choices_uses rest) calling)
 
     choices_keep : (names : Names) → names.function ≡ functions → AreObjects (object_in p g) names.object → (c : Enclosing) (cs : Choices) → HasChoices (object_in p g) g.result names c cs → ChoicesUseWords cs → CallsOf p f (choices_uses cs)
         → RunHere names c (λ env. execution.run_choices calls n cs env) (run.run_choices does (address_of q f) q g.locals n (lowered_choices cs))
     choices_keep names known objects c tree.no_more formed words calling = next_runs q p f (object_in p g) (points g.result) names c
-    choices_keep names known objects c (tree.case y rest) formed words calling = choices_keep names known objects c rest formed words calling
+    choices_keep names known objects c (tree.case y rest) formed words calling = choices_keep names known objects c rest formed words.1 calling
     choices_keep names known objects c (tree.default rest) formed words calling = choices_keep names known objects c rest formed words calling
     choices_keep names known objects c (tree.body s rest) formed words calling =
         in_order_runs q p f (object_in p g) (points g.result) (statement_keeps names known objects c s formed.0 words.0 (calls_left p f (statement_uses s) (choices_uses rest) calling))

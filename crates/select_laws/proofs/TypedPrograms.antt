@@ -80,7 +80,7 @@ module _ (q : Places) (f : ℕ) (locals : List ObjectTree) (starts : StartsWithW
 
     choices_typed : (names : Names) (c : Enclosing) (cs : Choices) → HasChoices objects result names c cs → ChoicesUseWords cs → AreFitChoices IsOfWords (address_of q f) q locals (lowered_choices cs)
     choices_typed names c tree.no_more t h = tt
-    choices_typed names c (tree.case w rest) t h = choices_typed names c rest t h
+    choices_typed names c (tree.case w rest) t h = choices_typed names c rest t h.1
     choices_typed names c (tree.default rest) t h = choices_typed names c rest t h
     choices_typed names c (tree.body s rest) t h = (statement_typed names c s t.0 h.0, choices_typed names c rest t.1 h.1)
 

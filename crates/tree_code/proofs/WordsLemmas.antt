@@ -45,7 +45,7 @@ statement_used list i x is within all one = subst (λ l. StatementsUseWords (typ
 choice_more : (xs : List Choice) (x : Choice) → ChoicesUseWords (typed.choice_list xs) → ChoicesUseWords (typed.choice_before x tree.no_more)
     → ChoicesUseWords (typed.choice_list (xs ++ x ∷ []))
 choice_more [] x all one = one
-choice_more (choice.Case n ∷ ys) x all one = choice_more ys x all one
+choice_more (choice.Case n ∷ ys) x all one = (all.0, choice_more ys x all.1 one)
 choice_more (choice.Default ∷ ys) x all one = choice_more ys x all one
 choice_more (choice.Body s ∷ ys) x all one = (all.0, choice_more ys x all.1 one)
 

@@ -1,5 +1,5 @@
--- Typed programs of words: each constant of an expression, and each listed word of an object, is below 65536. That an operation that assigns
--- gives a word, and no truth, is no clause: the rules of types leave comparisons out there.
+-- Typed programs of words: each constant of an expression, each value of a case, and each listed word of an object, is below 65536. That an
+-- operation that assigns gives a word, and no truth, is no clause: the rules of types leave comparisons out there.
 use Rattle.std.specs.Prelude.{◌<◌, ⊤, List, All, Option, Some, None}
 use Rattle.std.specs.List.{AllByRecursion}
 use Rattle.c_tree.specs.declared.program.Initial.{Initial}
@@ -73,7 +73,7 @@ abbrev mutual
 
   pub ChoicesUseWords : Choices → Type 0
   ChoicesUseWords tree.no_more = ⊤
-  ChoicesUseWords (tree.case w rest) = ChoicesUseWords rest
+  ChoicesUseWords (tree.case w rest) = (w < 65536) × ChoicesUseWords rest
   ChoicesUseWords (tree.default rest) = ChoicesUseWords rest
   ChoicesUseWords (tree.body s rest) = StatementUsesWords s × ChoicesUseWords rest
 
