@@ -11,11 +11,10 @@ use Rattle.c25_isa.specs.Agrees.{Agrees}
 use Rattle.c25_isa.specs.Image.{Contents}
 use Rattle.lay_cert.specs.Frames.{Frame}
 use Rattle.cc_frames.specs.declared.options.Options.{Options}
-use Rattle.cc_image.specs.Images.{AccessAs, HasFrames, HasImage, KeepsRuns}
-use Rattle.cc_thin.specs.Thin.{IsThinProgram}
+use Rattle.cc_image.specs.Images.{AccessAs, EndsWithin, HasFrames, HasImage, KeepsRuns}
 
 -- the bytes have a tree, this a typed program, and that has the image, which is linked from its pieces and the routines, and the frames, which are
--- laid out as is chosen. Where the program is a thin one, the words do what it does
+-- laid out as is chosen. The words do what the program does
 pub record IsBuilt (o : Options) (bytes : List ℕ) (image : Contents) (frames : List Frame) : Type 0 where
   pub tokens : List Token
   pub source : UnitTree
@@ -29,4 +28,6 @@ pub record IsBuilt (o : Options) (bytes : List ℕ) (image : Contents) (frames :
   pub accesses : AccessAs o.step program frames
   -- what its accumulator code does, with objects where the plan has them, is what the program does
   pub keeps : ∥ KeepsRuns o program ∥₁
-  pub agrees : IsThinProgram program → Agrees (source_run program) image.words
+  -- and so is what the image does, wherever C defines what the program does; where the program ends, in time
+  pub agrees : ∥ Agrees (source_run program) image.words ∥₁
+  pub in_time : ∥ EndsWithin o program image ∥₁

@@ -54,7 +54,8 @@ pub fn compile<R: Threads + Sync, G: Gate + Sync>(
 ) -> Result<Built, BuildFault>
     requires short { length source.now < 2 ^ 32 }
     requires options { AreOptions options }
-    // The image is that of the source's program, linked from the pieces that are emitted and the routines, and the certificate has its frames.
+    // The image is that of the source's program, linked from the pieces that are emitted and the routines, and the certificate has its frames. What
+    // it does is what the source does.
     ensures built { IfOk result (λ built. IsBuilt options source.now built.image built.certificate) }
     // A frame costs what it says, and where it is claimed to be optimal no layout costs less.
     ensures claims { IfOk result (λ built. All ClaimsHold built.certificate) }
@@ -62,7 +63,6 @@ pub fn compile<R: Threads + Sync, G: Gate + Sync>(
     // A refusal has its cause, unless memory is wanting.
     ensures refused { IfErr result (λ why. why ≢ faults.NoMemory → HasFault options source.now why) }
 {
-    cc_thin::thin_images_agree();
     let program = typed_program(alloc, source)?;
     let translated = translate(rt, alloc, gate, options, &program)?;
     Ok(with_rows(alloc, translated)?)

@@ -6,3 +6,4 @@ mod MarkLemmas
 mod CallLemmas
 mod LinkLemmas
 mod TranslationLemmas
+mod AgreementLemmas

@@ -22,7 +22,7 @@ use Rattle.cc_image.specs.Images.{HasFrames, HasImage, HasTooMuchData, HasTooMuc
 same_begins : (p : ProgramCode) (b c : ℕ → ℕ) → AreBegins p b → AreBegins p c → b ≡ c
 same_begins p b c are also = fun_ext (λ f. one_begin p b c are also f)
 
-one_plan : (o : Options) (t : ProgramTree) (a b : DataPlan) → IsPlanOf o t a → IsPlanOf o t b → a ≡ b
+pub one_plan : (o : Options) (t : ProgramTree) (a b : DataPlan) → IsPlanOf o t a → IsPlanOf o t b → a ≡ b
 one_plan o t a b is also =
     is.is ∙ ap (plan_of (lowered_program t) (layouts o (lowered_program t))) (same_begins (lowered_program t) is.begin also.begin is.begins also.begins) ∙ sym also.is
 

@@ -16,11 +16,12 @@ use Rattle.access_laws.specs.SourceSequences.{source_sequence}
 use Rattle.code_runs.specs.Keeps.{acc_run}
 use Rattle.lower_laws.specs.Lowering.{KeepsSource}
 use Rattle.run_laws.specs.PlanPlaces.{places_of}
+use Rattle.image_laws.specs.Agreeing.{EndsInTime}
 use Rattle.lay_cert.specs.Frames.{Frame}
 use Rattle.cc_frames.specs.declared.options.Options.{Options}
 use Rattle.cc_frames.specs.Frames.{layout_of, frames_of}
 use Rattle.c25_isa.specs.Image.{Contents}
-use Rattle.c25_isa.specs.Pieces.{Piece, Linked}
+use Rattle.c25_isa.specs.Pieces.{Piece, Linked, PiecesFit}
 use Rattle.c25_helper.specs.Calls.{called_helper_pieces}
 use Rattle.c25_link.specs.Linking.{linked_image, pieces_words}
 use Rattle.c25_link.specs.declared.fault.LinkFault.{LinkFault}
@@ -51,6 +52,7 @@ pub record HasImage (o : Options) (t : ProgramTree) (image : Contents) : Type 0 
   pub fits : pieces_words (all_pieces o (lowered_program t) plan) ≤ 65536
   pub is : image ≡ linked_image (all_pieces o (lowered_program t) plan)
   pub linked : Linked (all_pieces o (lowered_program t) plan) image
+  pub ranges : PiecesFit (all_pieces o (lowered_program t) plan)
 
 -- and these frames, in the order of its functions
 pub record HasFrames (o : Options) (t : ProgramTree) (frames : List Frame) : Type 0 where
@@ -66,6 +68,10 @@ AccessAs step t frames = map (λ (f : Frame). f.seq) frames ≡ map (source_sequ
 abbrev pub KeepsRuns : Options → ProgramTree → Type 0
 KeepsRuns o t = (plan : DataPlan) → IsPlanOf o t plan → (input : Input) (n : ℕ) → IsInput input
     → KeepsSource (source_run t input n) (acc_run (places_of plan) (lowered_program t) (selected (lowered_program t)) input n)
+
+-- where it ends, its image ends in time
+abbrev pub EndsWithin : Options → ProgramTree → Contents → Type 0
+EndsWithin o t image = (plan : DataPlan) → IsPlanOf o t plan → EndsInTime t plan image.words
 
 -- its data need so many words, which are too many
 abbrev pub HasTooMuchData : ProgramTree → ℕ → Type 0

@@ -4,13 +4,15 @@ ghost use Rattle.acc_code.specs.AccSequence.{IsInFrame};
 ghost use Rattle.acc_code.specs.AccView.{function_items_of, functions_of};
 ghost use Rattle.acc_select.specs.IsSelected.{IsEmittable};
 ghost use Rattle.acc_select.specs.Selected.{selected};
-ghost use Rattle.c25_isa.specs.Pieces.{piece_of, Linked};
+ghost use Rattle.c25_isa.specs.Agrees.{Agrees};
+ghost use Rattle.c25_isa.specs.Pieces.{piece_of, Linked, PiecesFit};
 ghost use Rattle.c25_link.specs.Linking.{AreLinkable, linked_image, pieces_words as words_together};
 ghost use Rattle.c_tree.specs.ProgramView.{program_of};
+ghost use Rattle.c_tree.specs.SourceRun.{source_run};
 ghost use Rattle.c_tree.specs.TypedTree.{ProgramTree};
 ghost use Rattle.cc_frames.specs.Frames.{AreOptions, AreLayouts, ClaimsHold, accesses_of, frames_of};
 ghost use Rattle.cc_image.specs.Faults.{Says, SaysOfPieces, SaysOfTree};
-ghost use Rattle.cc_image.specs.Images.{AccessAs, HasFrames, HasImage, KeepsRuns, all_pieces, layouts as laid_out, with_helpers as with_called};
+ghost use Rattle.cc_image.specs.Images.{AccessAs, EndsWithin, HasFrames, HasImage, KeepsRuns, all_pieces, layouts as laid_out, with_helpers as with_called};
 ghost use Rattle.lay_cert.specs.Frames.{Frame};
 ghost use Rattle.mem_plan.specs.Plan.{AreArranged, IsPlan};
 ghost use Rattle.tree_code.specs.Lowered.{lowered_program};
@@ -182,6 +184,7 @@ fn image_of(
     ensures image { IfOk result (λ image. image ≡ linked_image (all_pieces options (tree_of chosen.now.tree) planned.now.plan)) }
     ensures linked { IfOk result (λ image. Linked (all_pieces options (tree_of chosen.now.tree) planned.now.plan) image) }
     ensures fits { IfOk result (λ _. words_together (all_pieces options (tree_of chosen.now.tree) planned.now.plan) ≤ 65536) }
+    ensures ranges { IfOk result (λ _. PiecesFit (all_pieces options (tree_of chosen.now.tree) planned.now.plan)) }
     ensures refused { IfErr result (SaysOfPieces (all_pieces options (tree_of chosen.now.tree) planned.now.plan)) }
 {
     c25_helper::helper_pieces_fit();
@@ -230,6 +233,9 @@ pub fn translate<R: Threads + Sync, G: Gate + Sync>(
     ensures frames { IfOk result (λ made. HasFrames options (program_of program.now) made.certificate) }
     // What the accumulator code does is what the program does.
     ensures keeps { IfOk result (λ _. ∥ KeepsRuns options (program_of program.now) ∥₁) }
+    // And so is what the image does, from any start and on any input; where the program ends, in time.
+    ensures agrees { IfOk result (λ made. ∥ Agrees (source_run (program_of program.now)) made.image.words ∥₁) }
+    ensures in_time { IfOk result (λ made. ∥ EndsWithin options (program_of program.now) made.image ∥₁) }
     // Each frame is laid out for the accesses of its function in the source.
     ensures accesses { IfOk result (λ made. AccessAs options.step (program_of program.now) made.certificate) }
     // A frame costs what it says, and where it is claimed to be optimal no layout costs less.
@@ -238,6 +244,7 @@ pub fn translate<R: Threads + Sync, G: Gate + Sync>(
 {
     access_laws::accesses_are_kept();
     run_laws::translation_keeps_runs();
+    image_laws::images_agree();
     let chosen = choose(alloc, program)?;
     finished(rt, alloc, gate, options, &chosen)
 }

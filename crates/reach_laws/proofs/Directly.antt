@@ -1,5 +1,5 @@
 -- A run does what its steps do on the words at their addresses: row by row, and over any number of rows.
-use Rattle.std.proofs.Common.{◌≡◌, ℕ, ◌+◌, ◌/◌, ◌%◌, true, false, List, [], ◌∷◌, ◌++◌, refl, sym, ap, ◌∙◌, subst, arith, append_assoc}
+use Rattle.std.proofs.Common.{◌≡◌, ℕ, ◌*◌, ◌/◌, ◌%◌, ◌≤◌, true, false, List, [], ◌∷◌, ◌++◌, length, refl, lit≤, length-append, sym, ap, ◌∙◌, subst, arith, append_assoc}
 use Rattle.word_base.specs.Ports.{Outputs}
 use Rattle.c25_isa.specs.declared.operand.Operand.{Operand}
 use Rattle.c25_isa.specs.declared.operand.Operand.TheVariants.{Direct}
@@ -21,6 +21,7 @@ use Rattle.reach_laws.specs.Reaching.{IsOverList, AreOverLists, before_row, row_
 use Rattle.reach_laws.specs.KnownAlike.{KnownAlike}
 use Rattle.reach_laws.specs.Direct.{takes_word, TakesReach, TakeReaches, direct_row, row_at, behind_step, behind_steps, StepsReady, outputs_of_steps, AlikeOutside}
 use Rattle.reach_laws.proofs.Bringing.{code_is, before_runs}
+use Rattle.reach_laws.proofs.Counting.{row_few}
 use Rattle.reach_laws.proofs.Standing.{address_is, pointer_stays, pointer_loads, known_stays, above_1}
 use Rattle.reach_laws.proofs.Operands.{rows_alike, row_leaves}
 use Rattle.reach_laws.proofs.Constants.{constants_alike, constant_leaves}
@@ -98,6 +99,7 @@ pub record FrontRuns (d : ℕ) (k : Known) (front rest : List Step) (w v : Work)
   pub runs : CodeRuns code w work (outputs_of_steps front v)
   pub alike : AlikeOutside work (behind_steps front v)
   pub beside : KnownAlike d known rest work
+  pub few : length code ≤ 3 * length front
 
 module _ (d : ℕ) where
   step_then : (k : Known) (x : Step) (front rest : List Step) (w v u : Work) (put : Outputs) → CodeRuns (row_code d k x.row x.reach (front ++ rest)) w u put → put ≡ outputs_of_code (direct_row x.row x.reach v) v
@@ -112,6 +114,7 @@ module _ (d : ℕ) where
         runs = subst (λ p. CodeRuns (first ++ f.code) w f.work (p ++ outputs_of_steps front (behind_step x v))) outs (runs_on first f.code w u f.work put (outputs_of_steps front (behind_step x v)) runs f.runs);
         alike = f.alike;
         beside = f.beside;
+        few = let one = row_few d k x.row x.reach (front ++ rest) in let others = f.few in let both = length-append first f.code in omega (arith, one, others, both);
       }
 
   pub front_runs : (k : Known) (front rest : List Step) (w v : Work) → KnownAlike d k (front ++ rest) w → AlikeOutside w v → AreOverLists front → HaveWords (front ++ rest) → TakeReaches front → StepsReady front v → FrontRuns d k front rest w v
@@ -123,6 +126,7 @@ module _ (d : ℕ) where
     runs = record { ready = tt; reaches = refl; outputs = refl };
     alike = same;
     beside = beside;
+    few = lit≤ tt;
   }
   front_runs k (x ∷ front) rest w v beside same lists words takes ready =
       let r : Reach = x.reach in

@@ -1,5 +1,6 @@
 -- What laws of operands within runs say.
 pub mod Bringing
+pub mod Counting
 pub mod Standing
 pub mod Operands
 pub mod Constants

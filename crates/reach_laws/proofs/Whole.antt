@@ -1,5 +1,5 @@
 -- Runs from their start: as a whole, up to an input of a port that has no word left, and in part.
-use Rattle.std.proofs.Common.{◌≡◌, ℕ, ◌≤◌, Bool, true, false, if◌then◌else◌, List, [], ◌∷◌, ◌++◌, refl, sym, ap, ◌∙◌, subst, append_assoc, append-nil}
+use Rattle.std.proofs.Common.{◌≡◌, ℕ, ◌+◌, ◌*◌, ◌≤◌, Bool, true, false, if◌then◌else◌, List, [], ◌∷◌, ◌++◌, refl, sym, ap, ◌∙◌, subst, append_assoc, append-nil, length, length-append, arith}
 use Rattle.word_base.specs.declared.outcome.Ending.TheVariants.{InputEnded}
 use Rattle.c25_isa.specs.declared.instruction.Instr.{Instr}
 use Rattle.c25_isa.specs.declared.instruction.Instr.TheVariants.{In}
@@ -20,6 +20,7 @@ use Rattle.frame_runs.specs.Runs.{nothing_known, known_behind, index_code, steps
 use Rattle.reach_laws.specs.Reaching.{is_word, reach_address, IsOverList, before_row, row_operand, row_instr, brought, indexed}
 use Rattle.reach_laws.specs.Direct.{behind_steps, outputs_of_steps, AlikeOutside, RunsAlike, CanRun}
 use Rattle.reach_laws.proofs.Bringing.{code_is, before_runs}
+use Rattle.reach_laws.proofs.Counting.{before_few, index_few}
 use Rattle.reach_laws.proofs.Standing.{address_is, starts_known, starts_run}
 use Rattle.reach_laws.proofs.Directly.{FrontRuns, front_runs}
 
@@ -83,9 +84,9 @@ words_at : (front : List Step) (x : Step) (rest : List Step) → HaveWords (fron
 words_at [] x rest words = words.0
 words_at (y ∷ front) x rest words = words_at front x rest words.1
 
-pub input_ends : (d : ℕ) (front : List Step) (port : ℕ) (r : Reach) (rest : List Step) (w v : Work) → AlikeOutside w v → CanRun front (step (row.In port) r ∷ rest) v → is_word r ≡ true → IsOverList r → 0x300 ≤ reach_address (behind_steps front v) r → (behind_steps front v).input port ≡ []
-    → EndsAtInput (all_steps_code d (front ++ step (row.In port) r ∷ rest)) w (outputs_of_steps front v) (InputEnded port)
-input_ends d front port r rest w v same can word list low none =
+pub input_ends_soon : (d : ℕ) (front : List Step) (port : ℕ) (r : Reach) (rest : List Step) (w v : Work) → AlikeOutside w v → CanRun front (step (row.In port) r ∷ rest) v → is_word r ≡ true → IsOverList r → 0x300 ≤ reach_address (behind_steps front v) r → (behind_steps front v).input port ≡ []
+    → (at : EndsAtInput (all_steps_code d (front ++ step (row.In port) r ∷ rest)) w (outputs_of_steps front v) (InputEnded port)) × (length at.front ≤ 3 * length front + 3)
+input_ends_soon d front port r rest w v same can word list low none =
     let x : Step = step (row.In port) r in
     let f = done d front (x ∷ rest) w v same can in
     let code : List Instr = start d front (x ∷ rest) w v same can ++ f.code in
@@ -95,16 +96,27 @@ input_ends d front port r rest w v same can word list low none =
     let here : steps_code d f.known (x ∷ rest) ≡ before ++ In port m ∷ behind =
     ap (λ c. c ++ behind) (code_is d f.known (row.In port) r rest) ∙ append_assoc before (row_instr (row.In port) r m ∷ []) behind ∙ ap (λ i. before ++ i ∷ behind) (row_is_input port r m word) in
     let there : operand_address (brought r f.work) m ≡ reach_address (behind_steps front v) r = address_is d r rest f.work word ∙ address_alike r f.work (behind_steps front v) f.alike in
-    record {
-      front = code ++ before;
-      port = port;
-      operand = m;
-      rest = behind;
-      is = whole_is d front (x ∷ rest) w v same can ∙ ap (λ c. code ++ c) here ∙ sym (append_assoc code before (In port m ∷ behind));
-      work = brought r f.work;
-      runs = subst (CodeRuns (code ++ before) w (brought r f.work)) (append-nil (outputs_of_steps front v))
-          (runs_on code before w f.work (brought r f.work) (outputs_of_steps front v) [] (whole_runs d front (x ∷ rest) w v same can) (before_runs d f.known x rest f.work f.beside list (words_at front x rest can.words)));
-      ram = subst (λ a. 0x300 ≤ a) (sym there) low;
-      none = ap (λ i. i port) (input_kept r f.work ∙ f.alike.input) ∙ none;
-      ends = refl;
-    }
+    let one = index_few d (front ++ x ∷ rest) in
+    let two = before_few f.known r in
+    let few = f.few in
+    let both = length-append (start d front (x ∷ rest) w v same can) f.code in
+    let all = length-append code before in (
+      record {
+        front = code ++ before;
+        port = port;
+        operand = m;
+        rest = behind;
+        is = whole_is d front (x ∷ rest) w v same can ∙ ap (λ c. code ++ c) here ∙ sym (append_assoc code before (In port m ∷ behind));
+        work = brought r f.work;
+        runs = subst (CodeRuns (code ++ before) w (brought r f.work)) (append-nil (outputs_of_steps front v))
+            (runs_on code before w f.work (brought r f.work) (outputs_of_steps front v) [] (whole_runs d front (x ∷ rest) w v same can) (before_runs d f.known x rest f.work f.beside list (words_at front x rest can.words)));
+        ram = subst (λ a. 0x300 ≤ a) (sym there) low;
+        none = ap (λ i. i port) (input_kept r f.work ∙ f.alike.input) ∙ none;
+        ends = refl;
+      },
+      omega (arith, one, two, few, both, all),
+    )
+
+pub input_ends : (d : ℕ) (front : List Step) (port : ℕ) (r : Reach) (rest : List Step) (w v : Work) → AlikeOutside w v → CanRun front (step (row.In port) r ∷ rest) v → is_word r ≡ true → IsOverList r → 0x300 ≤ reach_address (behind_steps front v) r → (behind_steps front v).input port ≡ []
+    → EndsAtInput (all_steps_code d (front ++ step (row.In port) r ∷ rest)) w (outputs_of_steps front v) (InputEnded port)
+input_ends d front port r rest w v same can word list low none = (input_ends_soon d front port r rest w v same can word list low none).0

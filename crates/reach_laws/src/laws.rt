@@ -1,5 +1,5 @@
 //! Laws of operands within runs. The call does nothing: its clauses are what crates above cite.
-ghost use Rattle.std.specs.Prelude.{◌≡◌, ◌≤◌, ℕ, true, false, List, [], ◌∷◌, ◌++◌};
+ghost use Rattle.std.specs.Prelude.{◌≡◌, ◌≤◌, ℕ, ◌+◌, ◌*◌, length, true, false, List, [], ◌∷◌, ◌++◌};
 ghost use Rattle.word_base.specs.declared.outcome.Ending.TheVariants.{InputEnded};
 ghost use Rattle.c25_isa.specs.declared.operand.Operand.{Operand};
 ghost use Rattle.c25_isa.specs.declared.operand.Operand.TheVariants.{Direct};
@@ -49,6 +49,10 @@ pub fn runs_reach()
     ensures ends { (d : ℕ) (front : List Step) (port : ℕ) (r : Reach) (rest : List Step) (w v : Work) → AlikeOutside w v → CanRun front (step (In port) r ∷ rest) v → is_word r ≡ true → IsOverList r → 0x300 ≤ reach_address (behind_steps front v) r → (behind_steps front v).input port ≡ []
         → EndsAtInput (all_steps_code d (front ++ step (In port) r ∷ rest)) w (outputs_of_steps front v) (InputEnded port) }
     ensures part { (d : ℕ) (front rest : List Step) (w v : Work) → AlikeOutside w v → CanRun front rest v → RunsInPart (all_steps_code d (front ++ rest)) w (outputs_of_steps front v) }
+    // A step has at most three instructions, and a run one more; so has what stands before such an input.
+    ensures short { (d : ℕ) (xs : List Step) → length (all_steps_code d xs) ≤ 4 * length xs }
+    ensures soon { (d : ℕ) (front : List Step) (port : ℕ) (r : Reach) (rest : List Step) (w v : Work) → AlikeOutside w v → CanRun front (step (In port) r ∷ rest) v → is_word r ≡ true → IsOverList r → 0x300 ≤ reach_address (behind_steps front v) r → (behind_steps front v).input port ≡ []
+        → (at : EndsAtInput (all_steps_code d (front ++ step (In port) r ∷ rest)) w (outputs_of_steps front v) (InputEnded port)) × (length at.front ≤ 3 * length front + 3) }
     // The steps of right operations, at a site whose lists have registers of their own and whose addresses are words, are so as `CanRun` asks.
     ensures takes { (s : Places) (os : List Operation) → AreRight os → TakeReaches (steps_of s os) }
     ensures lists { (s : Places) (os : List Operation) → HaveOwnRegisters s.scalars → AreOverLists (steps_of s os) }

@@ -1,10 +1,12 @@
 use Rattle.std.proofs.Common.{◌≢◌, List, refl, sym, subst}
 use Rattle.std.specs.Prelude.{All}
 use Rattle.c_tree.specs.ProgramView.{program_of}
+use Rattle.c_tree.specs.SourceRun.{source_run}
+use Rattle.c25_isa.specs.Agrees.{Agrees}
 use Rattle.c25_isa.specs.Image.{Contents}
 use Rattle.lay_cert.specs.Frames.{Frame}
 use Rattle.cc_frames.specs.Frames.{ClaimsHold}
-use Rattle.cc_image.specs.Images.{AccessAs, HasFrames, HasImage}
+use Rattle.cc_image.specs.Images.{AccessAs, EndsWithin, HasFrames, HasImage}
 use Rattle.cc_fault.specs.PartFaults.{of_translation_fault}
 use Rattle.cc_fault.specs.SourceFaults.{HasFault}
 use Rattle.cc_fault.specs.declared.fault.BuildFault.{BuildFault}
@@ -38,7 +40,8 @@ returns-clause-built g c =
       framed = subst (λ (fs : List Frame). HasFrames c.args.options program fs) (sym c.in_ok-with_rows.ensures.certificate) c.in_ok-translated.ensures.frames;
       accesses = subst (λ (fs : List Frame). AccessAs c.args.options.step program fs) (sym c.in_ok-with_rows.ensures.certificate) c.in_ok-translated.ensures.accesses;
       keeps = c.in_ok-translated.ensures.keeps;
-      agrees = λ thin. c.thin_images_agree.ensures c.args.options program _ c.requires.options thin image;
+      agrees = subst (λ (i : Contents). ∥ Agrees (source_run program) i.words ∥₁) (sym c.in_ok-with_rows.ensures.image) c.in_ok-translated.ensures.agrees;
+      in_time = subst (λ (i : Contents). ∥ EndsWithin c.args.options program i ∥₁) (sym c.in_ok-with_rows.ensures.image) c.in_ok-translated.ensures.in_time;
     }
 
 pub returns-clause-claims : goal.returns-clause-claims

@@ -1,7 +1,7 @@
 use Rattle.std.proofs.Common.{◌≡◌, ◌≤◌, ◌∙◌, List, ap, sym, subst}
 use Rattle.std.specs.Prelude.{All, map}
 use Rattle.acc_select.specs.Selected.{selected}
-use Rattle.c25_isa.specs.Pieces.{Linked}
+use Rattle.c25_isa.specs.Pieces.{Linked, PiecesFit}
 use Rattle.c25_link.specs.Linking.{linked_image, pieces_words}
 use Rattle.lay_cert.specs.Frames.{Frame}
 use Rattle.mem_plan.specs.Plan.{IsPlan}
@@ -38,6 +38,7 @@ returns-clause-image g c = λ t is.
       fits = subst (λ (p : ProgramCode). pieces_words (all_pieces o p plan) ≤ 65536) is c.in_ok-image.ensures.fits;
       is = c.in_ok-image.ensures.image ∙ ap (λ (p : ProgramCode). linked_image (all_pieces o p plan)) is;
       linked = subst (λ (p : ProgramCode). Linked (all_pieces o p plan) c.in_ok-image.image) is c.in_ok-image.ensures.linked;
+      ranges = subst (λ (p : ProgramCode). PiecesFit (all_pieces o p plan)) is c.in_ok-image.ensures.ranges;
     }
 
 pub returns-clause-frames : goal.returns-clause-frames

@@ -1,13 +1,15 @@
 use Rattle.std.proofs.Common.{◌≡◌, ◌≤◌, ◌∙◌, map, ap, sym, subst}
 use Rattle.std.specs.Prelude.{IfOk, IfErr}
 use Rattle.c25_isa.specs.Image.{Contents}
-use Rattle.c25_isa.specs.Pieces.{piece_of, Linked}
+use Rattle.c25_isa.specs.Pieces.{piece_of, Linked, PiecesFit}
+use Rattle.c25_link.proofs.Images.{all_fit}
 use Rattle.c25_link.specs.Linking.{linked_image, pieces_words}
 use Rattle.tree_code.specs.ProgramView.{tree_of}
 use Rattle.acc_select.specs.IsSelected.{IsEmittable}
 use Rattle.c25_link.specs.Linking.{AreLinkable}
 use Rattle.cc_image.specs.Faults.{SaysOfPieces}
 use Rattle.cc_image.proofs.LinkLemmas.{are_linkable}
+use Rattle.cc_image.proofs.AgreementLemmas.{always_ok}
 use Rattle.cc_image.proofs.phases.image_of.Goals as goal
 
 pub linked-requires : goal.linked-requires
@@ -28,6 +30,9 @@ returns-clause-linked c =
 pub returns-clause-fits : goal.returns-clause-fits
 returns-clause-fits c =
     subst (λ ps. IfOk c.linked.result (λ (_ : Contents). pieces_words ps ≤ 65536)) (ap (map piece_of) c.deref.ensures.value ∙ c.in_ok-pieces.ensures) c.linked.ensures.fits
+
+pub returns-clause-ranges : goal.returns-clause-ranges
+returns-clause-ranges c = always_ok c.linked.result (subst PiecesFit c.in_ok-pieces.ensures (all_fit c.in_ok-pieces.pieces.items))
 
 pub returns-clause-refused : goal.returns-clause-refused
 returns-clause-refused c =

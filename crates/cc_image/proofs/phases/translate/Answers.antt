@@ -1,6 +1,7 @@
 use Rattle.std.proofs.Common.{◌≡◌, ◌∙◌, ap, subst, List, map}
 use Rattle.std.specs.Prelude.{IfOk}
 use Rattle.access_laws.specs.SourceSequences.{source_sequence}
+use Rattle.acc_code.specs.AccView.{functions_of}
 use Rattle.acc_select.specs.Selected.{selected}
 use Rattle.lay_cert.specs.Frames.{Frame}
 use Rattle.lay_model.specs.Sequences.{Sequence}
@@ -9,6 +10,7 @@ use Rattle.tree_code.specs.ProgramView.{tree_of}
 use Rattle.tree_code.specs.WordTree.{ProgramCode}
 use Rattle.cc_frames.specs.Frames.{accesses_of}
 use Rattle.c_tree.specs.ProgramView.{program_of}
+use Rattle.cc_image.proofs.AgreementLemmas.{image_agrees, image_in_time, ok_of_both}
 use Rattle.cc_image.proofs.TranslationLemmas.{ok_then, runs_kept}
 use Rattle.cc_image.proofs.phases.translate.Goals as goal
 
@@ -34,3 +36,17 @@ returns-clause-keeps g c =
     let t = program_of c.args.program.now in
     ok_then c.finished.result c.finished.ensures.arranged
     (λ made arranged. runs_kept c.translation_keeps_runs.ensures.keeps c.args.options t (tree_of c.in_ok-chosen.chosen.tree) c.in_ok-chosen.ensures.tree c.args.program.now.well_formed c.in_ok-chosen.ensures.words arranged)
+
+pub returns-clause-agrees : goal.returns-clause-agrees
+returns-clause-agrees g c =
+    let t = program_of c.args.program.now in
+    let p = tree_of c.in_ok-chosen.chosen.tree in
+    ok_of_both c.finished.result (c.finished.ensures.image t c.in_ok-chosen.ensures.tree) c.finished.ensures.arranged
+    (λ made has arranged. image_agrees c.images_agree.ensures.agree c.args.options t p (functions_of c.in_ok-chosen.chosen.code) c.requires c.in_ok-chosen.ensures.tree c.args.program.now.well_formed c.in_ok-chosen.ensures.words arranged c.in_ok-chosen.ensures.emittable c.in_ok-chosen.ensures.code made.image has)
+
+pub returns-clause-in_time : goal.returns-clause-in_time
+returns-clause-in_time g c =
+    let t = program_of c.args.program.now in
+    let p = tree_of c.in_ok-chosen.chosen.tree in
+    ok_of_both c.finished.result (c.finished.ensures.image t c.in_ok-chosen.ensures.tree) c.finished.ensures.arranged
+    (λ made has arranged. image_in_time c.images_agree.ensures.in_time c.args.options t p (functions_of c.in_ok-chosen.chosen.code) c.requires c.in_ok-chosen.ensures.tree c.args.program.now.well_formed c.in_ok-chosen.ensures.words arranged c.in_ok-chosen.ensures.emittable c.in_ok-chosen.ensures.code made.image has)

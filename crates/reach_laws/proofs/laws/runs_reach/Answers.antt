@@ -3,7 +3,8 @@ use Rattle.reach_laws.proofs.Bringing.{code_is, before_runs}
 use Rattle.reach_laws.proofs.Standing.{address_is, pointer_stays, pointer_loads, known_stays, starts_known, starts_run}
 use Rattle.reach_laws.proofs.Operands.{row_leaves}
 use Rattle.reach_laws.proofs.Constants.{constant_leaves}
-use Rattle.reach_laws.proofs.Whole.{steps_run, input_ends, part_runs}
+use Rattle.reach_laws.proofs.Counting.{all_few}
+use Rattle.reach_laws.proofs.Whole.{steps_run, input_ends, input_ends_soon, part_runs}
 use Rattle.reach_laws.proofs.Directly.{brought_kept}
 use Rattle.reach_laws.proofs.Taking.{steps_take, steps_over}
 use Rattle.reach_laws.proofs.Wording.{steps_words}
@@ -59,3 +60,9 @@ returns-clause-lists c = steps_over
 
 pub returns-clause-words : goal.returns-clause-words
 returns-clause-words c = steps_words
+
+pub returns-clause-short : goal.returns-clause-short
+returns-clause-short c = all_few
+
+pub returns-clause-soon : goal.returns-clause-soon
+returns-clause-soon c = input_ends_soon

@@ -1,3 +1,0 @@
-mod Examples
-pub mod ThinRun
-pub mod ThinImages

@@ -1,0 +1,2 @@
+-- What laws say of the bodies of functions.
+pub mod Bodies

@@ -1,0 +1,3 @@
+-- What laws of images say.
+pub mod Keeping
+pub mod Agreeing

@@ -1,0 +1,2 @@
+-- What laws of labels say.
+pub mod Standing

@@ -1,0 +1,12 @@
+pub mod RowKinds
+pub mod Located
+pub mod Stored
+pub mod Rows
+pub mod StoreRows
+pub mod Loading
+pub mod Meeting
+pub mod Pointing
+pub mod Operating
+pub mod Pointers
+pub mod Recursing
+pub mod Running

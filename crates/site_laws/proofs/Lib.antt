@@ -1,0 +1,22 @@
+pub mod Lists
+pub mod Ways
+pub mod Frames
+pub mod Placed
+pub mod Words
+pub mod FrameWords
+pub mod Statics
+pub mod Cells
+pub mod Given
+pub mod SiteWords
+pub mod KeptWords
+pub mod Standing
+pub mod Registers
+pub mod Numbers
+pub mod Keeping
+pub mod Entering
+pub mod Sites
+pub mod Calls
+pub mod Returning
+pub mod Facts
+pub mod Beginning
+mod Examples

@@ -1,0 +1,6 @@
+-- What the plan of data memory gives to emitted code.
+pub mod Emissions
+pub mod Active
+pub mod ActiveSites
+pub mod Kept
+pub mod Beginnings

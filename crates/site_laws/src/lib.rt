@@ -1,0 +1,6 @@
+//! The laws of sites: what the plan of data memory gives to emitted code. It has no code of its own.
+#![tactic(auto)]
+
+mod laws;
+
+pub use laws::{calls_are_few, calls_stand, sites_stand, startups_stand};

@@ -1,0 +1,2 @@
+-- What the law of startups says.
+pub mod Starts

@@ -1,0 +1,11 @@
+pub mod Usables
+pub mod Words
+pub mod Operations
+pub mod Comparisons
+pub mod Branches
+pub mod Forms
+pub mod Expressions
+pub mod Cases
+pub mod Statements
+pub mod Programs
+pub mod Examples

@@ -1,0 +1,2 @@
+-- What a law of selected items says.
+pub mod Usable
