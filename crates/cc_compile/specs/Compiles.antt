@@ -11,7 +11,7 @@ use Rattle.c25_isa.specs.Agrees.{Agrees}
 use Rattle.c25_isa.specs.Image.{Contents}
 use Rattle.lay_cert.specs.Frames.{Frame}
 use Rattle.cc_frames.specs.declared.options.Options.{Options}
-use Rattle.cc_image.specs.Images.{AccessAs, EndsWithin, HasFrames, HasImage, KeepsRuns}
+use Rattle.cc_image.specs.Images.{AccessAs, AreWalked, EndsWithin, HasFrames, HasImage, KeepsRuns}
 
 -- the bytes have a tree, this a typed program, and that has the image, which is linked from its pieces and the routines, and the frames, which are
 -- laid out as is chosen. The words do what the program does
@@ -31,3 +31,5 @@ pub record IsBuilt (o : Options) (bytes : List ℕ) (image : Contents) (frames :
   -- and so is what the image does, wherever C defines what the program does; where the program ends, in time
   pub agrees : ∥ Agrees (source_run program) image.words ∥₁
   pub in_time : ∥ EndsWithin o program image ∥₁
+  -- the words of each function access what its frame says, with so many address instructions as that costs
+  pub walked : ∥ AreWalked image frames ∥₁

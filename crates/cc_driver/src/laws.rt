@@ -1,9 +1,13 @@
-//! The law of layouts.
+//! The laws of layouts and of executions.
 ghost use Rattle.std.specs.Prelude.{◌≡◌, ◌<◌, ◌≤◌, ◌^◌, ◌++◌, ℕ, List, Some, codes, decimal};
+ghost use Rattle.word_base.specs.Ports.{input_of};
+ghost use Rattle.c25_sim.specs.Taken.{of_sixteen};
+ghost use Rattle.exec_laws.specs.Telling.{TellsOf};
 ghost use Rattle.lay_model.specs.Sequences.{Sequence};
 ghost use Rattle.lay_cost.specs.Cost.{Least};
 ghost use Rattle.lay_text.specs.SequenceReading.{Reads};
 ghost use Rattle.cc_text.specs.Answers.{Answered};
+ghost use Rattle.cc_driver.specs.Exec.{ExecutesTo};
 ghost use Rattle.cc_driver.specs.Layout.{LaysOutTo};
 
 /// Where the first line of a layout says that its cost is optimal, no placement of the file's sequence over so many registers costs
@@ -15,4 +19,13 @@ pub fn optimal_layouts_are_least()
 {
     lay_tree::answers_cost_little();
     lay_tree::certified_answers_are_least();
+}
+
+/// What an execution tells of its source: where it ended, the source ends with the same outputs and ending, or does something undefined; it came to a
+/// trap only where the source does something undefined; and where the source ends, it is through in time. It does nothing: its clause is what callers
+/// cite.
+pub fn executions_tell()
+    ensures tell { (source ports : List ℕ) (steps : ℕ) (answer : Answered) (h : ExecutesTo source ports steps answer) → ∥ TellsOf h.built.program h.built.has.plan (of_sixteen (input_of h.lines)) steps h.runs.outs h.runs.stands ∥₁ }
+{
+    exec_laws::runs_tell();
 }

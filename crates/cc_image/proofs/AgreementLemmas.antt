@@ -35,13 +35,17 @@ pub ok_of_both : {A E : Type 0} {P Q R : A → Type 0} (r : Result A E) → IfOk
 ok_of_both (Ok a) h k f = f a h k
 ok_of_both (Err e) h k f = tt
 
+pub ok_of_four : {A E : Type 0} {P Q R S T : A → Type 0} (r : Result A E) → IfOk r P → IfOk r Q → IfOk r R → IfOk r S → ((a : A) → P a → Q a → R a → S a → T a) → IfOk r T
+ok_of_four (Ok a) h k l m f = f a h k l m
+ok_of_four (Err e) h k l m f = tt
+
 -- the laws of images for the layouts of a program
 abbrev ForImage : (ProgramTree → DataPlan → List ℕ → Type 0) → Type 0
 ForImage So = (t : ProgramTree) (plan : DataPlan) (arrangements : List (List (List ℕ))) (step : ℕ) (image : Contents) → IsProgram t → HasWords t → AreArranged (lowered_program t).functions arrangements → IsPlan (lowered_program t) arrangements plan
     → IsEmittable (lowered_program t) (selected (lowered_program t)) → step < 256 → Linked (emission_pieces (emission_of t plan arrangements step)) image → PiecesFit (emission_pieces (emission_of t plan arrangements step)) → pieces_size (emission_pieces (emission_of t plan arrangements step)) ≤ 65536
     → So t plan image.words
 
-size_same : (ps : List Piece) → pieces_size ps ≡ pieces_words ps
+pub size_same : (ps : List Piece) → pieces_size ps ≡ pieces_words ps
 size_same [] = refl
 size_same (p ∷ ps) = ap (λ n. items_size p.items + n) (size_same ps) ∙ sym (sum_by-cons (λ (q : Piece). items_size q.items) p ps)
 

@@ -7,3 +7,4 @@ mod CallLemmas
 mod LinkLemmas
 mod TranslationLemmas
 mod AgreementLemmas
+mod WalkLemmas

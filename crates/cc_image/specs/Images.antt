@@ -1,6 +1,6 @@
 -- What a typed program becomes (docs/TRANSLATION.md): word trees, accumulator code, layouts of frames, a plan of data memory, pieces, an image and a
 -- certificate. A command chooses how frames are laid out.
-use Rattle.std.specs.Prelude.{◌≡◌, ℕ, ◌<◌, ◌≤◌, List, ◌++◌, map}
+use Rattle.std.specs.Prelude.{◌≡◌, ℕ, ◌<◌, ◌≤◌, List, ◌++◌, map, slice_get, Some}
 use Rattle.word_base.specs.Ports.{Input, IsInput}
 use Rattle.c_tree.specs.SourceRun.{source_run}
 use Rattle.c_tree.specs.TypedTree.{ProgramTree}
@@ -17,10 +17,14 @@ use Rattle.code_runs.specs.Keeps.{acc_run}
 use Rattle.lower_laws.specs.Lowering.{KeepsSource}
 use Rattle.run_laws.specs.PlanPlaces.{places_of}
 use Rattle.image_laws.specs.Agreeing.{EndsInTime}
+use Rattle.image_walks.specs.FunctionWalks.{place_of}
 use Rattle.lay_cert.specs.Frames.{Frame}
 use Rattle.cc_frames.specs.declared.options.Options.{Options}
 use Rattle.cc_frames.specs.Frames.{layout_of, frames_of}
+use Rattle.c25_isa.specs.declared.image.FunctionRange.{FunctionRange}
+use Rattle.c25_isa.specs.AddressCount.{address_count}
 use Rattle.c25_isa.specs.Image.{Contents}
+use Rattle.c25_isa.specs.Walk.{Blocks, walk}
 use Rattle.c25_isa.specs.Pieces.{Piece, Linked, PiecesFit}
 use Rattle.c25_helper.specs.Calls.{called_helper_pieces}
 use Rattle.c25_link.specs.Linking.{linked_image, pieces_words}
@@ -72,6 +76,18 @@ KeepsRuns o t = (plan : DataPlan) → IsPlanOf o t plan → (input : Input) (n :
 -- where it ends, its image ends in time
 abbrev pub EndsWithin : Options → ProgramTree → Contents → Type 0
 EndsWithin o t image = (plan : DataPlan) → IsPlanOf o t plan → EndsInTime t plan image.words
+
+-- a frame of a number: the function of that number has a range in the image. A walk of it finds the accesses of the frame, each scalar where the frame
+-- has it, and it has so many address instructions as the frame costs
+pub record IsWalked (image : Contents) (k : ℕ) (f : Frame) : Type 0 where
+  pub range : FunctionRange
+  pub there : slice_get image.functions k ≡ Some range
+  pub named : range.name ≡ f.name
+  pub walks : walk image.words range.first range.last ≡ Blocks (map (λ b. map (place_of f.bases f.arr) b.accesses) f.seq.blocks)
+  pub counts : address_count image.words range.first range.last ≡ f.cost
+
+abbrev pub AreWalked : Contents → List Frame → Type 0
+AreWalked image frames = (k : ℕ) (f : Frame) → slice_get frames k ≡ Some f → IsWalked image k f
 
 -- its data need so many words, which are too many
 abbrev pub HasTooMuchData : ProgramTree → ℕ → Type 0

@@ -1,4 +1,4 @@
-use Rattle.std.proofs.Common.{◌≢◌, List, refl, sym, subst}
+use Rattle.std.proofs.Common.{◌≡◌, ◌≢◌, List, refl, sym, subst}
 use Rattle.std.specs.Prelude.{All}
 use Rattle.c_tree.specs.ProgramView.{program_of}
 use Rattle.c_tree.specs.SourceRun.{source_run}
@@ -6,7 +6,7 @@ use Rattle.c25_isa.specs.Agrees.{Agrees}
 use Rattle.c25_isa.specs.Image.{Contents}
 use Rattle.lay_cert.specs.Frames.{Frame}
 use Rattle.cc_frames.specs.Frames.{ClaimsHold}
-use Rattle.cc_image.specs.Images.{AccessAs, EndsWithin, HasFrames, HasImage}
+use Rattle.cc_image.specs.Images.{AccessAs, AreWalked, EndsWithin, HasFrames, HasImage}
 use Rattle.cc_fault.specs.PartFaults.{of_translation_fault}
 use Rattle.cc_fault.specs.SourceFaults.{HasFault}
 use Rattle.cc_fault.specs.declared.fault.BuildFault.{BuildFault}
@@ -23,6 +23,9 @@ returns-in_err-translated-clause-refused g c =
 pub returns-in_err-with_rows-clause-refused : goal.returns-in_err-with_rows-clause-refused
 returns-in_err-with_rows-clause-refused g c =
     passed_on c.from_residual-in_err-with_rows.result faults.NoMemory (λ (why : BuildFault). why ≢ faults.NoMemory → HasFault c.args.options c.args.source.now why) c.from_residual-in_err-with_rows.ensures.1 (λ some. absurd (some refl))
+
+walked_too : (image other : Contents) (frames others : List Frame) → image ≡ other → frames ≡ others → ∥ AreWalked other others ∥₁ → ∥ AreWalked image frames ∥₁
+walked_too image other frames others e f h = subst (λ i. ∥ AreWalked i frames ∥₁) (sym e) (subst (λ fs. ∥ AreWalked other fs ∥₁) (sym f) h)
 
 pub returns-clause-built : goal.returns-clause-built
 returns-clause-built g c =
@@ -42,6 +45,7 @@ returns-clause-built g c =
       keeps = c.in_ok-translated.ensures.keeps;
       agrees = subst (λ (i : Contents). ∥ Agrees (source_run program) i.words ∥₁) (sym c.in_ok-with_rows.ensures.image) c.in_ok-translated.ensures.agrees;
       in_time = subst (λ (i : Contents). ∥ EndsWithin c.args.options program i ∥₁) (sym c.in_ok-with_rows.ensures.image) c.in_ok-translated.ensures.in_time;
+      walked = walked_too _ _ _ _ c.in_ok-with_rows.ensures.image c.in_ok-with_rows.ensures.certificate c.in_ok-translated.ensures.walked;
     }
 
 pub returns-clause-claims : goal.returns-clause-claims

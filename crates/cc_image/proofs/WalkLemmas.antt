@@ -1,0 +1,123 @@
+-- The words of each function access what its frame says, by the law of walks for the layouts of the program.
+use Rattle.std.proofs.Common.{◌≡◌, ◌<◌, ◌≤◌, ◌∙◌, ℕ, zero, suc, ◌+◌, ◌*◌, List, [], ◌∷◌, map, Some, refl, sym, ap, ap₂, subst, arith}
+use Rattle.std.specs.Prelude.{slice_get, sum_by, length, All}
+use Rattle.std.proofs.Math.Logic.{∥∥₁_map}
+use Rattle.std.proofs.lemmas.List.Sums.{sum_by-cons}
+use Rattle.std.proofs.lemmas.Option.{same_Some, slice_get_within}
+use Rattle.c_tree.specs.TypedTree.{ProgramTree}
+use Rattle.c_tree.specs.WellFormedProgram.{IsProgram}
+use Rattle.tree_code.specs.Lowered.{lowered_program}
+use Rattle.tree_code.specs.TypedOfWords.{HasWords}
+use Rattle.tree_code.specs.WordTree.{FunctionCode, ProgramCode}
+use Rattle.acc_code.specs.AccTree.{FunctionItems}
+use Rattle.acc_code.specs.AccSequence.{blocks_of, once}
+use Rattle.acc_select.specs.IsSelected.{IsEmittable}
+use Rattle.acc_select.specs.Selected.{selected}
+use Rattle.lay_cost.specs.Cost.{block_cost}
+use Rattle.lay_cost.specs.Placements.{placement_of}
+use Rattle.lay_cert.specs.Frames.{Frame}
+use Rattle.mem_plan.specs.declared.data_plan.DataPlan.{DataPlan}
+use Rattle.mem_plan.specs.declared.data_plan.FramePlan.{FramePlan}
+use Rattle.mem_plan.specs.Plan.{AreArranged, IsPlan}
+use Rattle.c25_isa.specs.AddressCount.{address_count}
+use Rattle.c25_isa.specs.Image.{Contents}
+use Rattle.c25_isa.specs.Pieces.{Linked, PiecesFit}
+use Rattle.c25_isa.specs.Walk.{Blocks}
+use Rattle.c25_code.specs.Links.{pieces_size}
+use Rattle.image_laws.specs.Agreeing.{emission_of}
+use Rattle.image_laws.specs.Keeping.{all_pieces as emission_pieces}
+use Rattle.image_walks.specs.FunctionWalks.{HasWalk, IsFunctionOf, place_of}
+use Rattle.cc_frames.specs.declared.options.Options.{Options}
+use Rattle.cc_frames.specs.Frames.{AreOptions, ClaimsHold, frame_of, frames_of, layout_of}
+use Rattle.cc_image.specs.Images.{AreWalked, HasFrames, HasImage, IsWalked, all_pieces, layouts}
+use Rattle.cc_image.proofs.AgreementLemmas.{size_same}
+use Rattle.cc_image.proofs.OneImage.{one_plan}
+
+-- blocks that count once
+same_blocks : (place : ℕ → ℕ) (bs : List (List ℕ)) → map (map place) bs ≡ map (λ b. map place b.accesses) (map once bs)
+same_blocks place [] = refl
+same_blocks place (b ∷ bs) = ap (λ rest. map place b ∷ rest) (same_blocks place bs)
+
+same_costs : (cost : List ℕ → ℕ) (bs : List (List ℕ)) → sum_by cost bs ≡ sum_by (λ b. b.weight * cost b.accesses) (map once bs)
+same_costs cost [] = refl
+same_costs cost (b ∷ bs) =
+    let rest = same_costs cost bs in
+    let left = sum_by-cons cost b bs in
+    let right = sum_by-cons (λ b. b.weight * cost b.accesses) (once b) (map once bs) in
+    by (cost b) (sum_by cost bs) (sum_by (λ b. b.weight * cost b.accesses) (map once bs)) _ _ left right rest
+  where
+    by : (first less more left right : ℕ) → left ≡ first + less → right ≡ 1 * first + more → less ≡ more → left ≡ right
+    by first less more left right l r e = omega (arith, l, r, e)
+
+-- the frame of a number is that of the function and of the plan of that number
+record IsFrameAt (o : Options) (gs : List FunctionItems) (plans : List FramePlan) (k : ℕ) (f : Frame) : Type 0 where
+  g : FunctionItems
+  plan : FramePlan
+  g_at : slice_get gs k ≡ Some g
+  plan_at : slice_get plans k ≡ Some plan
+  is : frame_of o g plan.bases ≡ f
+
+frame_at : (o : Options) (gs : List FunctionItems) (plans : List FramePlan) (k : ℕ) (f : Frame) → slice_get (frames_of o gs plans) k ≡ Some f → IsFrameAt o gs plans k f
+frame_at o [] plans k f is = absurd cc
+frame_at o (g ∷ gs) [] k f is = absurd cc
+frame_at o (g ∷ gs) (plan ∷ plans) zero f is = record { g = g; plan = plan; g_at = refl; plan_at = refl; is = same_Some (frame_of o g plan.bases) f is }
+frame_at o (g ∷ gs) (plan ∷ plans) (suc k) f is =
+    let rest = frame_at o gs plans k f is in
+    record { g = rest.g; plan = rest.plan; g_at = rest.g_at; plan_at = rest.plan_at; is = rest.is }
+
+map_at : {A B : Type 0} (h : A → B) (xs : List A) (k : ℕ) (x : A) → slice_get xs k ≡ Some x → slice_get (map h xs) k ≡ Some (h x)
+map_at h [] k x is = absurd cc
+map_at h (y ∷ ys) zero x is = ap (λ z. Some (h z)) (same_Some y x is)
+map_at h (y ∷ ys) (suc k) x is = map_at h ys k x is
+
+there : {A : Type 0} (xs : List A) (k : ℕ) → k < length xs → (x : A) × (slice_get xs k ≡ Some x)
+there [] k less = absurd (omega (arith, less))
+there (x ∷ xs) zero less = (x, refl)
+there (x ∷ xs) (suc k) less = there xs k (omega (arith, less))
+
+each_of : {A : Type 0} (P : A → Type 0) (xs : List A) → All P xs → (k : ℕ) (x : A) → slice_get xs k ≡ Some x → P x
+each_of P [] all k x is = absurd cc
+each_of P (y ∷ ys) all zero x is = subst P (same_Some y x is) (all 0 y (omega arith))
+each_of P (y ∷ ys) all (suc k) x is = each_of P ys (λ i d within. all (suc i) d (omega (arith, within))) k x is
+
+-- the law of walks for the layouts of a program
+abbrev ForWalks : Type 0
+ForWalks = (t : ProgramTree) (plan : DataPlan) (arrangements : List (List (List ℕ))) (step : ℕ) (image : Contents) (k : ℕ) (code : FunctionCode) (g : FunctionItems) (frame : FramePlan) (lists : List (List ℕ)) → IsProgram t → HasWords t → AreArranged (lowered_program t).functions arrangements → IsPlan (lowered_program t) arrangements plan
+    → IsEmittable (lowered_program t) (selected (lowered_program t)) → step < 256 → Linked (emission_pieces (emission_of t plan arrangements step)) image → PiecesFit (emission_pieces (emission_of t plan arrangements step)) → pieces_size (emission_pieces (emission_of t plan arrangements step)) ≤ 65536
+    → IsFunctionOf (emission_of t plan arrangements step) k code g frame lists → HasWalk image k step g frame lists
+
+module _ (law : ForWalks) (o : Options) (t : ProgramTree) (options : AreOptions o) (words : HasWords t) (arranged : AreArranged (lowered_program t).functions (layouts o (lowered_program t))) (emittable : IsEmittable (lowered_program t) (selected (lowered_program t))) (image : Contents) (h : HasImage o t image) where
+  abbrev p : ProgramCode
+  p = lowered_program t
+
+  walk_of : IsProgram t → (k : ℕ) (g : FunctionItems) (plan : FramePlan) → slice_get (selected p) k ≡ Some g → slice_get h.plan.frames k ≡ Some plan → HasWalk image k o.step g plan (layout_of o g)
+  walk_of is k g plan g_at plan_at =
+      let few = options.to_eight in
+      let size = h.fits in
+      let within : k < length p.functions = subst (λ n. k < n) emittable.count (slice_get_within (selected p) k g g_at) in
+      let code = there p.functions k within in
+      law t h.plan (layouts o p) o.step image k code.0 g plan (layout_of o g) is words arranged h.planned emittable (omega (arith, few)) h.linked h.ranges (omega (arith, size, size_same (all_pieces o p h.plan)))
+      (record { code_at = code.1; items_at = g_at; frame_at = plan_at; lists_at = map_at (layout_of o) (selected p) k g g_at })
+
+  walked_as : (k : ℕ) (g : FunctionItems) (plan : FramePlan) → HasWalk image k o.step g plan (layout_of o g) → ClaimsHold (frame_of o g plan.bases) → IsWalked image k (frame_of o g plan.bases)
+  walked_as k g plan w claims = record {
+    range = w.range;
+    there = w.there;
+    named = w.named;
+    walks = w.walks ∙ ap Blocks (same_blocks (place_of plan.bases (layout_of o g)) (blocks_of g.body));
+    counts = w.counts ∙ same_costs (block_cost o.step (placement_of (layout_of o g))) (blocks_of g.body) ∙ sym claims.cost;
+  }
+
+  walked : IsProgram t → (frames : List Frame) → frames ≡ frames_of o (selected p) h.plan.frames → All ClaimsHold frames → AreWalked image frames
+  walked is frames are claims k f at =
+      let x = frame_at o (selected p) h.plan.frames k f (ap (λ fs. slice_get fs k) (sym are) ∙ at) in
+      subst (IsWalked image k) x.is (walked_as k x.g x.plan (walk_of is k x.g x.plan x.g_at x.plan_at) (subst ClaimsHold (sym x.is) (each_of ClaimsHold frames claims k f at)))
+
+pub frames_walked : ForWalks → (o : Options) (t : ProgramTree) (p : ProgramCode) (gs : List FunctionItems) → AreOptions o → p ≡ lowered_program t → ∥ IsProgram t ∥₁ → HasWords t → AreArranged p.functions (layouts o p) → IsEmittable p gs → gs ≡ selected p
+    → (image : Contents) (frames : List Frame) → HasImage o t image → HasFrames o t frames → All ClaimsHold frames → ∥ AreWalked image frames ∥₁
+frames_walked law o t p gs options same known words arranged emittable chosen image frames h framed claims =
+    let plans = one_plan o t framed.plan h.plan framed.planned h.planned in
+    ∥∥₁_map known
+    (λ is.
+    walked law o t options words (subst (λ p. AreArranged p.functions (layouts o p)) same arranged) (subst (λ p. IsEmittable p (selected p)) same (subst (IsEmittable p) chosen emittable)) image h is frames
+    (framed.are ∙ ap (λ (plan : DataPlan). frames_of o (selected (lowered_program t)) plan.frames) plans) claims)

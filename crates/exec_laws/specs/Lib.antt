@@ -1,0 +1,2 @@
+-- What runs of images tell of sources.
+pub mod Telling

@@ -1,0 +1,2 @@
+-- What laws of the walks of images say.
+pub mod FunctionWalks
