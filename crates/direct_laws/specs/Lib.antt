@@ -1,0 +1,2 @@
+-- What the law of direct operands says.
+pub mod Directs
