@@ -2,6 +2,7 @@
 use Rattle.std.specs.Prelude.{◌≡◌, ℕ, zero, suc, List, [], ◌∷◌, ◌++◌, map, slice_get, Option, option_to_list, Some, None}
 use Rattle.c_tree.specs.TypedTree.{ObjectTree}
 use Rattle.tree_code.specs.WordTree.{FunctionCode}
+use Rattle.acc_code.specs.AccTree.{FunctionItems}
 use Rattle.acc_select.specs.IsSelected.{called_parameters}
 use Rattle.mem_plan.specs.declared.data_plan.FramePlan.{FramePlan}
 use Rattle.c25_isa.specs.declared.image.FunctionRange.{FunctionRange}
@@ -9,7 +10,7 @@ use Rattle.c25_isa.specs.Direct.{Direct}
 use Rattle.c25_isa.specs.Image.{Contents}
 use Rattle.site_laws.specs.Emissions.{Emission}
 use Rattle.site_laws.specs.ActiveSites.{parameters_of}
-use Rattle.image_walks.specs.FunctionWalks.{place_of}
+use Rattle.image_walks.specs.FunctionWalks.{IsFunctionOf, place_of}
 
 -- so many numbers from one on
 abbrev pub numbers_from : ℕ → ℕ → List ℕ
@@ -47,3 +48,7 @@ pub record HasDirect (e : Emission) (image : Contents) (k : ℕ) (code : Functio
   pub range : FunctionRange
   pub there : slice_get image.functions k ≡ Some range
   pub direct : Direct image.words range.first range.last (own_words code frame lists) (place_words e code frame) (given_words e code)
+
+-- so it is of each function
+abbrev pub AreDirect : Emission → Contents → Type 0
+AreDirect e image = (k : ℕ) (code : FunctionCode) (g : FunctionItems) (frame : FramePlan) (lists : List (List ℕ)) → IsFunctionOf e k code g frame lists → HasDirect e image k code frame lists

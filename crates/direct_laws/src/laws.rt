@@ -1,23 +1,39 @@
-//! The law of direct operands. The call does nothing: its clause is what crates above cite.
-ghost use Rattle.std.specs.Prelude.{◌≤◌, ℕ, List};
-ghost use Rattle.tree_code.specs.WordTree.{FunctionCode};
-ghost use Rattle.acc_code.specs.AccTree.{FunctionItems};
-ghost use Rattle.mem_plan.specs.declared.data_plan.FramePlan.{FramePlan};
+//! Laws of direct operands. The calls do nothing: their clauses are what crates above cite.
+ghost use Rattle.std.specs.Prelude.{◌≤◌, ◌<◌, ℕ, List};
+ghost use Rattle.c_tree.specs.TypedTree.{ProgramTree};
+ghost use Rattle.c_tree.specs.WellFormedProgram.{IsProgram};
+ghost use Rattle.tree_code.specs.Lowered.{lowered_program};
+ghost use Rattle.tree_code.specs.TypedOfWords.{HasWords};
+ghost use Rattle.acc_select.specs.IsSelected.{IsEmittable};
+ghost use Rattle.acc_select.specs.Selected.{selected};
+ghost use Rattle.mem_plan.specs.declared.data_plan.DataPlan.{DataPlan};
+ghost use Rattle.mem_plan.specs.Plan.{AreArranged, IsPlan};
 ghost use Rattle.c25_isa.specs.Image.{Contents};
 ghost use Rattle.c25_isa.specs.Pieces.{Linked, PiecesFit};
 ghost use Rattle.c25_code.specs.Links.{pieces_size};
 ghost use Rattle.site_laws.specs.Emissions.{Emission, IsEmission};
+ghost use Rattle.image_laws.specs.Agreeing.{emission_of};
 ghost use Rattle.image_laws.specs.Keeping.{all_pieces};
-ghost use Rattle.image_walks.specs.FunctionWalks.{IsFunctionOf};
-ghost use Rattle.direct_laws.specs.Directs.{HasDirect};
+ghost use Rattle.direct_laws.specs.Directs.{AreDirect};
 
 /// In an image that is linked from the pieces of accumulator code, and from the routines that they call, the direct operands of each function name
 /// no word of its frame: they name words of static objects, of its own objects and of its return address, scratch words behind a store to them, and,
 /// in stores, parameters of functions that it calls.
 pub fn images_are_direct()
-    ensures direct { (e : Emission) (image : Contents) (k : ℕ) (code : FunctionCode) (g : FunctionItems) (frame : FramePlan) (lists : List (List ℕ)) → IsEmission e → Linked (all_pieces e) image → PiecesFit (all_pieces e) → pieces_size (all_pieces e) ≤ 65536 → IsFunctionOf e k code g frame lists
-        → HasDirect e image k code frame lists }
+    ensures direct { (e : Emission) (image : Contents) → IsEmission e → Linked (all_pieces e) image → PiecesFit (all_pieces e) → pieces_size (all_pieces e) ≤ 65536
+        → AreDirect e image }
 {
     piece_walks::pieces_walk();
     piece_walks::runs_are_direct();
+}
+
+/// So it is of a typed program of words.
+pub fn programs_are_direct()
+    ensures direct { (t : ProgramTree) (plan : DataPlan) (arrangements : List (List (List ℕ))) (step : ℕ) (image : Contents) → IsProgram t → HasWords t → AreArranged (lowered_program t).functions arrangements → IsPlan (lowered_program t) arrangements plan
+        → IsEmittable (lowered_program t) (selected (lowered_program t)) → step < 256 → Linked (all_pieces (emission_of t plan arrangements step)) image → PiecesFit (all_pieces (emission_of t plan arrangements step)) → pieces_size (all_pieces (emission_of t plan arrangements step)) ≤ 65536
+        → AreDirect (emission_of t plan arrangements step) image }
+{
+    images_are_direct();
+    run_laws::translation_keeps_runs();
+    select_laws::typed_programs_keep();
 }

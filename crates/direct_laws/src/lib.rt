@@ -3,4 +3,4 @@
 
 mod laws;
 
-pub use laws::images_are_direct;
+pub use laws::{images_are_direct, programs_are_direct};

@@ -43,7 +43,7 @@ returns c =
           (c.runs_are_direct.ensures.bodies (words own places given) m g.scalars (object_cells e.code code) (called_parameters e.code code) (uses_helper code.body) g.body (scratch_apart e is k code g lists start f) emittable (items_named e is k code g lists start f));
     } in
     record {
-      direct = λ e image k code g frame lists is linked fit size f.
+      direct = λ e image is linked fit size k code g frame lists f.
           let at : FrameAt e k = frame_at e is k (slice_get_within e.code.functions k code f.code_at) in
           let same_code : at.code ≡ code = same_Some at.code code (sym at.there ∙ f.code_at) in
           let same_lists : at.lists ≡ lists = same_Some at.lists lists (sym at.arranged ∙ f.lists_at) in

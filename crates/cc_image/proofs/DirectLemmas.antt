@@ -1,0 +1,45 @@
+-- The direct operands of each function, by the law of them for the layouts of the program.
+use Rattle.std.proofs.Common.{◌≡◌, ◌<◌, ◌≤◌, ℕ, List, subst, arith}
+use Rattle.std.proofs.Math.Logic.{∥∥₁_map}
+use Rattle.c_tree.specs.TypedTree.{ProgramTree}
+use Rattle.c_tree.specs.WellFormedProgram.{IsProgram}
+use Rattle.tree_code.specs.Lowered.{lowered_program}
+use Rattle.tree_code.specs.TypedOfWords.{HasWords}
+use Rattle.tree_code.specs.WordTree.{ProgramCode}
+use Rattle.acc_code.specs.AccTree.{FunctionItems}
+use Rattle.acc_select.specs.IsSelected.{IsEmittable}
+use Rattle.acc_select.specs.Selected.{selected}
+use Rattle.mem_plan.specs.declared.data_plan.DataPlan.{DataPlan}
+use Rattle.mem_plan.specs.Plan.{AreArranged, IsPlan}
+use Rattle.c25_isa.specs.Image.{Contents}
+use Rattle.c25_isa.specs.Pieces.{Linked, PiecesFit}
+use Rattle.c25_code.specs.Links.{pieces_size}
+use Rattle.image_laws.specs.Agreeing.{emission_of}
+use Rattle.image_laws.specs.Keeping.{all_pieces as emission_pieces}
+use Rattle.direct_laws.specs.Directs.{AreDirect}
+use Rattle.cc_frames.specs.declared.options.Options.{Options}
+use Rattle.cc_frames.specs.Frames.{AreOptions}
+use Rattle.cc_image.specs.Images.{HasImage, IsDirect, all_pieces, layouts}
+use Rattle.cc_image.proofs.AgreementLemmas.{size_same}
+use Rattle.cc_image.proofs.OneImage.{one_plan}
+
+-- the law of direct operands for the layouts of a program
+abbrev ForDirect : Type 0
+ForDirect = (t : ProgramTree) (plan : DataPlan) (arrangements : List (List (List ℕ))) (step : ℕ) (image : Contents) → IsProgram t → HasWords t → AreArranged (lowered_program t).functions arrangements → IsPlan (lowered_program t) arrangements plan
+    → IsEmittable (lowered_program t) (selected (lowered_program t)) → step < 256 → Linked (emission_pieces (emission_of t plan arrangements step)) image → PiecesFit (emission_pieces (emission_of t plan arrangements step)) → pieces_size (emission_pieces (emission_of t plan arrangements step)) ≤ 65536
+    → AreDirect (emission_of t plan arrangements step) image
+
+direct_by : ForDirect → (o : Options) (t : ProgramTree) → AreOptions o → IsProgram t → HasWords t → AreArranged (lowered_program t).functions (layouts o (lowered_program t)) → IsEmittable (lowered_program t) (selected (lowered_program t))
+    → (image : Contents) (h : HasImage o t image) → AreDirect (emission_of t h.plan (layouts o (lowered_program t)) o.step) image
+direct_by law o t options is words arranged emittable image h =
+    let few = options.to_eight in
+    let size = h.fits in
+    law t h.plan (layouts o (lowered_program t)) o.step image is words arranged h.planned emittable (omega (arith, few)) h.linked h.ranges (omega (arith, size, size_same (all_pieces o (lowered_program t) h.plan)))
+
+pub image_direct : ForDirect → (o : Options) (t : ProgramTree) (p : ProgramCode) (gs : List FunctionItems) → AreOptions o → p ≡ lowered_program t → ∥ IsProgram t ∥₁ → HasWords t → AreArranged p.functions (layouts o p) → IsEmittable p gs → gs ≡ selected p
+    → (image : Contents) → HasImage o t image → ∥ IsDirect o t image ∥₁
+image_direct law o t p gs options same known words arranged emittable chosen image h =
+    ∥∥₁_map known
+    (λ is plan planned.
+    subst (λ x. AreDirect (emission_of t x (layouts o (lowered_program t)) o.step) image) (one_plan o t h.plan plan h.planned planned)
+    (direct_by law o t options is words (subst (λ p. AreArranged p.functions (layouts o p)) same arranged) (subst (λ p. IsEmittable p (selected p)) same (subst (IsEmittable p) chosen emittable)) image h))
