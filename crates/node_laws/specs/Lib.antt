@@ -1,0 +1,1 @@
+-- What the law of nodes says.

@@ -1,0 +1,5 @@
+pub mod Rows
+pub mod Parts
+pub mod Lists
+pub mod Pieces
+mod Examples

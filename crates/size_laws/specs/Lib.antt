@@ -1,0 +1,2 @@
+-- What laws of the words of code say.
+pub mod Sizes
