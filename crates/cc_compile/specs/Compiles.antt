@@ -1,7 +1,8 @@
 -- What a source is compiled to.
-use Rattle.std.specs.Prelude.{ℕ, List}
+use Rattle.std.specs.Prelude.{◌≤◌, ℕ, ◌+◌, ◌*◌, List, length}
 use Rattle.c_syntax.specs.declared.token.Token.{Token}
 use Rattle.c_syntax.specs.Lexes.{Lexes}
+use Rattle.c_syntax.specs.Counts.{unit_count}
 use Rattle.c_syntax.specs.SyntaxTree.{UnitTree}
 use Rattle.c_syntax.specs.Source.{IsSource}
 use Rattle.c_tree.specs.SourceRun.{source_run}
@@ -11,7 +12,7 @@ use Rattle.c25_isa.specs.Agrees.{Agrees}
 use Rattle.c25_isa.specs.Image.{Contents}
 use Rattle.lay_cert.specs.Frames.{Frame}
 use Rattle.cc_frames.specs.declared.options.Options.{Options}
-use Rattle.cc_image.specs.Images.{AccessAs, AreWalked, EndsWithin, HasFrames, HasImage, KeepsRuns}
+use Rattle.cc_image.specs.Images.{AccessAs, AreWalked, EndsWithin, HasFrames, HasImage, IsDirect, KeepsRuns}
 
 -- the bytes have a tree, this a typed program, and that has the image, which is linked from its pieces and the routines, and the frames, which are
 -- laid out as is chosen. The words do what the program does
@@ -23,6 +24,8 @@ pub record IsBuilt (o : Options) (bytes : List ℕ) (image : Contents) (frames :
   pub is_source : IsSource tokens source
   pub typed : IsTyped source program
   pub has : HasImage o program image
+  -- of few words for its expressions, statements and declared items
+  pub short : length image.words ≤ 1000 + 64 * unit_count source
   pub framed : HasFrames o program frames
   -- each frame is laid out for the accesses of its function in the source
   pub accesses : AccessAs o.step program frames
@@ -33,3 +36,5 @@ pub record IsBuilt (o : Options) (bytes : List ℕ) (image : Contents) (frames :
   pub in_time : ∥ EndsWithin o program image ∥₁
   -- the words of each function access what its frame says, with so many address instructions as that costs
   pub walked : ∥ AreWalked image frames ∥₁
+  -- no other operand reaches its frame: the direct ones name other words
+  pub direct : ∥ IsDirect o program image ∥₁

@@ -2,8 +2,10 @@
 #![tactic(auto)]
 
 mod front;
+mod laws;
 mod phases;
 
 pub use cc_fault::BuildFault;
 pub use front::typed_program;
+pub use laws::full_code_is_large;
 pub use phases::{Built, compile};

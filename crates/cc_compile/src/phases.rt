@@ -63,6 +63,8 @@ pub fn compile<R: Threads + Sync, G: Gate + Sync>(
     // A refusal has its cause, unless memory is wanting.
     ensures refused { IfErr result (λ why. why ≢ faults.NoMemory → HasFault options source.now why) }
 {
+    cc_image::code_is_bounded();
+    node_laws::programs_weigh_by_nodes();
     let program = typed_program(alloc, source)?;
     let translated = translate(rt, alloc, gate, options, &program)?;
     Ok(with_rows(alloc, translated)?)

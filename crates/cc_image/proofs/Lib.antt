@@ -8,3 +8,4 @@ mod LinkLemmas
 mod TranslationLemmas
 mod AgreementLemmas
 mod WalkLemmas
+mod DirectLemmas

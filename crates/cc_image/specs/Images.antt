@@ -16,7 +16,8 @@ use Rattle.access_laws.specs.SourceSequences.{source_sequence}
 use Rattle.code_runs.specs.Keeps.{acc_run}
 use Rattle.lower_laws.specs.Lowering.{KeepsSource}
 use Rattle.run_laws.specs.PlanPlaces.{places_of}
-use Rattle.image_laws.specs.Agreeing.{EndsInTime}
+use Rattle.image_laws.specs.Agreeing.{EndsInTime, emission_of}
+use Rattle.direct_laws.specs.Directs.{AreDirect}
 use Rattle.image_walks.specs.FunctionWalks.{place_of}
 use Rattle.lay_cert.specs.Frames.{Frame}
 use Rattle.cc_frames.specs.declared.options.Options.{Options}
@@ -88,6 +89,10 @@ pub record IsWalked (image : Contents) (k : ℕ) (f : Frame) : Type 0 where
 
 abbrev pub AreWalked : Contents → List Frame → Type 0
 AreWalked image frames = (k : ℕ) (f : Frame) → slice_get frames k ≡ Some f → IsWalked image k f
+
+-- the direct operands of each function name no word of its frame
+abbrev pub IsDirect : Options → ProgramTree → Contents → Type 0
+IsDirect o t image = (plan : DataPlan) → IsPlanOf o t plan → AreDirect (emission_of t plan (layouts o (lowered_program t)) o.step) image
 
 -- its data need so many words, which are too many
 abbrev pub HasTooMuchData : ProgramTree → ℕ → Type 0

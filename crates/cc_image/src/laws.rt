@@ -1,7 +1,9 @@
-//! The law of images.
-ghost use Rattle.std.specs.Prelude.{◌≡◌, ℕ, List};
+//! The laws of images.
+ghost use Rattle.std.specs.Prelude.{◌≡◌, ◌≤◌, ℕ, ◌+◌, List, length};
 ghost use Rattle.c_tree.specs.TypedTree.{ProgramTree};
+ghost use Rattle.c_tree.specs.WellFormedProgram.{IsProgram};
 ghost use Rattle.c25_isa.specs.Image.{Contents};
+ghost use Rattle.code_runs.specs.SourceWeights.{source_weight};
 ghost use Rattle.cc_frames.specs.declared.options.Options.{Options};
 ghost use Rattle.lay_cert.specs.Frames.{Frame};
 ghost use Rattle.cc_image.specs.Images.{HasFrames, HasImage, HasTooMuchData, HasTooMuchCode};
@@ -17,3 +19,13 @@ pub fn one_image()
     ensures one_code { (o : Options) (t : ProgramTree) (n m : ℕ) → HasTooMuchCode o t n → HasTooMuchCode o t m → n ≡ m }
     ensures apart { (o : Options) (t : ProgramTree) (n m : ℕ) → HasTooMuchData t n → ¬ HasTooMuchCode o t m }
 {}
+
+/// The image of a well-formed program has at most 1,000 words and one for each unit of the program's weight, and code that finds no room needs no more
+/// either. It does nothing:
+/// its clauses are what callers cite.
+pub fn code_is_bounded()
+    ensures image { (o : Options) (t : ProgramTree) (a : Contents) → ∥ IsProgram t ∥₁ → HasImage o t a → length a.words ≤ 1000 + source_weight t }
+    ensures full { (o : Options) (t : ProgramTree) (n : ℕ) → ∥ IsProgram t ∥₁ → HasTooMuchCode o t n → n ≤ 1000 + source_weight t }
+{
+    size_laws::code_fits_its_weight();
+}

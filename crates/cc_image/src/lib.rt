@@ -8,6 +8,6 @@ mod phases;
 pub use c25_link::LinkFault;
 pub use cc_frames::Options;
 pub use fault::TranslationFault;
-pub use laws::one_image;
+pub use laws::{code_is_bounded, one_image};
 pub use mem_plan::PlanFault;
 pub use phases::{Translated, translate};

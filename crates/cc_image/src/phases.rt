@@ -12,7 +12,7 @@ ghost use Rattle.c_tree.specs.SourceRun.{source_run};
 ghost use Rattle.c_tree.specs.TypedTree.{ProgramTree};
 ghost use Rattle.cc_frames.specs.Frames.{AreOptions, AreLayouts, ClaimsHold, accesses_of, frames_of};
 ghost use Rattle.cc_image.specs.Faults.{Says, SaysOfPieces, SaysOfTree};
-ghost use Rattle.cc_image.specs.Images.{AccessAs, AreWalked, EndsWithin, HasFrames, HasImage, KeepsRuns, all_pieces, layouts as laid_out, with_helpers as with_called};
+ghost use Rattle.cc_image.specs.Images.{AccessAs, AreWalked, EndsWithin, HasFrames, HasImage, IsDirect, KeepsRuns, all_pieces, layouts as laid_out, with_helpers as with_called};
 ghost use Rattle.lay_cert.specs.Frames.{Frame};
 ghost use Rattle.mem_plan.specs.Plan.{AreArranged, IsPlan};
 ghost use Rattle.tree_code.specs.Lowered.{lowered_program};
@@ -238,6 +238,8 @@ pub fn translate<R: Threads + Sync, G: Gate + Sync>(
     ensures in_time { IfOk result (λ made. ∥ EndsWithin options (program_of program.now) made.image ∥₁) }
     // The words of each function access what its frame says, with so many address instructions.
     ensures walked { IfOk result (λ made. ∥ AreWalked made.image made.certificate ∥₁) }
+    // No other operand reaches its frame: the direct ones name other words.
+    ensures direct { IfOk result (λ made. ∥ IsDirect options (program_of program.now) made.image ∥₁) }
     // Each frame is laid out for the accesses of its function in the source.
     ensures accesses { IfOk result (λ made. AccessAs options.step (program_of program.now) made.certificate) }
     // A frame costs what it says, and where it is claimed to be optimal no layout costs less.
@@ -248,6 +250,7 @@ pub fn translate<R: Threads + Sync, G: Gate + Sync>(
     run_laws::translation_keeps_runs();
     image_laws::images_agree();
     image_walks::programs_walk();
+    direct_laws::programs_are_direct();
     let chosen = choose(alloc, program)?;
     finished(rt, alloc, gate, options, &chosen)
 }

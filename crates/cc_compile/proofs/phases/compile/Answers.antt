@@ -1,4 +1,4 @@
-use Rattle.std.proofs.Common.{◌≡◌, ◌≢◌, List, refl, sym, subst}
+use Rattle.std.proofs.Common.{◌≡◌, ◌≢◌, List, arith, refl, sym, subst}
 use Rattle.std.specs.Prelude.{All}
 use Rattle.c_tree.specs.ProgramView.{program_of}
 use Rattle.c_tree.specs.SourceRun.{source_run}
@@ -6,7 +6,7 @@ use Rattle.c25_isa.specs.Agrees.{Agrees}
 use Rattle.c25_isa.specs.Image.{Contents}
 use Rattle.lay_cert.specs.Frames.{Frame}
 use Rattle.cc_frames.specs.Frames.{ClaimsHold}
-use Rattle.cc_image.specs.Images.{AccessAs, AreWalked, EndsWithin, HasFrames, HasImage}
+use Rattle.cc_image.specs.Images.{AccessAs, AreWalked, EndsWithin, HasFrames, HasImage, IsDirect}
 use Rattle.cc_fault.specs.PartFaults.{of_translation_fault}
 use Rattle.cc_fault.specs.SourceFaults.{HasFault}
 use Rattle.cc_fault.specs.declared.fault.BuildFault.{BuildFault}
@@ -40,12 +40,17 @@ returns-clause-built g c =
       is_source = has.3;
       typed = has.4;
       has = image;
+      short =
+          let bound = c.code_is_bounded.ensures.image c.args.options program _ c.in_ok-program.program.well_formed image in
+          let few = c.programs_weigh_by_nodes.ensures has.1 program has.4 in
+          omega (arith, bound, few);
       framed = subst (λ (fs : List Frame). HasFrames c.args.options program fs) (sym c.in_ok-with_rows.ensures.certificate) c.in_ok-translated.ensures.frames;
       accesses = subst (λ (fs : List Frame). AccessAs c.args.options.step program fs) (sym c.in_ok-with_rows.ensures.certificate) c.in_ok-translated.ensures.accesses;
       keeps = c.in_ok-translated.ensures.keeps;
       agrees = subst (λ (i : Contents). ∥ Agrees (source_run program) i.words ∥₁) (sym c.in_ok-with_rows.ensures.image) c.in_ok-translated.ensures.agrees;
       in_time = subst (λ (i : Contents). ∥ EndsWithin c.args.options program i ∥₁) (sym c.in_ok-with_rows.ensures.image) c.in_ok-translated.ensures.in_time;
       walked = walked_too _ _ _ _ c.in_ok-with_rows.ensures.image c.in_ok-with_rows.ensures.certificate c.in_ok-translated.ensures.walked;
+      direct = subst (λ (i : Contents). ∥ IsDirect c.args.options program i ∥₁) (sym c.in_ok-with_rows.ensures.image) c.in_ok-translated.ensures.direct;
     }
 
 pub returns-clause-claims : goal.returns-clause-claims

@@ -11,6 +11,7 @@ use Rattle.tree_code.specs.WordTree.{ProgramCode}
 use Rattle.cc_frames.specs.Frames.{accesses_of}
 use Rattle.c_tree.specs.ProgramView.{program_of}
 use Rattle.cc_image.proofs.AgreementLemmas.{image_agrees, image_in_time, ok_of_both, ok_of_four}
+use Rattle.cc_image.proofs.DirectLemmas.{image_direct}
 use Rattle.cc_image.proofs.WalkLemmas.{frames_walked}
 use Rattle.cc_image.proofs.TranslationLemmas.{ok_then, runs_kept}
 use Rattle.cc_image.proofs.phases.translate.Goals as goal
@@ -58,3 +59,10 @@ returns-clause-walked g c =
     let p = tree_of c.in_ok-chosen.chosen.tree in
     ok_of_four c.finished.result (c.finished.ensures.image t c.in_ok-chosen.ensures.tree) (c.finished.ensures.frames t c.in_ok-chosen.ensures.tree) c.finished.ensures.arranged c.finished.ensures.claims
     (λ made has framed arranged claims. frames_walked c.programs_walk.ensures.walks c.args.options t p (functions_of c.in_ok-chosen.chosen.code) c.requires c.in_ok-chosen.ensures.tree c.args.program.now.well_formed c.in_ok-chosen.ensures.words arranged c.in_ok-chosen.ensures.emittable c.in_ok-chosen.ensures.code made.image made.certificate has framed claims)
+
+pub returns-clause-direct : goal.returns-clause-direct
+returns-clause-direct g c =
+    let t = program_of c.args.program.now in
+    let p = tree_of c.in_ok-chosen.chosen.tree in
+    ok_of_both c.finished.result (c.finished.ensures.image t c.in_ok-chosen.ensures.tree) c.finished.ensures.arranged
+    (λ made has arranged. image_direct c.programs_are_direct.ensures.direct c.args.options t p (functions_of c.in_ok-chosen.chosen.code) c.requires c.in_ok-chosen.ensures.tree c.args.program.now.well_formed c.in_ok-chosen.ensures.words arranged c.in_ok-chosen.ensures.emittable c.in_ok-chosen.ensures.code made.image has)
