@@ -1,14 +1,25 @@
 -- The image agrees with the program, and is through in time by its own plan.
 use mathlib.Core.Logic.{∥∥₁_map₂}
+use Rattle.std.proofs.Common.{◌≡◌, ℕ, List, ap}
+use Rattle.std.proofs.Math.Logic.{∥∥₁_map}
+use Rattle.word_base.specs.Ports.{input_of}
 use Rattle.tree_code.specs.Lowered.{lowered_program}
+use Rattle.c25_sim.specs.Taken.{of_sixteen}
+use Rattle.exec_laws.specs.Telling.{TellsOf}
 use Rattle.cc_image.specs.Images.{all_pieces}
+use Rattle.cc_text.specs.Answers.{Answered}
 use Rattle.cc_driver.specs.Build.{plain_options}
+use Rattle.cc_driver.specs.Exec.{ExecutesTo}
+use Rattle.cc_driver.proofs.TellingLemmas.{status_tells}
 use Rattle.cc_driver.proofs.laws.executions_tell.Goals as goal
 
-pub returns : goal.returns
-returns c = record {
-  tell = λ source ports steps answer h.
-      let built = h.built in
-      let has = built.has in
-      ∥∥₁_map₂ built.agrees built.in_time (λ agrees in_time. c.runs_tell.ensures.tell built.program has.plan (all_pieces plain_options (lowered_program built.program) has.plan) h.image ports h.lines steps h.runs.outs h.runs.stands agrees (in_time has.plan has.planned) has.linked has.ranges h.ports h.runs.runs);
-}
+pub returns-clause-tell : goal.returns-clause-tell
+returns-clause-tell c = λ source ports steps answer h.
+    let built = h.built in
+    let has = built.has in
+    ∥∥₁_map₂ built.agrees built.in_time (λ agrees in_time. c.runs_tell.ensures.tell built.program has.plan (all_pieces plain_options (lowered_program built.program) has.plan) h.image ports h.lines steps h.runs.outs h.runs.stands agrees (in_time has.plan has.planned) has.linked has.ranges h.ports h.runs.runs)
+
+pub returns-clause-statuses : goal.returns-clause-statuses
+returns-clause-statuses c = λ source ports steps answer h.
+    ∥∥₁_map (returns-clause-tell c source ports steps answer h)
+    (λ tells. status_tells h.built.program h.built.has.plan (of_sixteen (input_of h.lines)) steps h.runs.outs h.runs.stands answer.status (ap (λ (a : Answered). a.status) h.runs.is) tells)

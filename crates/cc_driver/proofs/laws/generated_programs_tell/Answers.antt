@@ -1,0 +1,25 @@
+-- The same of a run on no input.
+use mathlib.Core.Logic.{∥∥₁_map₂}
+use Rattle.std.proofs.Common.{◌≡◌, ◌∙◌, ℕ, [], length, refl, ap}
+use Rattle.std.proofs.Math.Logic.{∥∥₁_map}
+use Rattle.word_base.specs.Ports.{input_of}
+use Rattle.tree_code.specs.Lowered.{lowered_program}
+use Rattle.c25_sim.specs.Taken.{of_sixteen}
+use Rattle.cc_image.specs.Images.{all_pieces}
+use Rattle.cc_text.specs.Answers.{Answered}
+use Rattle.cc_driver.specs.Build.{plain_options}
+use Rattle.cc_driver.specs.Gen.{gen_steps}
+use Rattle.cc_driver.proofs.TellingLemmas.{status_tells, summary_status}
+use Rattle.cc_driver.proofs.laws.generated_programs_tell.Goals as goal
+
+pub returns-clause-tell : goal.returns-clause-tell
+returns-clause-tell c = λ number answer h.
+    let built = h.built in
+    let has = built.has in
+    ∥∥₁_map₂ built.agrees built.in_time (λ agrees in_time. c.runs_tell.ensures.tell built.program has.plan (all_pieces plain_options (lowered_program built.program) has.plan) h.image [] [] gen_steps h.summarizes.outs h.summarizes.stands agrees (in_time has.plan has.planned) has.linked has.ranges refl h.summarizes.runs)
+
+pub returns-clause-statuses : goal.returns-clause-statuses
+returns-clause-statuses c = λ number answer h.
+    let s = h.summarizes in
+    ∥∥₁_map (returns-clause-tell c number answer h)
+    (λ tells. status_tells h.built.program h.built.has.plan (of_sixteen (input_of [])) gen_steps s.outs s.stands answer.status (ap (λ (a : Answered). a.status) s.is ∙ summary_status number (length h.image.functions) gen_steps s.outs s.stands) tells)
