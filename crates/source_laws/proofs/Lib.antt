@@ -1,0 +1,21 @@
+pub mod Coming
+pub mod Storing
+pub mod Operating
+pub mod Evaluating
+pub mod Naming
+pub mod Opening
+pub mod Closing
+pub mod Listing
+pub mod Staying
+pub mod Executing
+pub mod Calling
+pub mod Whole
+pub mod WholeStatements
+pub mod Depths
+pub mod Starting
+pub mod Telling
+mod Examples
+pub mod OperatorWords
+pub mod Wordly
+pub mod WordlyStatements
+pub mod TellingWords
