@@ -8,7 +8,8 @@
 script=refusals
 . "$(dirname "${BASH_SOURCE[0]}")/common.sh"
 
-# A library that stands before the C library's and refuses one call, by its number from 1 on. It counts from the start of the program on.
+# A library that stands before the C library's and refuses one call for memory, by its number from 1 on. Where the program ends it tells how many
+# there were.
 cat > refuse.c <<'END'
 #define _GNU_SOURCE
 #include <dlfcn.h>
@@ -16,49 +17,50 @@ cat > refuse.c <<'END'
 #include <stdatomic.h>
 #include <stdio.h>
 #include <stdlib.h>
+#include <sys/syscall.h>
+#include <unistd.h>
 
 static atomic_long calls;
 static long refused;
+static void *(*real_malloc)(size_t);
+static void *(*real_realloc)(void *, size_t);
+static int begun;
 
 __attribute__((constructor)) static void begin(void) {
     const char *number = getenv("REFUSE");
     refused = number ? atol(number) : 0;
-    atomic_store(&calls, 0);
+    real_malloc = dlsym(RTLD_NEXT, "malloc");
+    real_realloc = dlsym(RTLD_NEXT, "realloc");
+    begun = 1;
 }
 
-__attribute__((destructor)) static void end(void) {
-    const char *name = getenv("COUNTED");
-    FILE *file = name ? fopen(name, "w") : NULL;
-    if (file) { fprintf(file, "%ld\n", atomic_load(&calls)); fclose(file); }
+static int is_refused(void) {
+    if (!begun || atomic_fetch_add(&calls, 1) + 1 != refused) return 0;
+    errno = ENOMEM;
+    return 1;
 }
-
-static int is_refused(void) { return atomic_fetch_add(&calls, 1) + 1 == refused; }
 
 void *malloc(size_t size) {
-    static void *(*real)(size_t);
-    if (!real) real = dlsym(RTLD_NEXT, "malloc");
-    if (is_refused()) { errno = ENOMEM; return NULL; }
-    return real(size);
+    if (!real_malloc) real_malloc = dlsym(RTLD_NEXT, "malloc");
+    return is_refused() ? NULL : real_malloc(size);
 }
 
 void *realloc(void *at, size_t size) {
-    static void *(*real)(void *, size_t);
-    if (!real) real = dlsym(RTLD_NEXT, "realloc");
-    if (is_refused()) { errno = ENOMEM; return NULL; }
-    return real(at, size);
+    if (!real_realloc) real_realloc = dlsym(RTLD_NEXT, "realloc");
+    return is_refused() ? NULL : real_realloc(at, size);
 }
 
-int posix_memalign(void **at, size_t alignment, size_t size) {
-    static int (*real)(void **, size_t, size_t);
-    if (!real) real = dlsym(RTLD_NEXT, "posix_memalign");
-    return is_refused() ? ENOMEM : real(at, alignment, size);
-}
-
-void *aligned_alloc(size_t alignment, size_t size) {
-    static void *(*real)(size_t, size_t);
-    if (!real) real = dlsym(RTLD_NEXT, "aligned_alloc");
-    if (is_refused()) { errno = ENOMEM; return NULL; }
-    return real(alignment, size);
+void _exit(int status) {
+    const char *name = getenv("COUNTED");
+    long counted = atomic_load(&calls);
+    begun = 0;
+    FILE *file = name ? fopen(name, "w") : NULL;
+    if (file) {
+        fprintf(file, "%ld\n", counted);
+        fclose(file);
+    }
+    syscall(SYS_exit_group, status);
+    __builtin_unreachable();
 }
 END
 gcc -O1 -shared -fPIC -o refuse.so refuse.c -ldl || exit 1

@@ -1,0 +1,90 @@
+#!/usr/bin/env bash
+# How well the pieces of searches share four processors.
+#
+#     bench/threads.sh [PROGRAM]
+#
+# Sources whose function accesses many scalars are built with a budget of 1,000,000 nodes, all of which their searches use. Told are the seconds on one
+# processor and on four, and what four would take that nothing else uses, by the processor time of each thread: what the command does besides, and of each
+# round of four pieces the one that takes longest. On a machine that shares its processors with others the seconds say little.
+set -eu
+program=${1:-$(cd "$(dirname "${BASH_SOURCE[0]}")/.." && pwd)/c25cc}
+room=$(mktemp -d)
+trap 'rm -rf "$room"' EXIT
+cd "$room"
+
+# A library that tells the processor time of each thread where that ends, in the order in which they begin. The first is the command's own.
+cat > threads.c <<'END'
+#define _GNU_SOURCE
+#include <dlfcn.h>
+#include <pthread.h>
+#include <stdio.h>
+#include <stdlib.h>
+#include <time.h>
+
+struct call { void *(*body)(void *); void *argument; int number; };
+
+static int begun;
+
+static void *timed(void *given) {
+    struct call call = *(struct call *)given;
+    struct timespec took;
+    void *result;
+    free(given);
+    result = call.body(call.argument);
+    clock_gettime(CLOCK_THREAD_CPUTIME_ID, &took);
+    fprintf(stderr, "%d %ld.%06ld\n", call.number, (long)took.tv_sec, took.tv_nsec / 1000);
+    return result;
+}
+
+int pthread_create(pthread_t *thread, const pthread_attr_t *how, void *(*body)(void *), void *argument) {
+    static int (*real)(pthread_t *, const pthread_attr_t *, void *(*)(void *), void *);
+    struct call *call = malloc(sizeof *call);
+    if (!real) real = (int (*)(pthread_t *, const pthread_attr_t *, void *(*)(void *), void *))dlsym(RTLD_NEXT, "pthread_create");
+    call->body = body;
+    call->argument = argument;
+    call->number = __sync_add_and_fetch(&begun, 1);
+    return real(thread, how, timed, call);
+}
+END
+gcc -O1 -shared -fPIC -o threads.so threads.c -ldl
+
+# source SCALARS STATEMENTS: a function of so many scalars, of which random ones are added to one another, from a fixed seed.
+source_of() {
+    awk -v scalars="$1" -v statements="$2" 'BEGIN {
+        seed = 12345
+        printf "int main(void){"
+        for (s = 0; s < scalars; s++) printf "int s%d = 0;", s
+        for (i = 0; i < statements; i++) {
+            seed = seed * 16807 % 2147483647; a = int(seed / 65536) % scalars
+            seed = seed * 16807 % 2147483647; b = int(seed / 65536) % scalars
+            printf "s%d += s%d;", a, b
+            if (i % 25 == 24) printf "__out(1, s%d);", a
+        }
+        printf "return 0;}\n"
+    }'
+}
+
+seconds() {
+    local started
+    started=$(date +%s%N)
+    "$@" > answer
+    echo "$started $(date +%s%N)" | awk '{ printf "%.3f", ($2 - $1) / 1000000000 }'
+}
+
+# times BUDGET: the processor time of each thread of a build, in the order in which they begin.
+times() { LD_PRELOAD=$room/threads.so "$program" build a.c a.img -r "$registers" --budget "$1" 2>&1 > answer | sort -n | awk '{ print $2 }'; }
+
+for scalars in 16 24 32; do
+    for registers in 2 3 4; do
+        source_of "$scalars" 200 > a.c
+        one=$(seconds taskset -c 0 "$program" build a.c a.img -r "$registers" --budget 1000000)
+        four=$(seconds "$program" build a.c a.img -r "$registers" --budget 1000000)
+        besides=$(times 1 | head -n 1)
+        times 1000000 | awk -v besides="$besides" -v rounds=$((scalars / 4)) -v one="$one" -v four="$four" -v what="$scalars scalars, $registers registers" '
+            { all += $1 }
+            NR == 1 { own = ($1 - besides) / rounds; chain = besides }
+            NR > 1 { longest = $1 > longest ? $1 : longest }
+            NR > 1 && NR % 3 == 1 { chain += longest > own ? longest : own; longest = 0 }
+            END { printf "%s: %s s on one, %s s on four; by processor time %.3f of %.3f s, %.1f times\n", what, one, four, chain, all, all / chain }'
+    done
+done

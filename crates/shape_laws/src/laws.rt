@@ -1,0 +1,35 @@
+//! The laws of whole programs. The calls do nothing: their clauses are what crates above cite.
+ghost use Rattle.std.specs.Prelude.{All, List};
+ghost use Rattle.c_syntax.specs.declared.token.Token.{Token};
+ghost use Rattle.c_syntax.specs.Derives.{DerivesUnit};
+ghost use Rattle.c_syntax.specs.SyntaxTree.{UnitTree};
+ghost use Rattle.c_tree.specs.TypedTree.{ProgramTree};
+ghost use Rattle.c_tree.specs.WellFormedProgram.{IsProgram};
+ghost use Rattle.c_rules.specs.Checked.{IsTyped};
+ghost use Rattle.shape_laws.specs.Declarations.{DeclaredOnce, DeclaredInOrder};
+ghost use Rattle.shape_laws.specs.Fills.{FilledOnce, FilledWhereDeclared, FilledBeforeUse, FilledAsListed, FilledIfListed};
+ghost use Rattle.shape_laws.specs.Uses.{UsedWhereDeclared};
+ghost use Rattle.shape_laws.specs.Values.{UnitHasValues};
+
+/// In the typed program of a source each object of a function is declared in one place. It is filled with its list in at most one, by a statement of
+/// the block that declares it, in front of which no other one of that block names it. An object with a list is filled; where the source has no empty
+/// braces, one without a list isn't.
+pub fn typed_programs_are_whole()
+    ensures declared { (unit : UnitTree) (program : ProgramTree) → IsTyped unit program → All DeclaredOnce program.functions }
+    ensures ordered { (unit : UnitTree) (program : ProgramTree) → IsTyped unit program → All DeclaredInOrder program.functions }
+    ensures filled { (unit : UnitTree) (program : ProgramTree) → IsTyped unit program → All FilledOnce program.functions }
+    ensures placed { (unit : UnitTree) (program : ProgramTree) → IsTyped unit program → All FilledWhereDeclared program.functions }
+    ensures before_use { (unit : UnitTree) (program : ProgramTree) → IsTyped unit program → All FilledBeforeUse program.functions }
+    ensures listed { (unit : UnitTree) (program : ProgramTree) → IsTyped unit program → All FilledIfListed program.functions }
+    ensures exact { (unit : UnitTree) (program : ProgramTree) → UnitHasValues unit → IsTyped unit program → All FilledAsListed program.functions }
+{}
+
+/// In the tree of tokens braces hold a value.
+pub fn sources_have_values()
+    ensures { (tokens : List Token) (unit : UnitTree) → DerivesUnit tokens unit → UnitHasValues unit }
+{}
+
+/// In a well-formed program each object of a function is used within the block that declares it, and a parameter in the body.
+pub fn objects_are_used_where_declared()
+    ensures { (program : ProgramTree) → IsProgram program → All UsedWhereDeclared program.functions }
+{}
