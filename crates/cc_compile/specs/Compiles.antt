@@ -12,7 +12,7 @@ use Rattle.c25_isa.specs.Agrees.{Agrees}
 use Rattle.c25_isa.specs.Image.{Contents}
 use Rattle.lay_cert.specs.Frames.{Frame}
 use Rattle.cc_frames.specs.declared.options.Options.{Options}
-use Rattle.cc_image.specs.Images.{AccessAs, AreWalked, EndsWithin, HasFrames, HasImage, IsDirect, KeepsRuns}
+use Rattle.cc_image.specs.Images.{AccessAs, AreWalked, EndsWithin, HasFrames, HasImage, IsDirect, KeepsRuns, TreeKeepsRuns}
 
 -- the bytes have a tree, this a typed program, and that has the image, which is linked from its pieces and the routines, and the frames, which are
 -- laid out as is chosen. The words do what the program does
@@ -31,10 +31,12 @@ pub record IsBuilt (o : Options) (bytes : List ℕ) (image : Contents) (frames :
   pub accesses : AccessAs o.step program frames
   -- what its accumulator code does, with objects where the plan has them, is what the program does
   pub keeps : ∥ KeepsRuns o program ∥₁
+  -- so is what its word tree does: where the program ends the tree does, with the work that bounds the image's steps
+  pub tree : ∥ TreeKeepsRuns o program ∥₁
   -- and so is what the image does, wherever C defines what the program does; where the program ends, in time
   pub agrees : ∥ Agrees (source_run program) image.words ∥₁
   pub in_time : ∥ EndsWithin o program image ∥₁
   -- the words of each function access what its frame says, with so many address instructions as that costs
   pub walked : ∥ AreWalked image frames ∥₁
-  -- no other operand reaches its frame: the direct ones name other words
+  -- no direct operand of them names a word of its scalars
   pub direct : ∥ IsDirect o program image ∥₁

@@ -8,8 +8,10 @@ use Rattle.c_tree.specs.TypedTree.{ProgramTree}
 use Rattle.c_tree.specs.WellFormedProgram.{IsProgram}
 use Rattle.tree_code.specs.TypedOfWords.{HasWords}
 use Rattle.acc_select.specs.Selected.{selected}
-use Rattle.code_runs.specs.Keeps.{acc_run}
+use Rattle.code_runs.specs.Keeps.{acc_run, tree_run}
+use Rattle.code_runs.specs.Outside.{Places}
 use Rattle.lower_laws.specs.Lowering.{KeepsSource}
+use Rattle.lower_laws.specs.Surroundings.{ArePlaces}
 use Rattle.mem_plan.specs.Plan.{AreArranged, IsPlan}
 use Rattle.run_laws.specs.PlanPlaces.{places_of}
 use Rattle.tree_code.specs.WordTree.{ProgramCode}
@@ -27,7 +29,7 @@ use Rattle.cc_image.specs.declared.fault.TranslationFault.{TranslationFault}
 use Rattle.cc_image.specs.declared.fault.TranslationFault.TheVariants.{Plan, Link, NoMemory}
 use Rattle.cc_image.specs.Faults.{Says, SaysOfTree, SaysOfPieces}
 use Rattle.cc_frames.specs.declared.options.Options.{Options}
-use Rattle.cc_image.specs.Images.{IsPlanOf, KeepsRuns, all_pieces, layouts}
+use Rattle.cc_image.specs.Images.{IsPlanOf, KeepsRuns, TreeKeepsRuns, all_pieces, layouts}
 
 pub element_at : {A : Type 0} (xs : List A) (k : ℕ) (d : A) → k < length xs → slice_get xs k ≡ Some (slice_index_or xs k d)
 element_at [] k d within = absurd (omega (arith, within))
@@ -59,6 +61,19 @@ RunsKept = (t : ProgramTree) (arrangements : List (List (List ℕ))) (plan : Dat
 pub runs_kept : RunsKept → (o : Options) (t : ProgramTree) (p : ProgramCode) → p ≡ lowered_program t → ∥ IsProgram t ∥₁ → HasWords t → AreArranged p.functions (layouts o p) → ∥ KeepsRuns o t ∥₁
 runs_kept law o t p same known words arranged =
     ∥∥₁_map known (λ is plan planned input n inputs. law t (layouts o (lowered_program t)) plan input n is words (subst (λ p. AreArranged p.functions (layouts o p)) same arranged) planned inputs)
+
+-- the law of lowering for a plan of the program
+abbrev pub TreesKept : Type 0
+TreesKept = (q : Places) (t : ProgramTree) (input : Input) (n : ℕ) → IsProgram t → HasWords t → ArePlaces q t → IsInput input → KeepsSource (source_run t input n) (tree_run q (lowered_program t) input n)
+
+abbrev pub PlansHavePlaces : Type 0
+PlansHavePlaces = (t : ProgramTree) (arrangements : List (List (List ℕ))) (plan : DataPlan) → IsProgram t → AreArranged (lowered_program t).functions arrangements → IsPlan (lowered_program t) arrangements plan → ArePlaces (places_of plan) t
+
+pub trees_kept : TreesKept → PlansHavePlaces → (o : Options) (t : ProgramTree) (p : ProgramCode) → p ≡ lowered_program t → ∥ IsProgram t ∥₁ → HasWords t → AreArranged p.functions (layouts o p) → ∥ TreeKeepsRuns o t ∥₁
+trees_kept law places o t p same known words arranged =
+    ∥∥₁_map known
+    (λ is plan planned input n inputs.
+    law (places_of plan) t input n is words (places t (layouts o (lowered_program t)) plan is (subst (λ p. AreArranged p.functions (layouts o p)) same arranged) planned) inputs)
 
 pub tree_says : (o : Options) (t : ProgramTree) (p : ProgramCode) (why : TranslationFault) → p ≡ lowered_program t → SaysOfTree p why → Says o t why
 tree_says o t p (Plan (plan_faults.DataFull words)) same h = subst (λ q. SaysOfTree q (Plan (plan_faults.DataFull words))) same h

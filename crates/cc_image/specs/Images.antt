@@ -13,7 +13,7 @@ use Rattle.mem_plan.specs.declared.data_plan.PlanFault.TheVariants as plan_fault
 use Rattle.mem_plan.specs.Plan.{IsPlan, IsTooLarge}
 use Rattle.frame_emit.specs.Emitted.{emitted}
 use Rattle.access_laws.specs.SourceSequences.{source_sequence}
-use Rattle.code_runs.specs.Keeps.{acc_run}
+use Rattle.code_runs.specs.Keeps.{acc_run, tree_run}
 use Rattle.lower_laws.specs.Lowering.{KeepsSource}
 use Rattle.run_laws.specs.PlanPlaces.{places_of}
 use Rattle.image_laws.specs.Agreeing.{EndsInTime, emission_of}
@@ -74,7 +74,12 @@ abbrev pub KeepsRuns : Options → ProgramTree → Type 0
 KeepsRuns o t = (plan : DataPlan) → IsPlanOf o t plan → (input : Input) (n : ℕ) → IsInput input
     → KeepsSource (source_run t input n) (acc_run (places_of plan) (lowered_program t) (selected (lowered_program t)) input n)
 
--- where it ends, its image ends in time
+-- so is what its word tree does: where the program ends the tree does, with the work that counts
+abbrev pub TreeKeepsRuns : Options → ProgramTree → Type 0
+TreeKeepsRuns o t = (plan : DataPlan) → IsPlanOf o t plan → (input : Input) (n : ℕ) → IsInput input
+    → KeepsSource (source_run t input n) (tree_run (places_of plan) (lowered_program t) input n)
+
+-- where that ends, its image ends in time
 abbrev pub EndsWithin : Options → ProgramTree → Contents → Type 0
 EndsWithin o t image = (plan : DataPlan) → IsPlanOf o t plan → EndsInTime t plan image.words
 
@@ -90,7 +95,7 @@ pub record IsWalked (image : Contents) (k : ℕ) (f : Frame) : Type 0 where
 abbrev pub AreWalked : Contents → List Frame → Type 0
 AreWalked image frames = (k : ℕ) (f : Frame) → slice_get frames k ≡ Some f → IsWalked image k f
 
--- the direct operands of each function name no word of its frame
+-- the direct operands of each function name no word of its scalars
 abbrev pub IsDirect : Options → ProgramTree → Contents → Type 0
 IsDirect o t image = (plan : DataPlan) → IsPlanOf o t plan → AreDirect (emission_of t plan (layouts o (lowered_program t)) o.step) image
 

@@ -12,7 +12,7 @@ ghost use Rattle.c_tree.specs.SourceRun.{source_run};
 ghost use Rattle.c_tree.specs.TypedTree.{ProgramTree};
 ghost use Rattle.cc_frames.specs.Frames.{AreOptions, AreLayouts, ClaimsHold, accesses_of, frames_of};
 ghost use Rattle.cc_image.specs.Faults.{Says, SaysOfPieces, SaysOfTree};
-ghost use Rattle.cc_image.specs.Images.{AccessAs, AreWalked, EndsWithin, HasFrames, HasImage, IsDirect, KeepsRuns, all_pieces, layouts as laid_out, with_helpers as with_called};
+ghost use Rattle.cc_image.specs.Images.{AccessAs, AreWalked, EndsWithin, HasFrames, HasImage, IsDirect, KeepsRuns, TreeKeepsRuns, all_pieces, layouts as laid_out, with_helpers as with_called};
 ghost use Rattle.lay_cert.specs.Frames.{Frame};
 ghost use Rattle.mem_plan.specs.Plan.{AreArranged, IsPlan};
 ghost use Rattle.tree_code.specs.Lowered.{lowered_program};
@@ -233,12 +233,14 @@ pub fn translate<R: Threads + Sync, G: Gate + Sync>(
     ensures frames { IfOk result (λ made. HasFrames options (program_of program.now) made.certificate) }
     // What the accumulator code does is what the program does.
     ensures keeps { IfOk result (λ _. ∥ KeepsRuns options (program_of program.now) ∥₁) }
+    // So is what its word tree does, whose work bounds the steps.
+    ensures tree { IfOk result (λ _. ∥ TreeKeepsRuns options (program_of program.now) ∥₁) }
     // And so is what the image does, from any start and on any input; where the program ends, in time.
     ensures agrees { IfOk result (λ made. ∥ Agrees (source_run (program_of program.now)) made.image.words ∥₁) }
     ensures in_time { IfOk result (λ made. ∥ EndsWithin options (program_of program.now) made.image ∥₁) }
     // The words of each function access what its frame says, with so many address instructions.
     ensures walked { IfOk result (λ made. ∥ AreWalked made.image made.certificate ∥₁) }
-    // No other operand reaches its frame: the direct ones name other words.
+    // No direct operand of them names a word of its scalars.
     ensures direct { IfOk result (λ made. ∥ IsDirect options (program_of program.now) made.image ∥₁) }
     // Each frame is laid out for the accesses of its function in the source.
     ensures accesses { IfOk result (λ made. AccessAs options.step (program_of program.now) made.certificate) }
@@ -248,6 +250,7 @@ pub fn translate<R: Threads + Sync, G: Gate + Sync>(
 {
     access_laws::accesses_are_kept();
     run_laws::translation_keeps_runs();
+    lower_laws::lowering_keeps_runs();
     image_laws::images_agree();
     image_walks::programs_walk();
     direct_laws::programs_are_direct();

@@ -43,7 +43,7 @@ given_from called f (words ∷ rest) = given_of (called f) words ++ given_from c
 abbrev pub given_words : Emission → FunctionCode → List ℕ
 given_words e code = given_from (called_parameters e.code code) 0 (parameters_of e)
 
--- the function has a range in the image, whose direct operands name these words alone
+-- the function has a range in the image, whose direct operands name these words alone, and none of its scalars
 pub record HasDirect (e : Emission) (image : Contents) (k : ℕ) (code : FunctionCode) (frame : FramePlan) (lists : List (List ℕ)) : Type 0 where
   pub range : FunctionRange
   pub there : slice_get image.functions k ≡ Some range

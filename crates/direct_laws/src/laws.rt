@@ -17,7 +17,7 @@ ghost use Rattle.image_laws.specs.Keeping.{all_pieces};
 ghost use Rattle.direct_laws.specs.Directs.{AreDirect};
 
 /// In an image that is linked from the pieces of accumulator code, and from the routines that they call, the direct operands of each function name
-/// no word of its frame: they name words of static objects, of its own objects and of its return address, scratch words behind a store to them, and,
+/// no word of its scalars: they name words of static objects, of its own objects and of its return address, scratch words behind a store to them, and,
 /// in stores, parameters of functions that it calls.
 pub fn images_are_direct()
     ensures direct { (e : Emission) (image : Contents) → IsEmission e → Linked (all_pieces e) image → PiecesFit (all_pieces e) → pieces_size (all_pieces e) ≤ 65536

@@ -47,6 +47,7 @@ returns-clause-built g c =
       framed = subst (λ (fs : List Frame). HasFrames c.args.options program fs) (sym c.in_ok-with_rows.ensures.certificate) c.in_ok-translated.ensures.frames;
       accesses = subst (λ (fs : List Frame). AccessAs c.args.options.step program fs) (sym c.in_ok-with_rows.ensures.certificate) c.in_ok-translated.ensures.accesses;
       keeps = c.in_ok-translated.ensures.keeps;
+      tree = c.in_ok-translated.ensures.tree;
       agrees = subst (λ (i : Contents). ∥ Agrees (source_run program) i.words ∥₁) (sym c.in_ok-with_rows.ensures.image) c.in_ok-translated.ensures.agrees;
       in_time = subst (λ (i : Contents). ∥ EndsWithin c.args.options program i ∥₁) (sym c.in_ok-with_rows.ensures.image) c.in_ok-translated.ensures.in_time;
       walked = walked_too _ _ _ _ c.in_ok-with_rows.ensures.image c.in_ok-with_rows.ensures.certificate c.in_ok-translated.ensures.walked;

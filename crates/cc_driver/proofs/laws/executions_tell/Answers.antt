@@ -1,15 +1,13 @@
 -- The image agrees with the program, and is through in time by its own plan.
 use mathlib.Core.Logic.{∥∥₁_map₂}
 use Rattle.std.proofs.Common.{◌≡◌, ℕ, List, ap}
-use Rattle.std.proofs.Math.Logic.{∥∥₁_map}
 use Rattle.word_base.specs.Ports.{input_of}
 use Rattle.tree_code.specs.Lowered.{lowered_program}
 use Rattle.c25_sim.specs.Taken.{of_sixteen}
-use Rattle.exec_laws.specs.Telling.{TellsOf}
+use Rattle.exec_laws.proofs.Words.{text_input}
 use Rattle.cc_image.specs.Images.{all_pieces}
 use Rattle.cc_text.specs.Answers.{Answered}
 use Rattle.cc_driver.specs.Build.{plain_options}
-use Rattle.cc_driver.specs.Exec.{ExecutesTo}
 use Rattle.cc_driver.proofs.TellingLemmas.{status_tells}
 use Rattle.cc_driver.proofs.laws.executions_tell.Goals as goal
 
@@ -21,5 +19,8 @@ returns-clause-tell c = λ source ports steps answer h.
 
 pub returns-clause-statuses : goal.returns-clause-statuses
 returns-clause-statuses c = λ source ports steps answer h.
-    ∥∥₁_map (returns-clause-tell c source ports steps answer h)
-    (λ tells. status_tells h.built.program h.built.has.plan (of_sixteen (input_of h.lines)) steps h.runs.outs h.runs.stands answer.status (ap (λ (a : Answered). a.status) h.runs.is) tells)
+    let has = h.built.has in
+    ∥∥₁_map₂ (returns-clause-tell c source ports steps answer h) h.built.tree
+    (λ tells tree.
+    status_tells h.built.program has.plan (of_sixteen (input_of h.lines)) steps h.runs.outs h.runs.stands answer.status (ap (λ (a : Answered). a.status) h.runs.is)
+    (λ n. tree has.plan has.planned (of_sixteen (input_of h.lines)) n (text_input ports h.lines h.ports)) tells)

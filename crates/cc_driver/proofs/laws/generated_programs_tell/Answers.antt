@@ -1,10 +1,10 @@
 -- The same of a run on no input.
 use mathlib.Core.Logic.{∥∥₁_map₂}
 use Rattle.std.proofs.Common.{◌≡◌, ◌∙◌, ℕ, [], length, refl, ap}
-use Rattle.std.proofs.Math.Logic.{∥∥₁_map}
 use Rattle.word_base.specs.Ports.{input_of}
 use Rattle.tree_code.specs.Lowered.{lowered_program}
 use Rattle.c25_sim.specs.Taken.{of_sixteen}
+use Rattle.exec_laws.proofs.Words.{text_input}
 use Rattle.cc_image.specs.Images.{all_pieces}
 use Rattle.cc_text.specs.Answers.{Answered}
 use Rattle.cc_driver.specs.Build.{plain_options}
@@ -21,5 +21,8 @@ returns-clause-tell c = λ number answer h.
 pub returns-clause-statuses : goal.returns-clause-statuses
 returns-clause-statuses c = λ number answer h.
     let s = h.summarizes in
-    ∥∥₁_map (returns-clause-tell c number answer h)
-    (λ tells. status_tells h.built.program h.built.has.plan (of_sixteen (input_of [])) gen_steps s.outs s.stands answer.status (ap (λ (a : Answered). a.status) s.is ∙ summary_status number (length h.image.functions) gen_steps s.outs s.stands) tells)
+    let has = h.built.has in
+    ∥∥₁_map₂ (returns-clause-tell c number answer h) h.built.tree
+    (λ tells tree.
+    status_tells h.built.program has.plan (of_sixteen (input_of [])) gen_steps s.outs s.stands answer.status (ap (λ (a : Answered). a.status) s.is ∙ summary_status number (length h.image.functions) gen_steps s.outs s.stands)
+    (λ n. tree has.plan has.planned (of_sixteen (input_of [])) n (text_input [] [] refl)) tells)

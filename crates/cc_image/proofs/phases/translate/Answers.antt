@@ -13,7 +13,7 @@ use Rattle.c_tree.specs.ProgramView.{program_of}
 use Rattle.cc_image.proofs.AgreementLemmas.{image_agrees, image_in_time, ok_of_both, ok_of_four}
 use Rattle.cc_image.proofs.DirectLemmas.{image_direct}
 use Rattle.cc_image.proofs.WalkLemmas.{frames_walked}
-use Rattle.cc_image.proofs.TranslationLemmas.{ok_then, runs_kept}
+use Rattle.cc_image.proofs.TranslationLemmas.{ok_then, runs_kept, trees_kept}
 use Rattle.cc_image.proofs.phases.translate.Goals as goal
 
 pub returns-clause-image : goal.returns-clause-image
@@ -66,3 +66,9 @@ returns-clause-direct g c =
     let p = tree_of c.in_ok-chosen.chosen.tree in
     ok_of_both c.finished.result (c.finished.ensures.image t c.in_ok-chosen.ensures.tree) c.finished.ensures.arranged
     (λ made has arranged. image_direct c.programs_are_direct.ensures.direct c.args.options t p (functions_of c.in_ok-chosen.chosen.code) c.requires c.in_ok-chosen.ensures.tree c.args.program.now.well_formed c.in_ok-chosen.ensures.words arranged c.in_ok-chosen.ensures.emittable c.in_ok-chosen.ensures.code made.image has)
+
+pub returns-clause-tree : goal.returns-clause-tree
+returns-clause-tree g c =
+    let t = program_of c.args.program.now in
+    ok_then c.finished.result c.finished.ensures.arranged
+    (λ made arranged. trees_kept c.lowering_keeps_runs.ensures.keeps c.translation_keeps_runs.ensures.places c.args.options t (tree_of c.in_ok-chosen.chosen.tree) c.in_ok-chosen.ensures.tree c.args.program.now.well_formed c.in_ok-chosen.ensures.words arranged)
