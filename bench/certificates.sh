@@ -7,26 +7,13 @@
 # certificate is checked on one. A certificate of 100 MB of marks is read, and one of 100 MB of blocks. The accesses are made by a
 # generator with a fixed seed, so that two machines do the same.
 set -eu
-program=${1:-$(cd "$(dirname "${BASH_SOURCE[0]}")/.." && pwd)/c25cc}
+top=$(cd "$(dirname "${BASH_SOURCE[0]}")/.." && pwd)
+program=${1:-$top/c25cc}
 room=$(mktemp -d)
 trap 'rm -rf "$room"' EXIT
 cd "$room"
 
-# source SCALARS STATEMENTS: a function of so many scalars, of which random ones are added to one another.
-source_of() {
-    awk -v scalars="$1" -v statements="$2" 'BEGIN {
-        seed = 12345
-        printf "int main(void){"
-        for (s = 0; s < scalars; s++) printf "int s%d = 0;", s
-        for (i = 0; i < statements; i++) {
-            seed = seed * 16807 % 2147483647; a = int(seed / 65536) % scalars
-            seed = seed * 16807 % 2147483647; b = int(seed / 65536) % scalars
-            printf "s%d += s%d;", a, b
-            if (i % 25 == 24) printf "__out(1, s%d);", a
-        }
-        printf "return 0;}\n"
-    }'
-}
+. "$top/bench/sources.sh"
 
 # timed WHAT WORD..: the seconds of a command.
 timed() {

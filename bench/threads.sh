@@ -7,7 +7,8 @@
 # processor and on four, and what four would take that nothing else uses, by the processor time of each thread: what the command does besides, and of each
 # round of four pieces the one that takes longest. On a machine that shares its processors with others the seconds say little.
 set -eu
-program=${1:-$(cd "$(dirname "${BASH_SOURCE[0]}")/.." && pwd)/c25cc}
+top=$(cd "$(dirname "${BASH_SOURCE[0]}")/.." && pwd)
+program=${1:-$top/c25cc}
 room=$(mktemp -d)
 trap 'rm -rf "$room"' EXIT
 cd "$room"
@@ -48,21 +49,7 @@ int pthread_create(pthread_t *thread, const pthread_attr_t *how, void *(*body)(v
 END
 gcc -O1 -shared -fPIC -o threads.so threads.c -ldl
 
-# source SCALARS STATEMENTS: a function of so many scalars, of which random ones are added to one another, from a fixed seed.
-source_of() {
-    awk -v scalars="$1" -v statements="$2" 'BEGIN {
-        seed = 12345
-        printf "int main(void){"
-        for (s = 0; s < scalars; s++) printf "int s%d = 0;", s
-        for (i = 0; i < statements; i++) {
-            seed = seed * 16807 % 2147483647; a = int(seed / 65536) % scalars
-            seed = seed * 16807 % 2147483647; b = int(seed / 65536) % scalars
-            printf "s%d += s%d;", a, b
-            if (i % 25 == 24) printf "__out(1, s%d);", a
-        }
-        printf "return 0;}\n"
-    }'
-}
+. "$top/bench/sources.sh"
 
 seconds() {
     local started
