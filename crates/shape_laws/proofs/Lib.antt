@@ -10,4 +10,13 @@ pub mod Counting
 pub mod Frames
 pub mod Units
 pub mod Derived
+pub mod CharacterTokens
+pub mod Spoken
+pub mod ConstantWords
+pub mod OperandWords
+pub mod TypedWords
+pub mod InitialWords
+pub mod OpenedWords
+pub mod StatementWords
+pub mod RenumberedWords
 mod Examples

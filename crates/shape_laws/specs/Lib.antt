@@ -4,3 +4,4 @@ pub mod Names
 pub mod Uses
 pub mod Fills
 pub mod Values
+pub mod Characters
