@@ -1,8 +1,8 @@
 -- The character constants of a text are words.
-use Rattle.std.proofs.Common.{◌≡◌, ◌<◌, ◌≤◌, ◌^◌, ◌==◌, if◌then◌else◌, ℕ, ◌+◌, Bool, true, false, List, [], ◌∷◌, length, Option, Some, None, refl, sym, subst, arith}
+use Rattle.std.proofs.Common.{◌≡◌, ◌<◌, ◌≤◌, ◌==◌, if◌then◌else◌, ℕ, ◌+◌, Bool, true, false, List, [], ◌∷◌, length, Option, Some, sym, subst, arith}
 use Rattle.std.specs.Prelude.{⊤}
 use Rattle.std.specs.List.{AllByRecursion}
-use Rattle.c_syntax.specs.Constants.{beside, escapes, number_of, AreDigits, IsItem, Plain, Escape, OctalEscape, HexEscape, IsCharacter}
+use Rattle.c_syntax.specs.Constants.{beside, escapes, number_of, IsItem, Plain, Escape, OctalEscape, HexEscape}
 use Rattle.c_syntax.specs.Lexes.{Piece, Blank, Spelled, AllStand, tokens_from, Lexes}
 use Rattle.c_syntax.specs.Spelling.{Means}
 use Rattle.c_syntax.specs.declared.token.Token.{Token}

@@ -1,6 +1,6 @@
 -- What constant expressions of words come to is a word.
 use Rattle.std.proofs.Common.{◌≡◌, ◌<◌, ◌==◌, ◌&&◌, ◌||◌, not, if◌then◌else◌, ℕ, Bool, true, false, Option, Some, None, refl, arith}
-use Rattle.std.specs.Prelude.{⊤, IfSome}
+use Rattle.std.specs.Prelude.{IfSome}
 use Rattle.word_base.specs.Words.{Calc, Good, Bad, truth}
 use Rattle.c_syntax.specs.declared.operator.UnaryOp.{UnaryOp}
 use Rattle.c_syntax.specs.declared.operator.BinaryOp.{BinaryOp}

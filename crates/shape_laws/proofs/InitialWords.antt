@@ -1,6 +1,6 @@
 -- Static initialisers of words, and what objects start with.
-use Rattle.std.proofs.Common.{◌≡◌, ◌<◌, ◌||◌, nat_lt, if◌then◌else◌, ℕ, Bool, true, false, List, [], ◌∷◌, length, Option, Some, None, refl}
-use Rattle.std.specs.Prelude.{⊤, IfSome}
+use Rattle.std.proofs.Common.{◌<◌, nat_lt, if◌then◌else◌, ℕ, Bool, true, false, List, [], ◌∷◌, length, Option, Some, None}
+use Rattle.std.specs.Prelude.{IfSome}
 use Rattle.std.specs.List.{AllByRecursion}
 use Rattle.c_syntax.specs.declared.operator.BinaryOp.TheVariants as op
 use Rattle.c_syntax.specs.declared.syntax.PrefixOp.TheVariants as prefix
@@ -24,7 +24,7 @@ use Rattle.c_rules.specs.Scopes.{Scope}
 use Rattle.c_rules.specs.Typing.{place, constant_typing}
 use Rattle.c_rules.proofs.Formed.Context.{Gives, is, behind, unless}
 use Rattle.c_rules.proofs.Formed.GivesLemmas.{anything, if_there}
-use Rattle.tree_code.specs.TypedOfWords.{StartsWithWord, UsesWords}
+use Rattle.tree_code.specs.TypedOfWords.{StartsWithWord}
 use Rattle.shape_laws.specs.Characters.{SaysWords}
 use Rattle.shape_laws.proofs.ConstantWords.{IsWord, constant_few}
 use Rattle.shape_laws.proofs.TypedWords.{KnowsShort, constant_words}

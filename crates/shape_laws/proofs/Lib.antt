@@ -19,4 +19,6 @@ pub mod InitialWords
 pub mod OpenedWords
 pub mod StatementWords
 pub mod RenumberedWords
+pub mod UnitWords
 mod Examples
+mod WordExamples

@@ -1,5 +1,5 @@
 -- What the declarations of a block that say words open: objects that start with words, and statements of words.
-use Rattle.std.proofs.Common.{◌≡◌, ◌≤◌, ◌⊎◌, inl, inr, ℕ, Bool, true, false, if◌then◌else◌, List, [], ◌∷◌, ◌++◌, length, is_some, Option, Some, None, subst}
+use Rattle.std.proofs.Common.{◌≡◌, ◌⊎◌, inl, inr, ℕ, Bool, true, false, if◌then◌else◌, List, [], ◌∷◌, ◌++◌, length, is_some, Option, Some, None, subst}
 use Rattle.std.specs.Prelude.{⊤}
 use Rattle.std.specs.List.{AllByRecursion}
 use Rattle.c_syntax.specs.SyntaxTree as tree
@@ -7,7 +7,6 @@ use Rattle.c_syntax.specs.SyntaxTree.{Expression, ItemTree, InitialTree, Declara
 use Rattle.c_tree.specs.declared.program.Base.{Base}
 use Rattle.c_tree.specs.declared.program.VarRef.{VarRef}
 use Rattle.c_tree.specs.declared.program.VarRef.TheVariants as refs
-use Rattle.c_tree.specs.declared.limits.TheConstants.{MOST_CELLS}
 use Rattle.c_rules.specs.declared.meaning.Declared.{Declared}
 use Rattle.c_rules.specs.declared.meaning.Declared.TheVariants as declares
 use Rattle.c_rules.specs.declared.meaning.Meaning.{Meaning}
@@ -16,7 +15,6 @@ use Rattle.c_rules.specs.declared.meaning.ObjectType.{ObjectType}
 use Rattle.c_rules.specs.declared.meaning.ObjectType.TheVariants.{Single, Array}
 use Rattle.c_rules.specs.Declarations.{declarator, entries, array_list}
 use Rattle.c_rules.specs.Operands.{given}
-use Rattle.c_rules.specs.Programs.{cell_count}
 use Rattle.c_rules.specs.Scopes.{Scope, declare, is_taken}
 use Rattle.c_rules.specs.Statements.{LocalTree, Initialiser, Absent, Value, Listed, Misbraced, all_typed, initialiser, is_array, ObjectStart, started, Opened}
 use Rattle.c_rules.specs.Statements.{with_named_object, placed, declared_as, block_item, block_items, declarations}

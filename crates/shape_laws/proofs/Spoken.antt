@@ -1,5 +1,5 @@
 -- Trees of tokens whose character constants are words say words.
-use Rattle.std.proofs.Common.{◌≡◌, ◌<◌, ℕ, List, [], ◌∷◌, ◌++◌, Option, Some, None, ap, subst, sym, ◌∙◌}
+use Rattle.std.proofs.Common.{◌≡◌, List, [], ◌∷◌, ◌++◌, Option, Some, None, subst}
 use Rattle.std.specs.List.{AllByRecursion}
 use Rattle.c_syntax.specs.declared.token.Token.{Token}
 use Rattle.c_syntax.specs.Grammar.{Row, Derives, Passes, CommaRule, AssignRule, AssignOpRule, ConditionalRule, OrRule, AndRule, BinaryRule, CastRule}
@@ -13,7 +13,7 @@ use Rattle.c_syntax.specs.Derives.{DerivesStatements, NoStatement, MoreStatement
 use Rattle.c_syntax.specs.Derives.{DerivesFunction, DerivesUnit, LastExternal, MoreExternals}
 use Rattle.c_syntax.specs.SyntaxTree as tree
 use Rattle.c_syntax.specs.SyntaxTree.{Expression, Expressions, InitialTree, ItemTree, DeclarationTree, Statement, Statements, Choices, FunctionSyntax}
-use Rattle.c_syntax.specs.SyntaxTree.{ExternalTree, Defined, Declared, UnitTree}
+use Rattle.c_syntax.specs.SyntaxTree.{Defined, Declared, UnitTree}
 use Rattle.shape_laws.specs.Characters.{SaysWords, AllSayWords, OptionSaysWords, InitialSaysWords, ItemsSayWords, DeclarationsSayWords}
 use Rattle.shape_laws.specs.Characters.{StatementSaysWords, StatementsSayWords, ChoicesSayWords, ExternalSaysWords, UnitSaysWords}
 use Rattle.shape_laws.proofs.CharacterTokens.{KindIsWord, AreWords}

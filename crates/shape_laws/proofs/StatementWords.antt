@@ -1,17 +1,17 @@
 -- Statements that say words are of words, and so are the objects that they declare.
-use Rattle.std.proofs.Common.{ℕ, Bool, not, List, [], ◌∷◌, Option, Some, None}
+use Rattle.std.proofs.Common.{ℕ, not, List, [], ◌∷◌, Option, Some, None}
 use Rattle.std.specs.List.{AllByRecursion}
 use Rattle.c_syntax.specs.SyntaxTree as tree
 use Rattle.c_syntax.specs.SyntaxTree.{Expression, DeclarationTree, Statement, Statements, no_statement, statement, no_choice, case_label, default_label, chosen}
 use Rattle.c_tree.specs.declared.enclosing.Enclosing.{Enclosing}
 use Rattle.c_tree.specs.declared.enclosing.Enclosing.TheVariants as around
 use Rattle.c_tree.specs.Eval.{kind_of}
-use Rattle.c_tree.specs.TypedTree.{Kind, Expr, Stmt, Block, Stmts}
+use Rattle.c_tree.specs.TypedTree.{Kind, Stmt, Stmts}
 use Rattle.c_rules.specs.declared.fault.Rule.TheVariants.{Mismatch}
 use Rattle.c_rules.specs.Kinds.{is_void, class_of}
 use Rattle.c_rules.specs.Operands.{Operand, is_integer}
 use Rattle.c_rules.specs.Scopes.{Scope, open_scope}
-use Rattle.c_rules.specs.Statements.{LocalTree, Opened, Typed, Labelled, opened_in, declarations, before, optional, is_void_test, typed_return}
+use Rattle.c_rules.specs.Statements.{LocalTree, Typed, Labelled, opened_in, declarations, before, optional, is_void_test, typed_return}
 use Rattle.c_rules.specs.Statements.{may_break, may_continue, in_switch, repeats_label, typed_statement, typed_statements, typed_choices, typed_body}
 use Rattle.c_rules.specs.Typing.{typing, operand, constant_typing, word_at}
 use Rattle.c_rules.proofs.Formed.Context.{Gives, is, broken, behind, unless}

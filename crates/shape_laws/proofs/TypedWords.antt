@@ -1,5 +1,5 @@
 -- The typed tree of an expression that says words is of words, in a scope whose arrays aren't longer than one may be.
-use Rattle.std.proofs.Common.{◌≡◌, ◌≤◌, ◌<◌, ℕ, Bool, ◌&&◌, ◌||◌, List, Option, Some, None, is_some, refl, arith}
+use Rattle.std.proofs.Common.{◌≡◌, ◌≤◌, ℕ, Bool, ◌&&◌, ◌||◌, List, Option, Some, None, is_some, refl, arith}
 use Rattle.std.specs.Prelude.{⊤}
 use Rattle.c_syntax.specs.declared.operator.UnaryOp.TheVariants as unary_op
 use Rattle.c_syntax.specs.declared.syntax.PrefixOp.{PrefixOp}

@@ -1,11 +1,14 @@
 //! The laws of whole programs. The calls do nothing: their clauses are what crates above cite.
-ghost use Rattle.std.specs.Prelude.{All, List};
+ghost use Rattle.std.specs.Prelude.{All, List, ℕ};
 ghost use Rattle.c_syntax.specs.declared.token.Token.{Token};
 ghost use Rattle.c_syntax.specs.Derives.{DerivesUnit};
+ghost use Rattle.c_syntax.specs.Lexes.{Lexes};
 ghost use Rattle.c_syntax.specs.SyntaxTree.{UnitTree};
 ghost use Rattle.c_tree.specs.TypedTree.{ProgramTree};
 ghost use Rattle.c_tree.specs.WellFormedProgram.{IsProgram};
 ghost use Rattle.c_rules.specs.Checked.{IsTyped};
+ghost use Rattle.tree_code.specs.TypedOfWords.{HasWords};
+ghost use Rattle.shape_laws.specs.Characters.{UnitSaysWords};
 ghost use Rattle.shape_laws.specs.Declarations.{DeclaredOnce, DeclaredInOrder};
 ghost use Rattle.shape_laws.specs.Fills.{FilledOnce, FilledWhereDeclared, FilledBeforeUse, FilledAsListed, FilledIfListed};
 ghost use Rattle.shape_laws.specs.Uses.{UsedWhereDeclared};
@@ -32,4 +35,18 @@ pub fn sources_have_values()
 /// In a well-formed program each object of a function is used within the block that declares it, and a parameter in the body.
 pub fn objects_are_used_where_declared()
     ensures { (program : ProgramTree) → IsProgram program → All UsedWhereDeclared program.functions }
+{}
+
+/// The character constants of a text are words.
+pub fn sources_say_words()
+    ensures { (bytes : List ℕ) (tokens : List Token) (unit : UnitTree) → Lexes bytes tokens → DerivesUnit tokens unit → UnitSaysWords unit }
+{}
+
+/// The typed program of a source is of words: each constant, each value of a case, and each word that an object starts with. The rules of types see to
+/// that in all that they compute, and refuse longer numbers, so of a tree it asks only that its character constants are words (`trees`), as those of a
+/// text are (`texts`).
+pub fn typed_programs_are_of_words()
+    ensures trees { (unit : UnitTree) (program : ProgramTree) → UnitSaysWords unit → IsTyped unit program → HasWords program }
+    ensures texts { (bytes : List ℕ) (tokens : List Token) (unit : UnitTree) (program : ProgramTree) → Lexes bytes tokens → DerivesUnit tokens unit
+        → IsTyped unit program → HasWords program }
 {}
