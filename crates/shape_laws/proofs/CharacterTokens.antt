@@ -1,5 +1,5 @@
 -- The character constants of a text are words.
-use Rattle.std.proofs.Common.{◌≡◌, ◌<◌, ◌≤◌, ◌==◌, if◌then◌else◌, ℕ, ◌+◌, Bool, true, false, List, [], ◌∷◌, length, Option, Some, sym, subst, arith}
+use Rattle.std.proofs.Common.{◌≡◌, ◌<◌, ◌==◌, if◌then◌else◌, ℕ, ◌+◌, Bool, true, false, List, [], ◌∷◌, length, Option, Some, sym, subst, arith}
 use Rattle.std.specs.Prelude.{⊤}
 use Rattle.std.specs.List.{AllByRecursion}
 use Rattle.c_syntax.specs.Constants.{beside, escapes, number_of, IsItem, Plain, Escape, OctalEscape, HexEscape}
@@ -21,21 +21,25 @@ KindIsWord (token.Mark mark) = ⊤
 abbrev pub AreWords : List Token → Type 0
 AreWords tokens = AllByRecursion (λ t. KindIsWord t.kind) tokens
 
--- escapes stand for characters of ASCII
-either_few : (first value : ℕ) (other : Option ℕ) (b : Bool) → first < 65536 → (other ≡ Some value → value < 65536) → (if b then Some first else other) ≡ Some value
-    → value < 65536
+-- signs, each with a character that is a word, as escapes are
+abbrev AreFew : List (ℕ × ℕ) → Type 0
+AreFew pairs = AllByRecursion (λ (pair : ℕ × ℕ). pair.1 < 65536) pairs
+
+either_few : (first value : ℕ) (other : Option ℕ) (b : Bool) → first < 65536 → (other ≡ Some value → value < 65536)
+    → (if b then Some first else other) ≡ Some value → value < 65536
 either_few first value other true few rest is = let same : first ≡ value = cc is in subst (λ n. n < 65536) same few
 either_few first value other false few rest is = rest is
 
-beside_few : (key value : ℕ) (pairs : List (ℕ × ℕ)) → AllByRecursion (λ (p : ℕ × ℕ). p.1 < 65536) pairs → beside key pairs ≡ Some value → value < 65536
+beside_few : (key value : ℕ) (pairs : List (ℕ × ℕ)) → AreFew pairs → beside key pairs ≡ Some value → value < 65536
 beside_few key value [] few there = absurd (cc there)
 beside_few key value (pair ∷ pairs) few there =
     either_few pair.1 value (beside key pairs) (key == pair.0) few.0 (λ is. beside_few key value pairs few.1 is) there
 
-escapes_few : AllByRecursion (λ (p : ℕ × ℕ). p.1 < 65536) escapes
-escapes_few =
-    let few : (n : ℕ) → n ≤ 127 → n < 65536 = λ n small. omega (arith, small) in
-    (few 39 (omega arith), (few 34 (omega arith), (few 63 (omega arith), (few 92 (omega arith), (few 7 (omega arith), (few 8 (omega arith), (few 12 (omega arith), (few 10 (omega arith), (few 13 (omega arith), (few 9 (omega arith), (few 11 (omega arith), tt)))))))))))
+escapes_few : AreFew escapes
+escapes_few = (omega arith, (omega arith, (omega arith, (omega arith, (omega arith, letters)))))
+  where
+    letters : AreFew ((98, 8) ∷ (102, 12) ∷ (110, 10) ∷ (114, 13) ∷ (116, 9) ∷ (118, 11) ∷ [])
+    letters = (omega arith, (omega arith, (omega arith, (omega arith, (omega arith, (omega arith, tt))))))
 
 item_few : (text : List ℕ) (value : ℕ) → IsItem text value → value < 65536
 item_few text value (Plain is within no_quote no_backslash) = omega (arith, within.1)

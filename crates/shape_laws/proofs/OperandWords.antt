@@ -1,5 +1,6 @@
 -- What each operator makes of operands of words is of words.
-use Rattle.std.proofs.Common.{◌≡◌, ◌<◌, ◌≤◌, ◌&&◌, ◌||◌, not, if◌then◌else◌, nat_lt, ℕ, Bool, true, false, List, [], ◌∷◌, Option, Some, None, refl, arith, ltb-false}
+use Rattle.std.proofs.Common.{◌≡◌, ◌<◌, ◌≤◌, ◌&&◌, ◌||◌, not, if◌then◌else◌, nat_lt, ℕ, Bool}
+use Rattle.std.proofs.Common.{true, false, List, [], ◌∷◌, Option, Some, None, refl, arith, ltb-false}
 use Rattle.std.specs.Prelude.{⊤}
 use Rattle.c_tree.specs.declared.program.ScalarType.{ScalarType}
 use Rattle.c_syntax.specs.declared.operator.UnaryOp.{UnaryOp}
@@ -12,10 +13,13 @@ use Rattle.c_rules.specs.declared.class.Class.{Class}
 use Rattle.c_rules.specs.declared.class.Class.TheVariants.{Nothing, Integer, Pointer}
 use Rattle.c_rules.specs.Kinds.{int, unsigned, void_pointer, class_of, is_void, same_type, same_kind, is_void_pointer}
 use Rattle.c_rules.specs.Outcome.{Is, Broken}
-use Rattle.c_rules.specs.Operands.{Operand, class_at, converted, null_of, typed_number, pointer_given, given_as, given, Pair, common_of, balanced, null_like}
+use Rattle.c_rules.specs.Operands.{Operand, class_at, converted, null_of, typed_number, pointer_given}
+use Rattle.c_rules.specs.Operands.{given_as, given, Pair, common_of, balanced, null_like}
 use Rattle.c_rules.specs.Operands.{converted_like, pointers_met, met_as, product_as, sum_as, pointers, difference_as, shift_as, order_as, typed_equality}
-use Rattle.c_rules.specs.Operands.{binary_as, binary, unary_as, unary, negated, both_true, either_true, arms_as, picked, lvalue_of, written, assigned_as, assigned}
-use Rattle.c_rules.specs.Operands.{takes, assigned_by, stepped_before, stepped_after, address_of, address, loaded_as, target_of, loaded, indexed, cast_as, cast, sized}
+use Rattle.c_rules.specs.Operands.{binary_as, binary, unary_as, unary, negated, both_true}
+use Rattle.c_rules.specs.Operands.{either_true, arms_as, picked, lvalue_of, written, assigned_as, assigned}
+use Rattle.c_rules.specs.Operands.{takes, assigned_by, stepped_before, stepped_after, address_of, address}
+use Rattle.c_rules.specs.Operands.{loaded_as, target_of, loaded, indexed, cast_as, cast, sized}
 use Rattle.c_rules.specs.Operands.{any_void, passed, is_integer, no_more, input, is_word_first, sent, output}
 use Rattle.c_rules.proofs.Formed.Context.{Gives, broken, is, behind, unless}
 use Rattle.c_rules.proofs.Formed.GivesLemmas.{one_of}

@@ -28,7 +28,8 @@ use Rattle.c_rules.specs.Statements.{LocalTree, typed_body}
 use Rattle.c_rules.specs.Typing.{spelled}
 use Rattle.c_rules.specs.Units.{StaticTree, TypedFunction, File, Starts, NoStart, One, Braced, starts, static_list, static_number, with_list, set_list}
 use Rattle.c_rules.specs.Units.{with_static, may_declare, meaning_of, with_meaning, with_declared, declared_as, is_twice, file_item, file_items}
-use Rattle.c_rules.specs.Units.{with_parameters, parameter_locals, with_body, is_defined, behind_name, function_as, external, externals, empty_file, typed_unit}
+use Rattle.c_rules.specs.Units.{with_parameters, parameter_locals, with_body, is_defined, behind_name}
+use Rattle.c_rules.specs.Units.{function_as, external, externals, empty_file, typed_unit}
 use Rattle.c_rules.proofs.Formed.Context.{Gives, is, broken, behind, unless, of_is}
 use Rattle.c_rules.proofs.Formed.DeclarationTypes.{IsDeclaredType, declared_type}
 use Rattle.c_rules.proofs.Formed.GivesLemmas.{anything}

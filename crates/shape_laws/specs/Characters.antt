@@ -1,5 +1,5 @@
--- Sources whose character constants are words: each is below 65536. Numbers that are longer are refused by the rules of types, and what
--- the length of an array may be they say too, so neither is looked at here.
+-- Sources whose character constants are words: each is below 65536. Numbers aren't looked at, since the rules of types refuse longer ones;
+-- nor are the lengths of arrays, which they hold within limits of their own.
 use Rattle.std.specs.Prelude.{◌<◌, ⊤, List, [], ◌∷◌, Option, Some, None}
 use Rattle.std.specs.List.{AllByRecursion}
 use Rattle.c_syntax.specs.SyntaxTree as tree

@@ -37,7 +37,7 @@ pub fn objects_are_used_where_declared()
     ensures { (program : ProgramTree) → IsProgram program → All UsedWhereDeclared program.functions }
 {}
 
-/// The character constants of a text are words.
+/// The character constants of a text are words. Of those in the lengths of arrays nothing is said.
 pub fn sources_say_words()
     ensures { (bytes : List ℕ) (tokens : List Token) (unit : UnitTree) → Lexes bytes tokens → DerivesUnit tokens unit → UnitSaysWords unit }
 {}
