@@ -80,7 +80,8 @@ refused_at() {
     status=$?
     runs=$((runs + 1))
     case $status in
-        "$ends") cmp -s said wanted || fail "another answer at allocation $number of '$words': $(head -n 1 said)" ;;
+        # (a line that refuses is left out where there is no memory to make it)
+        "$ends") cmp -s said wanted || { [ "$ends" -eq 9 ] && [ ! -s said ]; } || fail "another answer at allocation $number of '$words': $(head -n 1 said)" ;;
         5)
             wanting=$((wanting + 1))
             [ ! -s said ] || [ "$(cat said)" = 'want of memory' ] || fail "at allocation $number of '$words': $(head -n 1 said)"
@@ -168,11 +169,23 @@ pieces() {
 
 threads() { each 0 build ../threads.c made.img --budget 2000; }
 
-# A frame of three scalars, and a function of that name whose words access none.
+# three COST MARKS: a certificate of three scalars.
+three() {
+    printf 'C25 CERTIFICATE 2\nframe f\nregisters 1\nstep 1\nscalars 3\nblock 1 0 1 2 0\nlist 0310 1 0 2\ncost %s\nclaim optimal\nmarks 4\n%s\nendframe\nend\n' "$1" "$2"
+}
+
+# A function whose words access them so: its log fits, leaves out a mark, closes the root, branches at a complete node, and its cost is another.
 certificate() {
-    printf 'C25 CERTIFICATE 2\nframe f\nregisters 1\nstep 1\nscalars 3\nblock 1 0 1 2 0\nlist 0310 1 0 2\ncost 2\nclaim optimal\nmarks 4\nbccc\nendframe\nend\n' > three.crt
-    printf 'int f(void){return 1;} int main(void){return f();}' > three.c
-    "$program" build three.c three.img > /dev/null
+    printf 'C25 IMAGE 1\nwords 9\nd200 0311 558a 2090 2080 7e02 2090 2080\nce26\nfunc f 0000 0008\nend\n' > three.img
+    three 2 bccc > three.crt
+    each 0 check ../three.img ../three.crt
+    three 2 bcc > three.crt
+    each 9 check ../three.img ../three.crt
+    for marks in cccc bccb; do
+        three 2 "$marks" > three.crt
+        each 8 check ../three.img ../three.crt
+    done
+    three 1 bccc > three.crt
     each 8 check ../three.img ../three.crt
 }
 
