@@ -3,5 +3,6 @@ pub mod AddressLemmas
 pub mod BlockLemmas
 pub mod NumberLemmas
 pub mod FindingLemmas
+pub mod KeptLemmas
 pub mod LineLemmas
 pub mod Meanings

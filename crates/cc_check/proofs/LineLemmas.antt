@@ -1,35 +1,65 @@
--- Marks and lines of frames and functions.
-use Rattle.std.proofs.Common.{◌≡◌, ℕ, ◌+◌, ◌<◌, ◌≤◌, Bool, true, false, ◌&&◌, ◌||◌, List, ◌++◌, length, get_or, drop, Option, refl, ap, sym, ◌∙◌, append_assoc}
+-- Frames are checked one by one.
+use Rattle.std.proofs.Common.{◌≡◌, ℕ, Bool, true, false, ◌&&◌, ◌||◌, List, [], ◌∷◌, ◌++◌, length, take, Option, refl, ap, ap₂, sym, subst, ◌∙◌, append-nil, arith}
+use mathlib.Core.Path.{fun_ext}
+use Rattle.std.specs.Prelude.{slice_index_or}
 use Rattle.std.specs.List.{flat_map, list_all}
-use Rattle.std.proofs.Math.Bool.{or_assoc, and_assoc}
-use Rattle.std.proofs.lemmas.List.{at_drop_more, drop_all}
+use Rattle.std.proofs.Math.Seq.{take-append_seam}
+use Rattle.std.proofs.lemmas.Grind.{flat_map-append}
+use Rattle.std.proofs.lemmas.List.Elements.{All-push}
+use Rattle.std.proofs.lemmas.List.Folds.{list_all-append, list_any-append}
 use Rattle.c25_isa.specs.declared.image.FunctionRange.{FunctionRange}
+use Rattle.c25_isa.specs.Image.{Contents}
 use Rattle.lay_cert.specs.Frames.{Frame}
-use Rattle.cc_check.specs.Findings.{number_of}
-use Rattle.cc_check.specs.CheckText.{is_number, has_frame}
+use Rattle.lay_cert.specs.CertReading.{Reads}
+use Rattle.lay_cert.proofs.Exact.{reads_same}
+use Rattle.cc_check.specs.declared.finding.Finding.{Finding}
+use Rattle.cc_check.specs.Findings.{number_of, finding_of, is_pass}
+use Rattle.cc_check.specs.Checks.{OptimalHolds}
+use Rattle.cc_check.specs.CheckText.{finding_text, line_of, frame_line, is_number, has_frame, no_frame_lines, check_text}
+use Rattle.cc_check.specs.Checked.{AreChecked, ChecksAll}
 
--- one frame more
-pub text_more : (g : Frame → List ℕ) (fs : List Frame) (i : ℕ) (f : Frame) (old new : List ℕ) → i < length fs → f ≡ get_or fs i f → new ≡ old ++ g f → new ++ flat_map g (drop (i + 1) fs) ≡ old ++ flat_map g (drop i fs)
-text_more g fs i f old new lt is added =
-    let rest = flat_map g (drop (i + 1) fs) in
-    ap (λ t. t ++ rest) added ∙ append_assoc old (g f) rest ∙ ap (λ t. old ++ t) (sym (at_drop_more (flat_map g) fs i f lt ∙ ap (λ (h : Frame). g h ++ rest) (sym is)))
+and_true : (b : Bool) → (b && true) ≡ b
+and_true true = refl
+and_true false = refl
 
-pub passes_more : (p : Frame → Bool) (fs : List Frame) (i : ℕ) (f : Frame) (old new : Bool) → i < length fs → f ≡ get_or fs i f → new ≡ (old && p f) → (new && list_all p (drop (i + 1) fs)) ≡ (old && list_all p (drop i fs))
-passes_more p fs i f old new lt is added =
-    let rest = list_all p (drop (i + 1) fs) in
-    ap (λ b. b && rest) added ∙ and_assoc old (p f) rest ∙ ap (λ b. old && b) (sym (at_drop_more (list_all p) fs i f lt ∙ ap (λ (h : Frame). p h && rest) (sym is)))
-
-pub framed_more : (functions : List FunctionRange) (fs : List Frame) (i : ℕ) (f : Frame) (number : Option ℕ) (k : ℕ) (old new : Bool) → i < length fs → f ≡ get_or fs i f → number ≡ number_of functions f.name → new ≡ (old || is_number k number)
-    → (new || has_frame functions (drop (i + 1) fs) k) ≡ (old || has_frame functions (drop i fs) k)
-framed_more functions fs i f number k old new lt is numbered added =
-    let rest = has_frame functions (drop (i + 1) fs) k in
-    ap (λ b. b || rest) (added ∙ ap (λ (n : Option ℕ). old || is_number k n) numbered)
-    ∙ or_assoc old (is_number k (number_of functions f.name)) rest
-    ∙ ap (λ b. old || b) (sym (at_drop_more (λ all. has_frame functions all k) fs i f lt ∙ ap (λ (h : Frame). is_number k (number_of functions h.name) || rest) (sym is)))
-
-or_false : (b : Bool) → b ≡ (b || false)
+or_false : (b : Bool) → (b || false) ≡ b
 or_false true = refl
 or_false false = refl
 
-pub framed_end : (functions : List FunctionRange) (fs : List Frame) (i k : ℕ) (b : Bool) → length fs ≤ i → b ≡ (b || has_frame functions (drop i fs) k)
-framed_end functions fs i k b le = or_false b ∙ sym (ap (λ all. b || has_frame functions all k) (drop_all i fs le))
+text_push : (g : Frame → List ℕ) (fs : List Frame) (f : Frame) → flat_map g (fs ++ f ∷ []) ≡ flat_map g fs ++ g f
+text_push g fs f = flat_map-append g fs (f ∷ []) ∙ ap (λ t. flat_map g fs ++ t) (append-nil (g f))
+
+passes_push : (p : Frame → Bool) (fs : List Frame) (f : Frame) → list_all p (fs ++ f ∷ []) ≡ (list_all p fs && p f)
+passes_push p fs f = list_all-append p fs (f ∷ []) ∙ ap (λ b. list_all p fs && b) (and_true (p f))
+
+framed_push : (functions : List FunctionRange) (fs : List Frame) (f : Frame) (k : ℕ) → has_frame functions (fs ++ f ∷ []) k ≡ (has_frame functions fs k || is_number k (number_of functions f.name))
+framed_push functions fs f k =
+    let is = λ (g : Frame). is_number k (number_of functions g.name) in
+    list_any-append is fs (f ∷ []) ∙ ap (λ b. has_frame functions fs k || b) (or_false (is f))
+
+-- one frame more
+pub checked_more : (image : Contents) (fs : List Frame) (f : Frame) (number : Option ℕ) (finding : Finding) (name old new : List ℕ) (pass more : Bool) (marks added : List Bool) → AreChecked image fs old pass marks
+    → name ≡ f.name → number ≡ number_of image.functions f.name → finding ≡ finding_of image f → new ≡ old ++ line_of name (finding_text finding) → more ≡ (pass && is_pass finding)
+    → ((k : ℕ) → slice_index_or added k false ≡ (slice_index_or marks k false || is_number k number)) → OptimalHolds image f → AreChecked image (fs ++ f ∷ []) new more added
+checked_more image fs f number finding name old new pass more marks added h named numbered found text passes framed holds = record {
+  text = text ∙ ap₂ (λ n said. old ++ line_of n (finding_text said)) named found ∙ ap (λ t. t ++ frame_line image f) h.text ∙ sym (text_push (frame_line image) fs f);
+  passes = passes ∙ ap₂ (λ b said. b && is_pass said) h.passes found ∙ sym (passes_push (λ g. is_pass (finding_of image g)) fs f);
+  framed = λ k. framed k ∙ ap₂ (λ b n. b || is_number k n) (h.framed k) numbered ∙ sym (framed_push image.functions fs f k);
+  optimal = All-push (OptimalHolds image) fs f h.optimal holds;
+}
+
+-- before all frames
+pub none_checked : (image : Contents) (text : List ℕ) (pass : Bool) (marks : List Bool) → text ≡ [] → pass ≡ true → ((k : ℕ) → slice_index_or marks k false ≡ false) → AreChecked image [] text pass marks
+none_checked image text pass marks is passes none = record { text = is; passes = passes; framed = none; optimal = λ k d lt. absurd (omega (arith, lt)) }
+
+-- bytes say no other frames than those that are checked
+pub all_checked : (image : Contents) (bytes : List ℕ) (fs : List Frame) (text : List ℕ) (pass : Bool) (marks : List Bool) → ChecksAll image bytes text pass marks → Reads bytes fs → AreChecked image fs text pass marks
+all_checked image bytes fs text pass marks h r = subst (λ gs. AreChecked image gs text pass marks) (reads_same bytes h.frames fs h.reads r) h.checked
+
+-- all marks are kept
+pub whole_marks : (n : ℕ) (marks rest : List Bool) → length marks ≡ n → take n (marks ++ rest) ≡ marks
+whole_marks n marks rest is = subst (λ k. take k (marks ++ rest) ≡ marks) is (take-append_seam marks rest)
+
+-- the lines of functions that have no frame are last
+pub whole_text : (image : Contents) (fs : List Frame) (old new : List ℕ) (pass : Bool) (marks : List Bool) → AreChecked image fs old pass marks → new ≡ old ++ no_frame_lines (λ k. slice_index_or marks k false) 0 image.functions → new ≡ check_text image fs
+whole_text image fs old new pass marks h is = is ∙ ap₂ (λ t framed. t ++ no_frame_lines framed 0 image.functions) h.text (fun_ext h.framed)

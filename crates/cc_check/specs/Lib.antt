@@ -2,3 +2,5 @@ pub mod Findings
 pub mod CheckText
 pub mod Checks
 pub mod Memory
+pub mod Checked
+pub mod Kept

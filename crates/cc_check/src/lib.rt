@@ -9,6 +9,7 @@ mod frames;
 mod laws;
 mod lines;
 mod numbers;
+mod walks;
 
 pub use checking::{Checked, check};
 pub use finding::Finding;

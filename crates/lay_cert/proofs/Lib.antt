@@ -9,6 +9,7 @@ pub mod Steps
 pub mod Layouts
 pub mod Lists
 pub mod FrameEnds
+pub mod Readers
 pub mod ArrangedLists
 pub mod Examples
 pub mod Verdicts

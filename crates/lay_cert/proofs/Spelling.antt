@@ -18,7 +18,7 @@ use Rattle.lay_cert.specs.declared.fault.CertFault.TheVariants as faults
 use Rattle.lay_cert.specs.Frames.{Frame, IsWhole, AreWhole, IsClaim}
 use Rattle.lay_cert.specs.CertText.{version_line, frame_line, registers_line, list_line, list_lines, cost_line, claim_line, marks_line, mark_bytes, mark_lines, line_count, frame_end, last_line, step_part, log_lines, layout_lines, frame_lines, cert_text, old_text}
 use Rattle.lay_cert.specs.Marks.{is_short}
-use Rattle.lay_cert.specs.CertReading.{Head, Part, Between, Named, Counted, Stepped, Listing, Costed, Claimed, Marking, Place, Unread, Inside, Finished, Goes, Ends, PartStep, Step, Runs, Reads, head_of, frame_of, marked, registered}
+use Rattle.lay_cert.specs.CertReading.{Head, Part, Between, Named, Counted, Stepped, Listing, Costed, Claimed, Marking, Place, Unread, Inside, Finished, Goes, Ends, PartStep, Step, Runs, Reached, Reads, head_of, frame_of, marked, registered}
 
 -- ---- what is known of a place by the lines that lead to it
 
@@ -390,6 +390,10 @@ read_told bytes fs r = runs_told Unread (Finished fs) r.reached.front [] [] refl
 -- what is read has its bits
 pub read_whole : (bytes : List ℕ) (fs : List Frame) → Reads bytes fs → AreWhole fs
 read_whole bytes fs r = (read_told bytes fs r).1.whole
+
+-- and so has what is read so far
+pub stands_whole : (bytes : List ℕ) (number : ℕ) (text : List ℕ) (steps : Bool) (fs : List Frame) (part : Part) → Reached bytes number text (Inside steps fs part) → AreWhole fs
+stands_whole bytes number text steps fs part h = (runs_told Unread (Inside steps fs part) h.front [] text refl h.runs).spelt.whole
 
 -- and one of two spellings
 pub read_spelt : (bytes : List ℕ) (fs : List Frame) → Reads bytes fs → (bytes ≡ cert_text fs) ⊎ ((bytes ≡ old_text fs) × All (λ f. f.seq.step ≡ 1) fs)

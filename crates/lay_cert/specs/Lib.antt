@@ -5,3 +5,4 @@ pub mod CertText
 pub mod Marks
 pub mod CertReading
 pub mod LineReading
+pub mod FrameReading

@@ -50,6 +50,16 @@ impl<'a> Lines<'a> {
         }
     }
 
+    /// The same lines, to be read from here on a second time.
+    pub(crate) fn duplicate(&self) -> Self
+        ensures { result ≡ self.now }
+    {
+        Lines {
+            rest: self.rest,
+            number: self.number,
+        }
+    }
+
     /// What is left.
     pub(crate) fn rest(&self) -> &'a [u8]
         ensures text { result.now ≡ self.now.text }

@@ -1,97 +1,26 @@
-//! Reading certificates.
-ghost use Rattle.std.specs.Prelude.{◌≡◌, ◌≢◌, ◌⊎◌, ◌≤◌, ℕ, List, [], ◌∷◌, ◌++◌, Bool, length, MatchOption, MatchResult, IfOk, IfErr, IfSome};
-ghost use Rattle.word_base.specs.Name.{IsName};
+//! Reading whole certificates.
+ghost use Rattle.std.specs.Prelude.{◌≡◌, ◌≢◌, ◌⊎◌, ◌≤◌, ℕ, List, length, MatchResult, IfOk, IfErr};
 ghost use Rattle.lay_cert.specs.Frames.{Frame, AreWhole};
-ghost use Rattle.lay_cert.specs.CertReading.{Unread, Inside, Finished, Named, Between, Reads, Says};
-ghost use Rattle.lay_cert.specs.LineReading.{Stands};
+ghost use Rattle.lay_cert.specs.CertReading.{Reads, Says};
 ghost use Rattle.lay_cert.specs.declared.fault.CertFault.{CertFault};
 ghost use Rattle.lay_cert.specs.declared.fault.CertFault.TheVariants as faults;
 
-use crate::certificate::{CertFrame, Certificate, FrameParts};
+use crate::certificate::{CertFrame, Certificate};
 use crate::fault::CertFault;
-use crate::fields::read_name;
-use crate::frames::{read_blocks, read_claim, read_cost, read_frame_head, read_lists, read_marks};
-use crate::lines::Lines;
-use lay_model::Arrangement;
+use crate::reader::CertReader;
 use std::alloc::Global;
-use word_base::Text;
-
-// Reads the version, and says whether it has lines of steps.
-fn read_version(lines: &mut Lines<'_>) -> Result<bool, CertFault>
-    ensures { (bytes : List ℕ) → Stands bytes lines.old Unread → MatchResult result (λ steps. Stands bytes lines.new (Inside steps [] Between)) (Says bytes) }
-{
-    let found = lines.number(b"C25 CERTIFICATE ", 0, u64::MAX)?;
-    match found {
-        1 => Ok(false),
-        2 => Ok(true),
-        _ => Err(CertFault::Version { found }),
-    }
-}
-
-// Reads the first line of a frame, and gives its name, or the last line.
-fn read_frame_line<'a>(lines: &mut Lines<'a>) -> Result<Option<&'a str>, CertFault>
-    ensures read { (bytes : List ℕ) (steps : Bool) (fs : List Frame) → Stands bytes lines.old (Inside steps fs Between) → MatchResult result (λ found. MatchOption found (Stands bytes lines.new (Finished fs)) (λ name. Stands bytes lines.new (Inside steps fs (Named name.now)))) (Says bytes) }
-    ensures name { IfOk result (λ found. IfSome found (λ name. IsName name.now)) }
-{
-    let fault = lines.next_fault();
-    let Some(line) = lines.next() else {
-        return Err(fault);
-    };
-    if line == b"end".as_slice() {
-        return Ok(None);
-    }
-    let Some(name) = read_name(line) else {
-        return Err(fault);
-    };
-    Ok(Some(name))
-}
-
-// Reads what stands behind the first line of the frame of this number.
-fn read_frame(
-    alloc: Global,
-    lines: &mut Lines<'_>,
-    name: &str,
-    steps: bool,
-    frame: u64,
-) -> Result<CertFrame, CertFault>
-    requires { IsName name.now }
-    ensures { (bytes : List ℕ) (fs : List Frame) → length fs ≡ frame → Stands bytes lines.old (Inside steps fs (Named name.now)) → MatchResult result (λ f. Stands bytes lines.new (Inside steps (fs ++ f ∷ []) Between)) (Says bytes) }
-{
-    let head = read_frame_head(lines, steps)?;
-    let seq = read_blocks(alloc, lines, head)?;
-    let found = read_lists(alloc, lines, head.registers)?;
-    let cost = read_cost(alloc, lines, &found.lists, head.scalars)?;
-    let claim = read_claim(lines)?;
-    let log = read_marks(alloc, lines, frame)?;
-    Ok(CertFrame::new(FrameParts {
-        name: Text::copy_of(alloc, name)?,
-        registers: head.registers,
-        seq,
-        arr: Arrangement::new(found.lists),
-        bases: found.bases,
-        cost,
-        claim,
-        log,
-    }))
-}
 
 // Reads all frames.
 fn read_frames(alloc: Global, bytes: &[u8]) -> Result<Vec<CertFrame>, CertFault>
     requires { length bytes.now ≤ 536870912 }
     ensures { MatchResult result (λ frames. Reads bytes.now frames.items) (Says bytes.now) }
 {
-    let mut lines = Lines::new(bytes);
-    let steps = read_version(&mut lines)?;
+    let mut reader = CertReader::new(bytes)?;
     let mut frames = Vec::new(alloc);
-    while let Some(name) = read_frame_line(&mut lines)? {
-        let frame = read_frame(alloc, &mut lines, name, steps, frames.len() as u64)?;
+    while let Some(frame) = reader.next(alloc)? {
         frames.push(frame)?;
     }
-    if lines.rest().is_empty() {
-        Ok(frames)
-    } else {
-        Err(lines.next_fault())
-    }
+    Ok(frames)
 }
 
 /// The certificate that a text gives.
