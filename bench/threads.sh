@@ -5,7 +5,8 @@
 #
 # Sources whose function accesses many scalars are built with a budget of 1,000,000 nodes, all of which their searches use. Told are the seconds on one
 # processor and on four, and what four would take that nothing else uses, by the processor time of each thread: what the command does besides, and of each
-# round of four pieces the one that takes longest. On a machine that shares its processors with others the seconds say little.
+# round of four pieces the one that takes longest. On a machine that shares its processors with others the seconds say little, so four of the commands are run
+# beside one another too, each on one processor: what they do in the time of one alone is what the machine has to give.
 set -eu
 top=$(cd "$(dirname "${BASH_SOURCE[0]}")/.." && pwd)
 program=${1:-$top/c25cc}
@@ -58,6 +59,15 @@ seconds() {
     echo "$started $(date +%s%N)" | awk '{ printf "%.3f", ($2 - $1) / 1000000000 }'
 }
 
+# Four builds at once, each on a processor of its own.
+each_on_one() {
+    local processor
+    for processor in 0 1 2 3; do
+        taskset -c "$processor" "$program" build a.c "$processor.img" -r "$registers" --budget 1000000 > "$processor.answer" &
+    done
+    wait
+}
+
 # times BUDGET: the processor time of each thread of a build, in the order in which they begin.
 times() { LD_PRELOAD=$room/threads.so "$program" build a.c a.img -r "$registers" --budget "$1" 2>&1 > answer | sort -n | awk '{ print $2 }'; }
 
@@ -66,12 +76,16 @@ for scalars in 16 24 32; do
         source_of "$scalars" 200 > a.c
         one=$(seconds taskset -c 0 "$program" build a.c a.img -r "$registers" --budget 1000000)
         four=$(seconds "$program" build a.c a.img -r "$registers" --budget 1000000)
+        beside=$(seconds each_on_one)
         besides=$(times 1 | head -n 1)
-        times 1000000 | awk -v besides="$besides" -v rounds=$((scalars / 4)) -v one="$one" -v four="$four" -v what="$scalars scalars, $registers registers" '
+        times 1000000 | awk -v besides="$besides" -v rounds=$((scalars / 4)) -v one="$one" -v four="$four" -v beside="$beside" -v what="$scalars scalars, $registers registers" '
             { all += $1 }
             NR == 1 { own = ($1 - besides) / rounds; chain = besides }
             NR > 1 { longest = $1 > longest ? $1 : longest }
             NR > 1 && NR % 3 == 1 { chain += longest > own ? longest : own; longest = 0 }
-            END { printf "%s: %s s on one, %s s on four; by processor time %.3f of %.3f s, %.1f times\n", what, one, four, chain, all, all / chain }'
+            END {
+                printf "%s: %s s on one, %s s on four, %.2f times; four beside one another %s s, so the machine gives %.2f times; by processor time %.3f of %.3f s, %.1f times\n",
+                    what, one, four, one / four, beside, 4 * one / beside, chain, all, all / chain
+            }'
     done
 done

@@ -44,10 +44,7 @@ pub(crate) fn statement(
         WordStmt::Expr(e) => effect(code, e, t),
         WordStmt::Return(value) => give(code, value, t),
         WordStmt::Block { body, .. } => statements(alloc, body, code, locals, t),
-        WordStmt::If { test, yes, no } => match no {
-            Some(no) => if_else(alloc, code, test, yes, no, locals, t),
-            None => if_alone(alloc, code, test, yes, locals, t),
-        },
+        WordStmt::If { test, yes, no } => either(alloc, code, test, yes, no, locals, t),
         WordStmt::While { test, body } => while_loop(alloc, code, test, body, locals, t),
         WordStmt::Do { body, test } => do_loop(alloc, code, body, test, locals, t),
         WordStmt::For {
@@ -139,7 +136,7 @@ fn list_part(alloc: Global, list: &[WordStmt], locals: &[Object], t: u8) -> Resu
 }
 
 #[cycle(statements)]
-fn if_else(
+fn either(
     alloc: Global,
     code: &mut Code,
     test: &WordExpr,
@@ -153,23 +150,6 @@ fn if_else(
 {
     let yes = part(alloc, yes, locals, t)?;
     let no = part(alloc, no, locals, t)?;
-    condition(code, test, t, true, yes, no)
-}
-
-#[cycle(statements)]
-fn if_alone(
-    alloc: Global,
-    code: &mut Code,
-    test: &WordExpr,
-    yes: &WordStmt,
-    locals: &[Object],
-    t: u8,
-) -> Result<()>
-    requires { HaveFewCells locals.now }
-    ensures { OnOk result (Appends code.old.items code.new.items (statement_items (map object_of locals.now) t (tree.If (word_expr_of test.now) (word_stmt_of yes.now) (tree.Block [] tree.done)))) }
-{
-    let yes = part(alloc, yes, locals, t)?;
-    let no = Part::Short(ShortPart::Nothing);
     condition(code, test, t, true, yes, no)
 }
 

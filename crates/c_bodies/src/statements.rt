@@ -214,12 +214,9 @@ impl<'a> Body<'a> {
     ) -> Result<TypedStmt, Refusal>
         ensures { Follows (λ t. typed_in self.now (stmt_of t)) (tested_in self.now at (expr_of test.value) (If (expr_of test.value) (stmt_of yes.value) (Block [] done))) result }
     {
-        not_void(&test, at)?;
-        Ok(TypedStmt::If {
-            test: Box::into_inner(test),
-            yes,
-            no: None,
-        })
+        let alloc = self.scopes.alloc;
+        let no = boxed(alloc, empty(alloc))?;
+        self.two_armed(test, yes, no, at)
     }
 
     // An if with an else.
@@ -271,7 +268,7 @@ impl<'a> Body<'a> {
         Ok(TypedStmt::If {
             test: Box::into_inner(test),
             yes,
-            no: Some(no),
+            no,
         })
     }
 

@@ -298,10 +298,10 @@ impl<'a, 'b> Writer<'a, 'b> {
                 self.node("call", expr, &[function, Piece::Exprs(args)])
             }
             ExprForm::In { port } => {
-                self.node("in", expr, &[Piece::Number("", u32::from(*port))])
+                self.node("in", expr, &[Piece::Number("", u32::from(port.number()))])
             }
             ExprForm::Out { port, value } => {
-                let port = Piece::Number("", u32::from(*port));
+                let port = Piece::Number("", u32::from(port.number()));
                 self.node("out", expr, &[port, Piece::Expr(value)])
             }
             _ => Ok(()),
@@ -330,16 +330,10 @@ impl<'a, 'b> Writer<'a, 'b> {
             TypedStmt::Return(Some(value)) => self.begin("return", &[Piece::Expr(value)]),
             TypedStmt::Expr(value) => self.begin("eval", &[Piece::Expr(value)]),
             TypedStmt::Block { declared, body } => self.block(declared, body),
-            TypedStmt::If {
-                test,
-                yes,
-                no: None,
-            } => self.begin("if", &[Piece::Expr(test), Piece::Stmt(yes)]),
-            TypedStmt::If {
-                test,
-                yes,
-                no: Some(no),
-            } => self.begin(
+            TypedStmt::If { test, yes, no } if is_empty(no) => {
+                self.begin("if", &[Piece::Expr(test), Piece::Stmt(yes)])
+            }
+            TypedStmt::If { test, yes, no } => self.begin(
                 "if-else",
                 &[Piece::Expr(test), Piece::Stmt(yes), Piece::Stmt(no)],
             ),
@@ -418,5 +412,13 @@ fn unary_text(op: UnaryOp) -> &'static str {
         UnaryOp::Minus => "-_",
         UnaryOp::Plus => "+_",
         UnaryOp::Complement => "~_",
+    }
+}
+
+// Whether a statement is the block that stands for an absent else.
+fn is_empty(stmt: &TypedStmt) -> bool {
+    match stmt {
+        TypedStmt::Block { declared, body } => declared.is_empty() && body.is_empty(),
+        _ => false,
     }
 }

@@ -1,76 +1,29 @@
--- Temporaries of lists with one more element, and of operators.
-use Rattle.std.proofs.Common.{◌≡◌, ◌≢◌, refl, false, ◌<◌, ◌+◌, max, ◌++◌, ◌∷◌, [], ℕ, List, length, take, get_or, ap, ◌∙◌, sym, subst, Result, IfOk, arith}
+-- Temporaries of arguments, of forms whose parts stand in lists, and of operators.
+use Rattle.std.proofs.Common.{◌≡◌, ◌≢◌, refl, false, ◌+◌, max, ◌++◌, ◌∷◌, [], ℕ, List, length, ap, ◌∙◌, sym, subst, Result, IfOk, arith}
 use Rattle.std.specs.Prelude.{Box}
 use Rattle.std.specs.Global.{Global}
-use Rattle.std.proofs.lemmas.List.{take_more, length-take}
 use Rattle.std.proofs.lemmas.Result.{IfOk-weaker}
 use Rattle.c_tree.specs.declared.typed_expression.TypedExpr.{TypedExpr}
 use Rattle.c_tree.specs.declared.typed_expression.ExprForm as form
 use Rattle.c_tree.specs.declared.typed_expression.ExprForm.{ExprForm}
 use Rattle.c_tree.specs.declared.typed_statement.TypedStmt as stmt
 use Rattle.c_tree.specs.declared.typed_statement.TypedStmt.{TypedStmt}
-use Rattle.c_tree.specs.declared.typed_statement.Choice as choice
 use Rattle.c_tree.specs.declared.typed_statement.Choice.{Choice}
 use Rattle.c_syntax.specs.declared.operator.BinaryOp.{BinaryOp}
 use Rattle.c_syntax.specs.declared.operator.UnaryOp.{UnaryOp}
 use Rattle.c_syntax.specs.declared.operator.UnaryOp.TheVariants.{Minus}
 use Rattle.c_tree.specs.declared.program.VarRef.{VarRef}
-use Rattle.c_tree.specs.TypedTree.{Kind, Node, Choices, no_more, Unary, Binary}
-use Rattle.c_tree.specs.View.{expr_of, form_of, argument_list, stmt_of, statement_list, choice_list, choice_before}
+use Rattle.c_tree.specs.TypedTree.{Kind, Node, Unary, Binary}
+use Rattle.c_tree.specs.View.{expr_of, form_of, argument_list, stmt_of, statement_list, choice_list}
 use Rattle.c_tree.proofs.Views.{typed_call_form, block_of_list, switch_of_list}
 use Rattle.c_tree.specs.Temporaries.{is_constant, is_simple, temporaries, form_temporaries, argument_temporaries, statement_temporaries, statements_temporaries, choices_temporaries}
 
-argument_more : (xs : List TypedExpr) (x : TypedExpr)
+-- the last argument, behind so many that are kept
+pub argument_more : (xs : List TypedExpr) (x : TypedExpr)
     → argument_temporaries (argument_list (xs ++ x ∷ [])) ≡ max (argument_temporaries (argument_list xs)) (length xs + temporaries (expr_of x))
 argument_more [] x = omega arith
 argument_more (y ∷ []) x = omega arith
 argument_more (y ∷ z ∷ zs) x = let further = argument_more (z ∷ zs) x in omega arith
-
--- a turn of the loop over arguments
-pub argument_further : {most next kept : ℕ} (list : List TypedExpr) (i : ℕ) (x : TypedExpr) → x ≡ get_or list i x → i < length list
-    → most ≡ argument_temporaries (argument_list (take i list)) → kept ≡ i → next ≡ max most (kept + temporaries (expr_of x))
-    → next ≡ argument_temporaries (argument_list (take (i + 1) list))
-argument_further list i x is within so_far kept more =
-    let all = ap (λ l. argument_temporaries (argument_list l)) (take_more list i x within)
-    in let one = ap (λ y. argument_temporaries (argument_list (take i list ++ y ∷ []))) is
-    in omega (arith, all, one, argument_more (take i list) x, length-take i list)
-
-statement_more : (xs : List TypedStmt) (x : TypedStmt)
-    → statements_temporaries (statement_list (xs ++ x ∷ [])) ≡ max (statements_temporaries (statement_list xs)) (statement_temporaries (stmt_of x))
-statement_more [] x = omega arith
-statement_more (y ∷ ys) x = let further = statement_more ys x in omega arith
-
--- a turn of the loop over statements
-pub statement_further : {most next : ℕ} (list : List TypedStmt) (i : ℕ) (x : TypedStmt) → x ≡ get_or list i x → i < length list
-    → most ≡ statements_temporaries (statement_list (take i list)) → next ≡ max most (statement_temporaries (stmt_of x))
-    → next ≡ statements_temporaries (statement_list (take (i + 1) list))
-statement_further list i x is within so_far more =
-    let all = ap (λ l. statements_temporaries (statement_list l)) (take_more list i x within)
-    in let one = ap (λ y. statements_temporaries (statement_list (take i list ++ y ∷ []))) is
-    in omega (arith, all, one, statement_more (take i list) x)
-
--- the temporaries of one choice
-abbrev choice_temporaries : Choice → ℕ
-choice_temporaries x = choices_temporaries (choice_before x no_more)
-
-before_others : (x : Choice) (rest : Choices) → choices_temporaries (choice_before x rest) ≡ max (choice_temporaries x) (choices_temporaries rest)
-before_others (choice.Case w) rest = omega arith
-before_others choice.Default rest = omega arith
-before_others (choice.Body s) rest = omega arith
-
-choice_more : (xs : List Choice) (x : Choice)
-    → choices_temporaries (choice_list (xs ++ x ∷ [])) ≡ max (choices_temporaries (choice_list xs)) (choice_temporaries x)
-choice_more [] x = omega arith
-choice_more (y ∷ ys) x = omega (arith, choice_more ys x, before_others y (choice_list (ys ++ x ∷ [])), before_others y (choice_list ys))
-
--- a turn of the loop over choices
-pub choice_further : {most next : ℕ} (list : List Choice) (i : ℕ) (x : Choice) → x ≡ get_or list i x → i < length list
-    → most ≡ choices_temporaries (choice_list (take i list)) → next ≡ max most (choices_temporaries (choice_before x no_more))
-    → next ≡ choices_temporaries (choice_list (take (i + 1) list))
-choice_further list i x is within so_far more =
-    let all = ap (λ l. choices_temporaries (choice_list l)) (take_more list i x within)
-    in let one = ap (λ y. choices_temporaries (choice_list (take i list ++ y ∷ []))) is
-    in omega (arith, all, one, choice_more (take i list) x)
 
 -- a form that is this one, and an expression that is this one
 pub of_shape : {E : Type 0} (r : Result ℕ E) {f g : ExprForm} → f ≡ g → IfOk r (λ n. n ≡ form_temporaries (form_of g)) → IfOk r (λ n. n ≡ form_temporaries (form_of f))

@@ -149,9 +149,7 @@ fn statement(frame: &[VarRef], s: &mut TypedStmt)
         TypedStmt::If { test, yes, no } => {
             expression(frame, test);
             statement(frame, yes);
-            if let Some(no) = no {
-                statement(frame, no);
-            }
+            statement(frame, no);
         }
         TypedStmt::While { test, body } => {
             expression(frame, test);

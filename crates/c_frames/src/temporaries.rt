@@ -228,10 +228,9 @@ fn statement(s: &TypedStmt) -> Result<u32, NoMemory>
         TypedStmt::Expr(e) => expression(e),
         TypedStmt::Return(value) => optional(value),
         TypedStmt::Block { body, .. } => statements(body),
-        TypedStmt::If { test, yes, no } => match no {
-            Some(no) => larger(expression(test), larger(statement(yes), statement(no))),
-            None => larger(expression(test), statement(yes)),
-        },
+        TypedStmt::If { test, yes, no } => {
+            larger(expression(test), larger(statement(yes), statement(no)))
+        }
         TypedStmt::While { test, body } => larger(expression(test), statement(body)),
         TypedStmt::Do { body, test } => larger(statement(body), expression(test)),
         TypedStmt::For {

@@ -1,6 +1,6 @@
 //! What the typed tree of a function uses beside its values: addresses and functions.
 ghost use Rattle.std.specs.Prelude.{◌≡◌, ◌≤◌, ◌++◌, ◌∷◌, [], IfOk};
-ghost use Rattle.c_tree.specs.View.{expr_of, lvalue_of, argument_list, option_expr_of, stmt_of, statement_list, choice_list, else_of, choice_before};
+ghost use Rattle.c_tree.specs.View.{expr_of, lvalue_of, argument_list, option_expr_of, stmt_of, statement_list, choice_list, choice_before};
 ghost use Rattle.c_tree.specs.TypedTree.{no_more};
 ghost use Rattle.c_tree.specs.Uses as uses;
 
@@ -102,10 +102,7 @@ impl Uses {
             TypedStmt::If { test, yes, no } => {
                 self.expression(test)?;
                 self.statement(yes)?;
-                match no {
-                    Some(no) => self.statement(no),
-                    None => Ok(()),
-                }
+                self.statement(no)
             }
             TypedStmt::While { test, body } => {
                 self.expression(test)?;

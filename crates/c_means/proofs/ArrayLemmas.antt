@@ -9,7 +9,8 @@ use Rattle.c_tree.specs.Store as runs
 use Rattle.c_tree.specs.Store.{Res, Gives}
 use Rattle.c_tree.specs.Exec.{Flow, Next, fill, cells_set, set_cells}
 
-object_at : (objects seen : List Object) (o : Object) (n : ℕ) → seen ≡ objects → n < length seen → o ≡ get_or seen n o → slice_get (map object_of objects) n ≡ Some (object_of o)
+-- the tree of a local object
+pub object_at : (objects seen : List Object) (o : Object) (n : ℕ) → seen ≡ objects → n < length seen → o ≡ get_or seen n o → slice_get (map object_of objects) n ≡ Some (object_of o)
 object_at objects seen o n same within read =
     slice_get-map object_of objects n ∙ ap (λ (os : List Object). option_map object_of (slice_get os n)) (sym same) ∙ ap (option_map object_of) (slice_get_read seen (length seen) n o refl within read)
 

@@ -3,6 +3,7 @@ mod BlockLemmas
 mod CallLemmas
 mod LabelLemmas
 mod MainLemmas
+mod RoomLemmas
 mod RunLemmas
 mod Sizes
 mod StepLemmas

@@ -1,6 +1,11 @@
 -- The nodes of expressions and statements, by which an evaluation is seen to end.
-use Rattle.std.proofs.Common.{◌≡◌, ◌≤◌, ◌<◌, ◌∙◌, refl, sym, ap, subst, ℕ, zero, suc, ◌+◌, ◌*◌, max, List, [], ◌∷◌, map, get_or, length, Option, Some, None, arith}
-use Rattle.std.specs.Prelude.{slice_get}
+use Rattle.std.proofs.Common.{◌≡◌, ◌≤◌, ◌<◌, ◌∙◌, sym, ap, subst, ℕ, suc, ◌+◌, ◌*◌, max, List, [], ◌∷◌, map, get_or, length, Option, Some, None, arith}
+use Rattle.std.specs.Prelude.{slice_get, option_map}
+use Rattle.std.proofs.lemmas.Option.{slice_get-map}
+use Rattle.pass_laws.proofs.Members.{member_got}
+use Rattle.pass_laws.proofs.Arguments.{argument_within}
+use Rattle.pass_laws.proofs.Statements.{statement_within}
+use Rattle.pass_laws.proofs.Choices.{choice_within}
 use Rattle.c_tree.specs.declared.program.Program.{Program}
 use Rattle.c_tree.specs.declared.program.Function.{Function}
 use Rattle.c_tree.specs.declared.typed_expression.TypedExpr.{TypedExpr}
@@ -10,7 +15,7 @@ use Rattle.c_tree.specs.declared.typed_statement.Choice as choice
 use Rattle.c_tree.specs.TypedTree as tree
 use Rattle.c_tree.specs.TypedTree.{Expr, Node, Lvalue, Named, At, Form, Exprs, Stmt, Stmts, Choices, FunctionTree}
 use Rattle.c_tree.specs.ProgramView.{program_of}
-use Rattle.c_tree.specs.View.{function_of, expr_of, argument_list, stmt_of, statement_list, choice_list, choice_before}
+use Rattle.c_tree.specs.View.{function_of, expr_of, argument_list, stmt_of, statement_list, choice_list}
 use Rattle.c_means.specs.declared.frame.Run.{Run}
 
 abbrev mutual
@@ -86,21 +91,15 @@ room p = 16 * largest (program_of p).functions + 32
 pub below : Run → ℕ
 below r = r.depth * room r.program.now
 
--- a body that is called is within the room of a call
 pub get_mapped : {A B : Type 0} (f : A → B) (xs : List A) (k : ℕ) (x : A) → slice_get xs k ≡ Some x → slice_get (map f xs) k ≡ Some (f x)
-get_mapped f [] k x at = absurd (cc at)
-get_mapped f (y ∷ xs) zero x at = let same : y ≡ x = cc at in ap (λ z. Some (f z)) same
-get_mapped f (y ∷ xs) (suc k) x at = get_mapped f xs k x at
+get_mapped f xs k x at = slice_get-map f xs k ∙ ap (option_map f) at
 
 pub get_missing : {A B : Type 0} (f : A → B) (xs : List A) (k : ℕ) → slice_get xs k ≡ None → slice_get (map f xs) k ≡ None
-get_missing f [] k at = refl
-get_missing f (y ∷ xs) zero at = absurd (cc at)
-get_missing f (y ∷ xs) (suc k) at = get_missing f xs k at
+get_missing f xs k at = slice_get-map f xs k ∙ ap (option_map f) at
 
+-- a body that is called is within the room of a call
 within : (fs : List FunctionTree) (k : ℕ) (f : FunctionTree) → slice_get fs k ≡ Some f → statement_nodes f.body ≤ largest fs
-within [] k f at = absurd (cc at)
-within (x ∷ fs) zero f at = let same : x ≡ f = cc at in subst (λ y. statement_nodes y.body ≤ max (statement_nodes x.body) (largest fs)) same (omega arith)
-within (x ∷ fs) (suc k) f at = let rest = within fs k f at in omega (arith, rest)
+within = member_got (λ f. statement_nodes f.body) largest (λ f fs. (omega arith, omega arith))
 
 fits : (p : Program) (k : ℕ) (f : Function) → slice_get p.functions k ≡ Some f → 16 * statement_nodes (stmt_of f.body) + 1 < room p
 unfolding room
@@ -120,26 +119,10 @@ body_falls r next k t same deep at now =
 
 -- an argument, a statement and a choice are within their lists
 pub argument_in : (es : List TypedExpr) (k : ℕ) (e : TypedExpr) → e ≡ get_or es k e → k < length es → nodes (expr_of e) ≤ argument_nodes (argument_list es)
-argument_in [] k e at less = absurd (omega (arith, less))
-argument_in (x ∷ es) zero e at less = subst (λ y. nodes (expr_of y) ≤ nodes (expr_of x) + argument_nodes (argument_list es)) (sym at) (omega arith)
-argument_in (x ∷ es) (suc k) e at less = let rest = argument_in es k e at (omega (arith, less)) in omega (arith, rest)
+argument_in = argument_within nodes argument_nodes (λ e rest. (omega arith, omega arith))
 
 pub statement_in : (ss : List TypedStmt) (k : ℕ) (s : TypedStmt) → s ≡ get_or ss k s → k < length ss → statement_nodes (stmt_of s) ≤ body_nodes (statement_list ss)
-statement_in [] k s at less = absurd (omega (arith, less))
-statement_in (x ∷ ss) zero s at less = subst (λ y. statement_nodes (stmt_of y) ≤ statement_nodes (stmt_of x) + body_nodes (statement_list ss)) (sym at) (omega arith)
-statement_in (x ∷ ss) (suc k) s at less = let rest = statement_in ss k s at (omega (arith, less)) in omega (arith, rest)
-
-choice_before_in : (c : Choice) (s : TypedStmt) (rest : Choices) → c ≡ choice.Body s → statement_nodes (stmt_of s) ≤ choice_nodes (choice_before c rest)
-choice_before_in c s rest is = subst (λ d. statement_nodes (stmt_of s) ≤ choice_nodes (choice_before d rest)) (sym is) (omega arith)
-
-choice_behind : (c : Choice) (rest : Choices) → choice_nodes rest ≤ choice_nodes (choice_before c rest)
-choice_behind (choice.Case w) rest = omega arith
-choice_behind choice.Default rest = omega arith
-choice_behind (choice.Body s) rest = omega arith
+statement_in = statement_within statement_nodes body_nodes (λ s rest. (omega arith, omega arith))
 
 pub choice_in : (cs : List Choice) (k : ℕ) (c : Choice) (s : TypedStmt) → c ≡ get_or cs k c → c ≡ choice.Body s → k < length cs → statement_nodes (stmt_of s) ≤ choice_nodes (choice_list cs)
-choice_in [] k c s at is less = absurd (omega (arith, less))
-choice_in (x ∷ cs) zero c s at is less = choice_before_in x s (choice_list cs) (sym at ∙ is)
-choice_in (x ∷ cs) (suc k) c s at is less =
-    let rest = choice_in cs k c s at is (omega (arith, less)) in
-    let behind = choice_behind x (choice_list cs) in omega (arith, rest, behind)
+choice_in = choice_within statement_nodes choice_nodes (λ w rest. omega arith) (λ rest. omega arith) (λ s rest. (omega arith, omega arith))

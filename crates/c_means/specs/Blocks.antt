@@ -1,5 +1,5 @@
 -- The names and objects of a block while it's open, and how its statements are left.
-use Rattle.std.specs.Prelude.{ℕ, List, [], ◌∷◌, map, Option, Some, None}
+use Rattle.std.specs.Prelude.{ℕ, List, [], ◌∷◌, Option, Some, None}
 use Rattle.c_tree.specs.Store.{Obj}
 use Rattle.c_tree.specs.Eval.{Env}
 use Rattle.c_tree.specs.Exec as runs
@@ -7,7 +7,7 @@ use Rattle.c_means.specs.declared.blocks.Opened.{Opened}
 use Rattle.c_means.specs.declared.blocks.Fresh.{Fresh}
 use Rattle.c_means.specs.declared.blocks.Flow.{Flow}
 use Rattle.c_means.specs.declared.blocks.Flow.TheVariants as flows
-use Rattle.c_state.specs.Values.{cell_view, option_of}
+use Rattle.c_state.specs.Values.{option_of}
 
 -- the numbers of the objects of a block, in order of declaration
 abbrev pub numbers_of : List Opened → List ℕ
@@ -21,7 +21,7 @@ put_back env (o ∷ os) = runs.named (put_back env os) o.reference o.before.numb
 
 abbrev pub fresh_of : Option Fresh → Option Obj
 fresh_of None = None
-fresh_of (Some f) = Some (record { cells = map cell_view f.cells.items; kind = f.kind })
+fresh_of (Some f) = Some (record { cells = f.cells; kind = f.kind })
 
 abbrev pub flow_of : Flow → runs.Flow
 flow_of flows.Next = runs.Next

@@ -11,7 +11,7 @@ ghost use Rattle.c_state.specs.Values.{value_of, option_of};
 ghost use Rattle.c_state.specs.Worlds.{world_of};
 
 use crate::frame::Run;
-use c_state::{Cell, Name, Names, State, Value, listed, unset};
+use c_state::{Cells, Name, Names, State, Value};
 use c_tree::{Function, ScalarType, VarRef};
 use std::alloc::Global;
 use word_base::NoMemory;
@@ -72,7 +72,7 @@ pub(crate) struct Opened {
 #[derive(Drop)]
 struct Fresh {
     kind: ScalarType,
-    cells: Vec<Cell>,
+    cells: Cells,
 }
 
 // The object of a name, none of whose cells was written.
@@ -83,14 +83,14 @@ fn object_of(alloc: Global, f: &Function, reference: VarRef) -> Result<Option<Fr
         VarRef::Scalar(n) => match f.scalars.as_slice().get(usize::from(n)) {
             Some(kind) => Ok(Some(Fresh {
                 kind: *kind,
-                cells: unset(alloc, 1)?,
+                cells: Cells::unset(alloc, 1)?,
             })),
             None => Ok(None),
         },
         VarRef::Local(n) => match f.locals.as_slice().get(n as usize) {
             Some(object) => Ok(Some(Fresh {
                 kind: object.kind,
-                cells: unset(alloc, object.length)?,
+                cells: Cells::unset(alloc, object.length)?,
             })),
             None => Ok(None),
         },
@@ -169,7 +169,7 @@ pub(crate) fn fill(state: &mut State, run: &Run, names: &Names, number: u32) -> 
     ensures { OnOk result (exec.fill (slice_get (env_in run.now names.now).function.locals number) ((env_in run.now names.now).local number) (world_of state.old) ≡ Gives exec.Next (world_of state.new)) }
 {
     if let Some(object) = run.function.locals.as_slice().get(number as usize) {
-        let cells = listed(run.alloc, object)?;
+        let cells = Cells::listed(run.alloc, object)?;
         state.store.fill(names.find(VarRef::Local(number)), cells);
     }
     Ok(())

@@ -13,7 +13,7 @@ use crate::frame::Run;
 use crate::statements::body;
 use c_state::{Names, Operand, Spot, State, Stop, Value, undefined};
 use c_syntax::{BinaryOp, UnaryOp};
-use c_tree::{ExprForm, ScalarType, Target, TargetForm, TypedExpr, VarRef, points, truth};
+use c_tree::{ExprForm, Port, ScalarType, Target, TargetForm, TypedExpr, VarRef, points, truth};
 use word_base::UndefinedKind;
 
 // A constant, which is null where its type is a pointer's.
@@ -428,7 +428,7 @@ fn output(
     state: &mut State,
     run: &Run,
     names: &Names,
-    port: u8,
+    port: Port,
     value: &TypedExpr,
     at: u32,
 ) -> Result<Option<Value>, Stop>
@@ -532,9 +532,11 @@ fn called(
         Some(function) => body(
             state,
             &Run {
+                alloc: run.alloc,
+                program: run.program,
                 function,
+                turns: run.turns,
                 depth,
-                ..*run
             },
             arguments,
         ),

@@ -1,4 +1,8 @@
 //! What a function's body runs with.
+ghost use Rattle.std.specs.Prelude.{map, All};
+ghost use Rattle.c_state.specs.Fills.{HasRoom};
+ghost use Rattle.c_tree.specs.View.{object_of};
+
 use c_tree::{Function, Program};
 use std::alloc::Global;
 
@@ -12,4 +16,6 @@ pub(crate) struct Run<'a> {
     pub(crate) turns: u32,
     /// How deep calls may still be nested.
     pub(crate) depth: usize,
+    /// Its local arrays have room for their lists.
+    ghost room: { ∥ All HasRoom (map object_of function.now.locals) ∥₁ },
 }

@@ -1,5 +1,5 @@
 //! The run of a program: ISO 9899:1990 5.1.2.1.
-ghost use Rattle.std.specs.Prelude.{◌≡◌, IfOk, map, option_map};
+ghost use Rattle.std.specs.Prelude.{◌≡◌, All, IfOk, map, option_map};
 ghost use Rattle.std.specs.Str.{bytes_eq};
 ghost use Rattle.word_base.specs.Ports.{input_of};
 ghost use Rattle.c_tree.specs.ProgramView.{program_of};
@@ -7,20 +7,20 @@ ghost use Rattle.c_tree.specs.View.{function_of, object_of};
 ghost use Rattle.c_tree.specs.SourceRun as calls;
 ghost use Rattle.c_tree.specs.SourceRun.{source_run};
 ghost use Rattle.c_means.specs.Runs.{IsOutcome, main_run, statics_of};
+ghost use Rattle.c_state.specs.Fills.{HasRoom};
 ghost use Rattle.c_state.specs.Stores.{store_of};
 ghost use Rattle.c_state.specs.Values.{option_of};
 ghost use Rattle.c_state.specs.Worlds.{world_of, ComesTo};
 
 use crate::frame::Run;
 use crate::statements::body;
-use c_state::{Inputs, State, Stop, Store, Value, listed};
+use c_state::{Cells, Inputs, State, Stop, Store, Value};
 use c_tree::{Function, Object, Program};
 use std::alloc::Global;
 use word_base::{Ending, NoMemory, Outcome, Outs, PortWord, Ports};
 
 /// What a program does on an input, where each execution of each loop makes at most so many turns: a run that would begin a turn past
-/// that number goes on. It yields to want of memory, also where an output goes to a port from 16 on or a pointer past cell 65,535,
-/// which no source has.
+/// that number goes on. It fails where an allocation fails, and where 2^64 objects are made.
 pub fn evaluate(
     alloc: Global,
     program: &Program,
@@ -47,11 +47,12 @@ fn start(alloc: Global, program: &Program, ports: &Ports) -> Result<State, NoMem
 
 // The static objects at the start of a run.
 fn statics(alloc: Global, objects: &[Object]) -> Result<Store, NoMemory>
+    requires { All (λ o. HasRoom (object_of o)) objects.now }
     ensures { IfOk result (λ store. store_of store ≡ statics_of (map object_of objects.now)) }
 {
     let mut store = Store::new(alloc);
     for object in objects {
-        let cells = listed(alloc, object)?;
+        let cells = Cells::listed(alloc, object)?;
         store.make(object.kind, cells)?;
     }
     Ok(store)

@@ -50,11 +50,9 @@ fn statement(state: &mut State, run: &Run, names: &mut Names, s: &TypedStmt) -> 
         }
         TypedStmt::If { test, yes, no } => {
             if condition(state, run, names, test)? {
-                return statement(state, run, names, yes);
-            }
-            match no {
-                Some(no) => statement(state, run, names, no),
-                None => Ok(Flow::Next),
+                statement(state, run, names, yes)
+            } else {
+                statement(state, run, names, no)
             }
         }
         TypedStmt::While { test, body } => while_loop(state, run, names, test, body),

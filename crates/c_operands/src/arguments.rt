@@ -13,7 +13,7 @@ ghost use Rattle.c_rules.specs.declared.fault.Rule.TheVariants as rule;
 
 use c_conversions::{INT, Operand, class_of, given, in_box};
 use c_rules::{Class, Refusal, Rule, mismatch};
-use c_tree::{ExprForm, ScalarType, TypedExpr};
+use c_tree::{ExprForm, Port, ScalarType, TypedExpr};
 use std::alloc::Global;
 
 /// Another number of arguments than a call takes.
@@ -45,7 +45,7 @@ pub fn input(at: u32, class: Class, port: u16, xs: &[Operand]) -> Result<TypedEx
 }
 
 // The word of a port, with nothing behind the port.
-fn received(at: u32, port: u8, xs: &[Operand]) -> Result<TypedExpr, Refusal>
+fn received(at: u32, port: Port, xs: &[Operand]) -> Result<TypedExpr, Refusal>
     ensures { Follows expr_of (rules.no_more at (map operand_of xs.now) (Is (Node (In port) (Some int) at))) result }
 {
     if !xs.is_empty() {
@@ -85,8 +85,8 @@ fn is_word_first(xs: &[Operand]) -> bool
     }
 }
 
-// The number of a port, of which there are 16.
-fn port_number(at: u32, port: u16) -> Result<u8, Refusal>
+// The port of a number, of which there are 16.
+fn port_number(at: u32, port: u16) -> Result<Port, Refusal>
     ensures number { IfOk result (λ p. p ≡ port) }
     ensures low { IfOk result (λ _. nat_lt 15 port ≡ false) }
     ensures high { IfErr result (λ _. nat_lt 15 port ≡ true) }
@@ -98,11 +98,11 @@ fn port_number(at: u32, port: u16) -> Result<u8, Refusal>
             at,
         });
     }
-    Ok(port as u8)
+    Ok(Port::new(port as u8))
 }
 
 // The one word that goes to a port.
-fn sent(alloc: Global, at: u32, port: u8, xs: Vec<Operand>) -> Result<TypedExpr, Refusal>
+fn sent(alloc: Global, at: u32, port: Port, xs: Vec<Operand>) -> Result<TypedExpr, Refusal>
     ensures { Follows expr_of (rules.sent at port (map operand_of xs.items)) result }
 {
     match only(xs) {
@@ -119,7 +119,7 @@ fn only(mut xs: Vec<Operand>) -> Option<Operand>
     if xs.len() == 1 { xs.pop() } else { None }
 }
 
-fn sent_word(alloc: Global, at: u32, port: u8, word: Operand) -> Result<TypedExpr, Refusal>
+fn sent_word(alloc: Global, at: u32, port: Port, word: Operand) -> Result<TypedExpr, Refusal>
     ensures typed { IfOk result (λ e. expr_of e ≡ Node (Out port (expr_of word.value)) None at) }
     ensures memory { IfErr result (λ f. f ≡ refusals.NoMemory) }
 {

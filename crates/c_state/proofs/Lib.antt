@@ -1,5 +1,5 @@
 mod AnswerLemmas
-mod FillLemmas
+mod CellLemmas
 mod InputLemmas
 mod NameLemmas
 mod ObjectLemmas

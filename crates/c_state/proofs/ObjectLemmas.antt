@@ -5,8 +5,7 @@ use Rattle.std.specs.List.{remove, AllWithin, HoldsAt}
 use Rattle.std.proofs.lemmas.Bool.{eqb-true, cases_eq}
 use Rattle.std.proofs.lemmas.Option.{slice_get-get_or, slice_get_read, slice_get_within, same_Some}
 use Rattle.c_state.specs.declared.value.Living.{Living}
-use Rattle.c_state.specs.Values.{living_object}
-use Rattle.c_state.specs.Objects.{living_of, AreNumbered, IsFound}
+use Rattle.c_state.specs.Objects.{living_object, living_of, AreNumbered, IsFound}
 
 -- none of the objects has a number
 none_has : (os : List Living) (k : ℕ) → AllWithin (λ o. o.number ≡ k → ⊥) os 0 (length os) → living_of os k ≡ None

@@ -1,18 +1,12 @@
 -- The objects of numbers as functions, where one is found, ends, is changed or is made.
-use Rattle.std.proofs.Common.{◌≡◌, ℕ, suc, Bool, true, false, not, cond, List, [], ◌∷◌, ◌++◌, length, set, map, Option, Some, None, refl, sym, ap, ◌∙◌}
-use Rattle.std.specs.Prelude.{◌==◌, ◌≤◌, nat_lt, if◌then◌else◌, slice_get, option_map}
+use Rattle.std.proofs.Common.{◌≡◌, ℕ, suc, Bool, true, false, not, cond, List, [], ◌∷◌, ◌++◌, set, Option, Some, None, refl, sym, ap, ◌∙◌}
+use Rattle.std.specs.Prelude.{◌==◌, nat_lt, if◌then◌else◌, slice_get, slice_set}
 use mathlib.Core.Bool.{beq}
-use Rattle.std.proofs.lemmas.Option.{slice_get-map}
 use Rattle.std.specs.List.{remove}
-use Rattle.std.proofs.lemmas.List.{map-set, length-map, set_past}
 use mathlib.Core.Path.{fun_ext}
 use Rattle.c_tree.specs.Store as runs
 use Rattle.c_state.specs.declared.value.Living.{Living}
-use Rattle.c_state.specs.declared.value.Value.{Value}
-use Rattle.c_state.specs.declared.value.Cell.{Cell}
-use Rattle.c_state.specs.declared.value.Cell.TheVariants as cells
-use Rattle.c_state.specs.Values.{living_object, cell_view, option_cell_of, value_of}
-use Rattle.c_state.specs.Objects.{living_of, AreNumbered}
+use Rattle.c_state.specs.Objects.{living_object, living_of, AreNumbered}
 use Rattle.c_state.proofs.ObjectLemmas.{found_at, without, changed, added}
 
 -- the object that is found
@@ -42,19 +36,12 @@ pub with_one : (os : List Living) (o : Living) → AreNumbered 0 o.number os
     → living_of (os ++ o ∷ []) ≡ (λ k. if k == o.number then Some (living_object o) else living_of os k)
 with_one os o numbered = fun_ext (added os 0 o numbered)
 
--- a value goes into one of its cells
-pub holding : (os : List Living) (made number place : ℕ) (o : Living) (i : ℕ) (v : Value) → AreNumbered 0 made os → slice_get os place ≡ Some o → o.number ≡ number
-    → Some (record { cells = map cell_view (set o.cells.items i (cells.Holds v)); kind = o.kind }) ≡ runs.with_cell (living_of os number) i (value_of v)
-holding os made number place o i v numbered at is =
-    ap (λ (l : List runs.Cell). Some (record { cells = l; kind = o.kind })) (map-set cell_view o.cells.items i (cells.Holds v))
-    ∙ ap (λ x. runs.with_cell x i (value_of v)) (sym (there os made number place o numbered at is))
-
--- a value goes to a cell that it hasn't
-pub not_holding : (os : List Living) (made number place : ℕ) (o : Living) (i : ℕ) (v : Value) → AreNumbered 0 made os → slice_get os place ≡ Some o → o.number ≡ number
-    → length o.cells.items ≤ i → Some (living_object o) ≡ runs.with_cell (living_of os number) i (value_of v)
-not_holding os made number place o i v numbered at is past =
-    ap (λ (l : List runs.Cell). Some (record { cells = l; kind = o.kind })) (sym (set_past (map cell_view o.cells.items) i (runs.Holds (value_of v)) (rw length-map past)))
-    ∙ ap (λ x. runs.with_cell x i (value_of v)) (sym (there os made number place o numbered at is))
+-- its cells change, and its kind stays
+pub holding : (os : List Living) (made number place : ℕ) (o : Living) (i : ℕ) (v : runs.Value) (cells : List runs.Cell) → AreNumbered 0 made os → slice_get os place ≡ Some o → o.number ≡ number
+    → cells ≡ slice_set o.cells i (runs.Holds v) → Some (record { cells = cells; kind = o.kind }) ≡ runs.with_cell (living_of os number) i v
+holding os made number place o i v cells numbered at is written =
+    ap (λ (l : List runs.Cell). Some (record { cells = l; kind = o.kind })) written
+    ∙ ap (λ x. runs.with_cell x i v) (sym (there os made number place o numbered at is))
 
 -- the store with a new object
 pub made_store : (os after : List Living) (made : ℕ) (o : Living) → AreNumbered 0 o.number os → after ≡ os ++ o ∷ [] → made ≡ suc o.number
@@ -75,19 +62,14 @@ kind_agrees true false test = absurd (cc test)
 kind_agrees false true test = absurd (cc test)
 kind_agrees false false test = refl
 
-option_cell_is : (r : Option Cell) → option_cell_of r ≡ option_map cell_view r
-option_cell_is None = refl
-option_cell_is (Some x) = refl
-
 -- an object of the other kind has no cell
 pub cell_refused : (o : Living) (i : ℕ) (wanted : Bool) → not (beq (nat_lt 0 o.kind.stars) wanted) ≡ true
     → None ≡ runs.cell_of (Some (living_object o)) i wanted
 cell_refused o i wanted test =
-    ap (λ b. cond b (slice_get (map cell_view o.cells.items) i) None) (sym (kind_differs _ _ test))
+    ap (λ b. cond b (slice_get o.cells i) None) (sym (kind_differs _ _ test))
 
 -- one of the wanted kind has its cells
-pub cell_given : (o : Living) (i : ℕ) (wanted : Bool) (r : Option Cell) → not (beq (nat_lt 0 o.kind.stars) wanted) ≡ false
-    → r ≡ slice_get o.cells.items i → option_cell_of r ≡ runs.cell_of (Some (living_object o)) i wanted
+pub cell_given : (o : Living) (i : ℕ) (wanted : Bool) (r : Option runs.Cell) → not (beq (nat_lt 0 o.kind.stars) wanted) ≡ false
+    → r ≡ slice_get o.cells i → r ≡ runs.cell_of (Some (living_object o)) i wanted
 cell_given o i wanted r test is =
-    option_cell_is r ∙ ap (option_map cell_view) is ∙ sym (slice_get-map cell_view o.cells.items i)
-    ∙ ap (λ b. cond b (slice_get (map cell_view o.cells.items) i) None) (sym (kind_agrees _ _ test))
+    is ∙ ap (λ b. cond b (slice_get o.cells i) None) (sym (kind_agrees _ _ test))

@@ -3,7 +3,9 @@ use Rattle.std.specs.Prelude.{◌≡◌, ◌≤◌, ℕ, suc, ◌==◌, if◌the
 use Rattle.std.specs.Coded.{×_prop, le_prop}
 use Rattle.c_tree.specs.Store as runs
 use Rattle.c_state.specs.declared.value.Living.{Living}
-use Rattle.c_state.specs.Values.{living_object}
+
+abbrev pub living_object : Living → runs.Obj
+living_object o = record { cells = o.cells; kind = o.kind }
 
 -- the object of a number
 abbrev pub living_of : List Living → ℕ → Option runs.Obj

@@ -1,11 +1,10 @@
 -- Values, cells and objects, as the definition of runs has them.
-use Rattle.std.specs.Prelude.{map, Option, Some, None}
+use Rattle.std.specs.Prelude.{Option, Some, None}
 use Rattle.c_tree.specs.Store as runs
 use Rattle.c_state.specs.declared.value.Value.{Value}
 use Rattle.c_state.specs.declared.value.Value.TheVariants as values
 use Rattle.c_state.specs.declared.value.Cell.{Cell}
 use Rattle.c_state.specs.declared.value.Cell.TheVariants as cells
-use Rattle.c_state.specs.declared.value.Living.{Living}
 
 abbrev pub value_of : Value → runs.Value
 value_of (values.Word w) = runs.Word w
@@ -23,6 +22,3 @@ cell_view (cells.Holds v) = runs.Holds (value_of v)
 abbrev pub option_cell_of : Option Cell → Option runs.Cell
 option_cell_of None = None
 option_cell_of (Some c) = Some (cell_view c)
-
-abbrev pub living_object : Living → runs.Obj
-living_object o = record { cells = map cell_view o.cells.items; kind = o.kind }

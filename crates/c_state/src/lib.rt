@@ -4,7 +4,7 @@
 //! statement is known here.
 #![tactic(auto)]
 
-mod fills;
+mod cells;
 mod inputs;
 mod names;
 mod operators;
@@ -12,10 +12,10 @@ mod state;
 mod store;
 mod value;
 
-pub use fills::{listed, unset};
+pub use cells::Cells;
 pub use inputs::Inputs;
 pub use names::Names;
 pub use operators::Operand;
 pub use state::State;
 pub use store::Store;
-pub use value::{Cell, Name, Spot, Stop, Value, undefined};
+pub use value::{Name, Spot, Stop, Value, undefined};

@@ -51,8 +51,8 @@ impl Names {
         ensures { OnOk result ((f : FunctionTree) → env_of f self.new ≡ named (env_of f self.old) reference object.number) }
     {
         match reference {
-            VarRef::Scalar(n) => put(&mut self.scalars, usize::from(n), object),
-            VarRef::Local(n) => put(&mut self.locals, n as usize, object),
+            VarRef::Scalar(n) => put(&mut self.scalars, u32::from(n), object),
+            VarRef::Local(n) => put(&mut self.locals, n, object),
             VarRef::Static(_) => Ok(()),
         }
     }
@@ -77,10 +77,11 @@ fn name_at(names: &[Name], n: usize) -> Name
     }
 }
 
-fn put(names: &mut Vec<Name>, n: usize, object: Name) -> Result<(), NoMemory>
-    ensures { OnOk result (numbers_in names.new.items ≡ (λ k. if k == n then object.number else numbers_in names.old.items k)) }
+fn put(names: &mut Vec<Name>, number: u32, object: Name) -> Result<(), NoMemory>
+    ensures { OnOk result (numbers_in names.new.items ≡ (λ k. if k == number then object.number else numbers_in names.old.items k)) }
 {
-    lengthen(names, n.checked_add(1).ok_or(NoMemory)?)?;
+    let n = number as usize;
+    lengthen(names, n + 1)?;
     names[n] = object;
     Ok(())
 }

@@ -44,10 +44,10 @@ fn negated(kind: Option<ScalarType>, word: u16) -> i32
 }
 
 // An index, where it is from 0 to a length.
-fn index_in(length: usize, place: i32) -> Option<usize>
+fn index_in(length: u16, place: i32) -> Option<u16>
     ensures { result ≡ operands.index_in length place }
 {
-    let index = usize::try_from(place).ok()?;
+    let index = u16::try_from(place).ok()?;
     if length < index { None } else { Some(index) }
 }
 
@@ -84,7 +84,7 @@ impl State {
         }
     }
 
-    // A pointer moved by a number of cells. It yields to want of memory at an index of 65,536, which no object has.
+    // A pointer moved by a number of cells.
     fn moved(&self, spot: Spot, by: i32, at: u32) -> Result<Value, Stop>
         requires low { negsuc 65535 ≤ℤ by }
         requires high { by ≤ℤ pos 65536 }
@@ -96,7 +96,6 @@ impl State {
         let Some(index) = index_in(length, i32::from(spot.index) + by) else {
             return Err(bad_pointer(at));
         };
-        let index = u16::try_from(index).map_err(|_| Stop::NoMemory)?;
         Ok(Value::Pointer(Spot {
             object: spot.object,
             index,

@@ -8,7 +8,7 @@ ghost use Rattle.c_state.specs.Worlds.{world_of, ComesTo};
 use crate::inputs::Inputs;
 use crate::store::Store;
 use crate::value::{Cell, Spot, Stop, Value, bad_pointer, undefined};
-use c_tree::{ScalarType, points};
+use c_tree::{Port, ScalarType, points};
 use word_base::{Ending, PortWord, UndefinedKind};
 
 /// The objects, the input that is left, and the outputs so far, in their order.
@@ -53,26 +53,23 @@ impl State {
     }
 
     /// The next word of a port, or the end of the run.
-    pub fn take(&mut self, port: u8) -> Result<Value, Stop>
+    pub fn take(&mut self, port: Port) -> Result<Value, Stop>
         ensures { ComesTo value_of (runs.take_word port (world_of self.old)) self.new result }
     {
-        match self.inputs.take(port) {
+        match self.inputs.take(port.number()) {
             Some(word) => Ok(Value::Word(word)),
-            None => Err(Stop::Ended(Ending::InputEnded(port))),
+            None => Err(Stop::Ended(Ending::InputEnded(port.number()))),
         }
     }
 
-    /// A word goes out. It yields to want of memory at a port from 16 on, which no source has.
-    pub fn emit(&mut self, port: u8, value: Value, at: u32) -> Result<(), Stop>
+    /// A word goes out.
+    pub fn emit(&mut self, port: Port, value: Value, at: u32) -> Result<(), Stop>
         ensures { ComesTo (λ _. None) (eval.emit port (value_of value) at (world_of self.old)) self.new result }
     {
         let Value::Word(word) = value else {
             return Err(bad_pointer(at));
         };
-        if port >= 16 {
-            return Err(Stop::NoMemory);
-        }
-        self.outs.push(PortWord::new(port, word))?;
+        self.outs.push(PortWord::new(port.number(), word))?;
         Ok(())
     }
 }

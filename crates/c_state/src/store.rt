@@ -1,8 +1,9 @@
 //! The objects of a run: ISO 9899:1990 6.1.2.4. Objects of blocks live one within another, so the living ones stand on a stack.
-ghost use Rattle.std.specs.Prelude.{◌≡◌, [], length, map, IfOk, OnOk, MatchOption, option_map, None};
+ghost use Rattle.std.specs.Prelude.{◌≡◌, [], length, IfOk, OnOk, MatchOption, option_map, None};
 ghost use Rattle.c_state.specs.Objects.{AreNumbered, AreNumbered-prop, living_of, IsFound};
-ghost use Rattle.c_state.specs.Values.{cell_view, option_cell_of, value_of};
+ghost use Rattle.c_state.specs.Values.{option_cell_of, value_of};
 
+use crate::cells::Cells;
 use crate::value::{Cell, Living, Name, Value};
 use c_tree::ScalarType;
 use std::alloc::Global;
@@ -32,9 +33,9 @@ impl Store {
         }
     }
 
-    /// A new object of a type with these cells.
-    pub fn make(&mut self, kind: ScalarType, cells: Vec<Cell>) -> Result<Name, NoMemory>
-        ensures made { OnOk result (store_of self.new ≡ runs.with_new (record { cells = map cell_view cells.items; kind = kind }) (store_of self.old)) }
+    /// A new object of a type with these cells. It fails where an allocation fails, and where 2^64 - 1 objects were made.
+    pub fn make(&mut self, kind: ScalarType, cells: Cells) -> Result<Name, NoMemory>
+        ensures made { OnOk result (store_of self.new ≡ runs.with_new (record { cells = cells; kind = kind }) (store_of self.old)) }
         ensures number { IfOk result (λ name. name.number ≡ (store_of self.old).made) }
     {
         let name = Name {
@@ -61,11 +62,11 @@ impl Store {
     }
 
     /// How many cells an object has, while it lives.
-    pub(crate) fn length(&self, object: Name) -> Option<usize>
+    pub(crate) fn length(&self, object: Name) -> Option<u16>
         ensures { result ≡ option_map (λ o. length o.cells) ((store_of self.now).living object.number) }
     {
         let place = find(&self.objects, object)?;
-        Some(self.objects[place].cells.len())
+        Some(self.objects[place].cells.count())
     }
 
     /// A cell of an object that lives and is of the wanted kind.
@@ -77,7 +78,7 @@ impl Store {
         if (living.kind.stars > 0) != is_pointer {
             return None;
         }
-        living.cells.get(usize::from(index)).copied()
+        living.cells.get(index)
     }
 
     /// A value goes into a cell, where the object lives and has it.
@@ -85,15 +86,13 @@ impl Store {
         ensures { store_of self.new ≡ runs.with_object object.number (runs.with_cell ((store_of self.old).living object.number) index (value_of value)) (store_of self.old) }
     {
         if let Some(place) = find(&self.objects, object) {
-            if let Some(cell) = self.objects[place].cells.get_mut(usize::from(index)) {
-                *cell = Cell::Holds(value);
-            }
+            self.objects[place].cells.set(index, value);
         }
     }
 
     /// An object gets these cells, where it lives.
-    pub fn fill(&mut self, object: Name, cells: Vec<Cell>)
-        ensures { store_of self.new ≡ runs.with_object object.number (cells_set ((store_of self.old).living object.number) (map cell_view cells.items)) (store_of self.old) }
+    pub fn fill(&mut self, object: Name, cells: Cells)
+        ensures { store_of self.new ≡ runs.with_object object.number (cells_set ((store_of self.old).living object.number) cells) (store_of self.old) }
     {
         if let Some(place) = find(&self.objects, object) {
             self.objects[place].cells = cells;

@@ -5,6 +5,7 @@ ghost use Rattle.c_tree.specs.Exec as exec;
 ghost use Rattle.c_state.specs.Values.{value_of};
 ghost use Rattle.c_state.specs.declared.value.Stop.TheVariants as stops;
 
+use crate::cells::Cells;
 use c_tree::ScalarType;
 use std::alloc::{AllocError, AllocFailed};
 use word_base::{Ending, NoMemory, UndefinedKind};
@@ -57,7 +58,7 @@ pub struct Spot {
 pub(crate) struct Living {
     pub(crate) number: u64,
     pub(crate) kind: ScalarType,
-    pub(crate) cells: Vec<Cell>,
+    pub(crate) cells: Cells,
 }
 
 /// Why a part of a run gives no value.

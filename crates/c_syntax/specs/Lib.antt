@@ -13,3 +13,5 @@ pub mod Counts
 pub mod Source
 pub mod SyntaxView
 pub mod FunctionNames
+pub mod Values
+pub mod Characters

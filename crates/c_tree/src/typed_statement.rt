@@ -28,10 +28,11 @@ pub enum TypedStmt {
     Fill(u32),
     /// An expression whose value isn't used.
     Expr(TypedExpr),
+    /// An absent else is an empty statement.
     If {
         test: TypedExpr,
         yes: Box<TypedStmt>,
-        no: Option<Box<TypedStmt>>,
+        no: Box<TypedStmt>,
     },
     While {
         test: TypedExpr,

@@ -6,7 +6,7 @@ use Rattle.c_tree.specs.declared.program.VarRef.{VarRef}
 use Rattle.c_syntax.specs.declared.unit.External.{External}
 use Rattle.c_syntax.specs.SyntaxTree.{UnitTree}
 use Rattle.c_syntax.specs.SyntaxView.{unit_of}
-use Rattle.c_tree.specs.TypedTree.{FunctionTree, ProgramTree}
+use Rattle.c_tree.specs.TypedTree.{ObjectTree, FunctionTree, ProgramTree}
 use Rattle.c_rules.specs.declared.fault.TypeFault.{TypeFault}
 use Rattle.c_rules.specs.declared.fault.TypeFault.TheVariants as faults
 use Rattle.c_frames.specs.declared.functions.TypedFunction as memory
@@ -83,6 +83,13 @@ made_is file frames own =
     in ap (λ fs. record { statics = map object_tree (map static_tree_of file.statics.items); functions = fs })
     (ap (λ l. functions_with l functions) own ∙ own_frames functions)
 
+-- what is so of a program is so of one of the same parts
+pub of_parts : (P : ProgramTree → Type 0) (made : ProgramTree) {statics : List ObjectTree} {functions : List FunctionTree} → statics ≡ made.statics
+    → functions ≡ made.functions → P made → P (record { statics = statics; functions = functions })
+of_parts P made {statics = statics} objects same holds =
+    subst (λ fs. P (record { statics = statics; functions = fs })) (sym same)
+    (subst (λ os. P (record { statics = os; functions = made.functions })) (sym objects) holds)
+
 -- the typed program of a source
 pub typed_source : (unit : List External) {externals : List External} (file : files.File) {functions : List memory.TypedFunction} (frames : List (Vec VarRef Global))
     {contents : Contents} (program : ProgramTree) → externals ≡ unit → typed_unit (unit_of externals) ≡ Is (file_of file) → functions ≡ file.functions.items
@@ -104,6 +111,13 @@ pub all_functions : {made : List FunctionTree} (frames : List (List VarRef)) {le
     → made ++ functions_with frames (map typed_function_of left) ≡ whole → made ≡ whole
 all_functions {made = made} frames ended so_far =
     sym (append-nil made) ∙ ap (λ l. made ++ l) (sym (no_functions frames)) ∙ ap (λ l. made ++ functions_with frames (map typed_function_of l)) (sym ended) ∙ so_far
+
+pub made_is_typed : (unit : List External) {externals : List External} (file : files.File) {functions : List memory.TypedFunction} (frames : List (Vec VarRef Global)) {contents : Contents}
+    → externals ≡ unit → typed_unit (unit_of externals) ≡ Is (file_of file) → functions ≡ file.functions.items → AreWhole (map typed_function_of functions)
+    → frame_lists frames ≡ map frame (map typed_function_of functions) → contents ≡ record { statics = file.statics; functions = file.functions }
+    → IsTyped (unit_of unit) (made_of frames contents)
+made_is_typed unit file frames {contents = contents} same typed lent whole own parts =
+    typed_source unit file frames (made_of frames contents) same typed lent whole own parts refl
 
 -- where the externals and the functions are lent meanwhile
 pub made_is_formed : (unit : List External) {externals : List External} (file : files.File) {functions : List memory.TypedFunction} (frames : List (Vec VarRef Global)) {contents : Contents}

@@ -5,6 +5,10 @@ ghost use Rattle.c_syntax.specs.FunctionNames.{function_names};
 ghost use Rattle.c_tree.specs.ProgramView.{program_of};
 ghost use Rattle.c_tree.specs.View.{function_of as function_view, object_of};
 ghost use Rattle.c_syntax.specs.SyntaxView.{unit_of};
+ghost use Rattle.c_syntax.specs.Values.{UnitHasValues};
+ghost use Rattle.c_syntax.specs.Characters.{UnitSaysWords};
+ghost use Rattle.c_tree.specs.Placed.{IsPlaced};
+ghost use Rattle.c_tree.specs.TypedOfWords.{HasWords};
 ghost use Rattle.c_tree.specs.WellFormedProgram.{IsProgram};
 ghost use Rattle.c_rules.specs.Checked.{IsTyped};
 ghost use Rattle.c_rules.specs.Faults.{Says};
@@ -22,12 +26,16 @@ use word_base::{Items, NoMemory};
 
 /// The typed program of a tree, or the first fault: that of the first node in walking order that breaks a rule of ISO 9899:1990
 /// 6.1 to 6.7, as docs/LANGUAGE.md, "Types", has them, and then what is wanted of the whole source. The names of functions are names
-/// as tokens have them.
+/// as tokens have them, braces hold values as the grammar has it, and character constants are words as those of a text are.
 pub fn check(alloc: Global, unit: &Unit) -> Result<Program, TypeFault>
     requires names { All IsName (function_names (unit_of unit.now)) }
+    requires values { UnitHasValues (unit_of unit.now) }
+    requires words { UnitSaysWords (unit_of unit.now) }
     ensures typed { IfOk result (λ p. IsTyped (unit_of unit.now) (program_of p)) }
     ensures refused { IfErr result (Says (unit_of unit.now)) }
 {
+    shape_laws::typed_programs_are_placed();
+    shape_laws::typed_programs_are_of_words();
     let file = File::of(alloc, unit.externals())?;
     let frames = frames_of(alloc, &file.functions)?;
     Ok(program(alloc, file.contents(), frames)?)
@@ -35,7 +43,9 @@ pub fn check(alloc: Global, unit: &Unit) -> Result<Program, TypeFault>
 
 // The program of a source whose functions' objects are known.
 fn program(alloc: Global, contents: Contents, frames: Vec<Vec<VarRef>>) -> Result<Program, NoMemory>
-    requires { IsProgram (made_of frames.items contents) }
+    requires well_formed { IsProgram (made_of frames.items contents) }
+    requires placed { All IsPlaced (made_of frames.items contents).functions }
+    requires words { HasWords (made_of frames.items contents) }
     ensures { IfOk result (λ p. program_of p ≡ made_of frames.items contents) }
 {
     Ok(Program {

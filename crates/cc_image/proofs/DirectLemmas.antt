@@ -4,7 +4,7 @@ use Rattle.std.proofs.Math.Logic.{∥∥₁_map}
 use Rattle.c_tree.specs.TypedTree.{ProgramTree}
 use Rattle.c_tree.specs.WellFormedProgram.{IsProgram}
 use Rattle.tree_code.specs.Lowered.{lowered_program}
-use Rattle.tree_code.specs.TypedOfWords.{HasWords}
+use Rattle.c_tree.specs.TypedOfWords.{HasWords}
 use Rattle.tree_code.specs.WordTree.{ProgramCode}
 use Rattle.acc_code.specs.AccTree.{FunctionItems}
 use Rattle.acc_select.specs.IsSelected.{IsEmittable}

@@ -6,7 +6,7 @@ use Rattle.word_base.specs.Ports.{Input, IsInput}
 use Rattle.c_tree.specs.SourceRun.{source_run}
 use Rattle.c_tree.specs.TypedTree.{ProgramTree}
 use Rattle.c_tree.specs.WellFormedProgram.{IsProgram}
-use Rattle.tree_code.specs.TypedOfWords.{HasWords}
+use Rattle.c_tree.specs.TypedOfWords.{HasWords}
 use Rattle.acc_select.specs.Selected.{selected}
 use Rattle.code_runs.specs.Keeps.{acc_run, tree_run}
 use Rattle.code_runs.specs.Outside.{Places}

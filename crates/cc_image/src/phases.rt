@@ -17,7 +17,7 @@ ghost use Rattle.lay_cert.specs.Frames.{Frame};
 ghost use Rattle.mem_plan.specs.Plan.{AreArranged, IsPlan};
 ghost use Rattle.tree_code.specs.Lowered.{lowered_program};
 ghost use Rattle.tree_code.specs.ProgramView.{tree_of};
-ghost use Rattle.tree_code.specs.TypedOfWords.{HasWords};
+ghost use Rattle.c_tree.specs.TypedOfWords.{HasWords};
 
 use crate::fault::TranslationFault;
 use acc_select::{AccFunction, AccProgram};

@@ -8,7 +8,7 @@ use Rattle.word_base.specs.declared.outcome.Ending.{Ending}
 use Rattle.word_base.specs.declared.outcome.Ending.TheVariants.{Returned}
 use Rattle.word_base.specs.Ports.{Input, IsInput, Outputs, Prefix}
 use Rattle.c_tree.specs.SourceRun.{main_name}
-use Rattle.tree_code.specs.TypedOfWords.{StartsWithWords}
+use Rattle.c_tree.specs.TypedOfWords.{StartsWithWords}
 use Rattle.tree_code.specs.WordTree.{FunctionCode}
 use Rattle.acc_code.specs.AccTree.{FunctionItems}
 use Rattle.c25_isa.specs.declared.instruction.Instr.TheVariants.{Idle, Call as CallInstr}

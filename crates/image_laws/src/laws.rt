@@ -5,7 +5,7 @@ ghost use Rattle.c_tree.specs.SourceRun.{source_run};
 ghost use Rattle.c_tree.specs.TypedTree.{ProgramTree};
 ghost use Rattle.c_tree.specs.WellFormedProgram.{IsProgram};
 ghost use Rattle.tree_code.specs.Lowered.{lowered_program};
-ghost use Rattle.tree_code.specs.TypedOfWords.{HasWords, StartsWithWords};
+ghost use Rattle.c_tree.specs.TypedOfWords.{HasWords, StartsWithWords};
 ghost use Rattle.acc_select.specs.IsSelected.{IsEmittable};
 ghost use Rattle.acc_select.specs.Selected.{selected};
 ghost use Rattle.mem_plan.specs.declared.data_plan.DataPlan.{DataPlan};

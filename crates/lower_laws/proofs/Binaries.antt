@@ -27,8 +27,8 @@ use Rattle.lower_laws.proofs.Forms.{Optional}
 use Rattle.lower_laws.proofs.Comparing.{asks, of_two_kept}
 use Rattle.lower_laws.proofs.Moving.{plus_kept, plus_left_kept, minus_kept}
 use Rattle.lower_laws.proofs.Distances.{distance_kept}
-use Rattle.lower_laws.proofs.Operators.{given_by, by_sign, agrees}
-use Rattle.lower_laws.proofs.OperatorWords.{few_given}
+use Rattle.c_tree.proofs.OperatorWords.{given_by, few_given}
+use Rattle.lower_laws.proofs.Operators.{by_sign, agrees}
 
 -- what an operator on two values of these kinds keeps
 pub record Operates (seats : Seats) (p q r : Bool) (next : Value → Value → source.Does Value) (c : ℕ → ℕ → Calc) : Type 0 where

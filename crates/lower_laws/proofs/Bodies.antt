@@ -17,7 +17,7 @@ use Rattle.tree_code.specs.Lowered.{lowered, lowered_program}
 use Rattle.code_runs.specs.Keeps.{tree_run}
 use Rattle.code_runs.specs.Outside.{Places, address_of}
 use Rattle.code_runs.specs.TreeRun as run
-use Rattle.tree_code.specs.TypedOfWords.{StartsWithWord, FunctionHasWords, HasWords}
+use Rattle.c_tree.specs.TypedOfWords.{StartsWithWord, FunctionHasWords, HasWords}
 use Rattle.lower_laws.specs.Lowering.{KeepsSource}
 use Rattle.lower_laws.specs.Surroundings.{ArePlaces}
 use Rattle.lower_laws.proofs.Growing.{value_grows, decide_grows, effect_grows}

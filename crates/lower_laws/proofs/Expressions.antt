@@ -21,7 +21,7 @@ use Rattle.code_runs.specs.Outside.{Places, address_of}
 use Rattle.code_runs.specs.Parts.{Does, ◌>>=◌}
 use Rattle.code_runs.specs.TreeRun as run
 use Rattle.code_runs.specs.TreeRun.{Tree}
-use Rattle.tree_code.specs.TypedOfWords.{UsesWords, AllUseWords}
+use Rattle.c_tree.specs.TypedOfWords.{UsesWords, AllUseWords}
 use Rattle.lower_laws.specs.Seats.{Seats}
 use Rattle.lower_laws.specs.Beside.{LiesThere, IsSeatOf}
 use Rattle.lower_laws.specs.Surroundings.{Surrounds}

@@ -22,7 +22,7 @@ use Rattle.code_runs.specs.Outside.{Memory, Frame, Places, address_of, with_memo
 use Rattle.code_runs.specs.Parts.{Gives, Next, after, give}
 use Rattle.code_runs.specs.TreeRun as run
 use Rattle.code_runs.specs.TreeRun.{Tree}
-use Rattle.tree_code.specs.TypedOfWords.{StartsWithWord}
+use Rattle.c_tree.specs.TypedOfWords.{StartsWithWord}
 use Rattle.lower_laws.specs.Seats.{Room, Seat, Vacant, LiesAt, InFrame, Waits, Seats, Apart}
 use Rattle.lower_laws.specs.Beside.{Lives, IsRoom, Held, CellAlike, ObjectAlike, SeatAlike, Alike}
 use Rattle.lower_laws.specs.Surroundings.{ArePlaces}

@@ -16,7 +16,7 @@ use Rattle.c_tree.specs.WellFormed.{IsInitial, StartsAt}
 use Rattle.c_tree.specs.WellFormedProgram.{object_shape, static_in}
 use Rattle.code_runs.specs.Outside as words
 use Rattle.code_runs.specs.Outside.{Places, cell_address, initial_word}
-use Rattle.tree_code.specs.TypedOfWords.{StartsWithWord, StartsWithWords}
+use Rattle.c_tree.specs.TypedOfWords.{StartsWithWord, StartsWithWords}
 use Rattle.lower_laws.specs.Seats.{LiesAt, Seats, PointsAt, ValueAlike}
 use Rattle.lower_laws.specs.Beside.{CellAlike}
 use Rattle.lower_laws.specs.Surroundings.{ArePlaces}

@@ -40,7 +40,6 @@ pub mod Filling
 pub mod Filled
 pub mod Statements
 pub mod Operators
-pub mod OperatorWords
 pub mod Using
 pub mod Binaries
 pub mod Operations

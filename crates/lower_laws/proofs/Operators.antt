@@ -1,17 +1,19 @@
 -- Operators on integers: where the typed program's gives a word, the operation of the word tree gives that word.
 use Rattle.std.proofs.Common.{◌≡◌, ◌⊎◌, inl, inr, ℕ, suc, ◌+◌, ◌-◌, ◌*◌, ◌%◌, ◌<◌, Bool, true, false, refl, sym, ap, ◌∙◌, arith, ℤ, pos, negsuc, ◌-ℤ◌, ◌*ℤ◌}
-use Rattle.std.specs.Prelude.{◌||◌, if◌then◌else◌}
+use Rattle.std.specs.Prelude.{◌||◌}
 use Rattle.std.proofs.lemmas.Int.{ints}
-use Rattle.word_base.specs.Words.{Calc, Good, signed_of, low16, int_multiply, int_negate, unsigned_multiply, unsigned_negate}
+use Rattle.word_base.specs.Words.{Good, signed_of, low16, int_multiply, int_negate, unsigned_multiply, unsigned_negate}
 use Rattle.c_syntax.specs.declared.operator.BinaryOp.{BinaryOp}
 use Rattle.c_syntax.specs.declared.operator.BinaryOp.TheVariants as op
-use Rattle.c_tree.specs.Operators.{int_binary, unsigned_binary}
+use Rattle.c_syntax.specs.declared.operator.UnaryOp.{UnaryOp}
+use Rattle.c_syntax.specs.declared.operator.UnaryOp.TheVariants.{Minus, Plus, Complement}
+use Rattle.c_tree.proofs.OperatorWords.{given_by, given_of}
 use Rattle.c_tree.specs.TypedTree.{Kind}
 use Rattle.c_tree.specs.Eval.{is_unsigned, points, without_sign}
 use Rattle.tree_code.specs.Operations.{one_of, word_op, is_ordered_unsigned}
 use Rattle.tree_code.specs.declared.operator.WordOp.{WordOp}
 use Rattle.tree_code.specs.declared.operator.WordOp.TheVariants as word
-use Rattle.code_runs.specs.Meanings.{meaning_of, calculated}
+use Rattle.code_runs.specs.Meanings.{meaning_of, calculated, of_one_word}
 use Rattle.lower_laws.proofs.Moving.{low16_is}
 use Rattle.lower_laws.proofs.Integers.{signed_is, fits, sum_agrees, difference_agrees}
 
@@ -105,10 +107,6 @@ negation_by x m lt (inr p) = low16_is (pos 0 -ℤ m) 0 (65536 - x) (omega (arith
 pub negation_agrees : (x z : ℕ) → x < 65536 → int_negate x ≡ Good z → unsigned_negate x ≡ Good z
 negation_agrees x z lt is = fits (pos 0 -ℤ signed_of x) (pos 0 -ℤ pos x) _ z (negation_by x (signed_of x) lt (signed_is x) ∙ sym (negation_by x (pos x) lt (inl refl))) is
 
--- what an operator of integers gives
-abbrev pub given_by : BinaryOp → Bool → ℕ → ℕ → Calc
-given_by o u x y = if u then unsigned_binary o x y else int_binary o x y
-
 -- with a sign a sum, a difference and a product alone are others
 pub agrees : (o : BinaryOp) (u : Bool) (x y z : ℕ) → x < 65536 → y < 65536 → given_by o u x y ≡ Good z → calculated (meaning_of (operation_by o u)) x y ≡ Good z
 agrees op.Add true x y z lx ly e = e
@@ -143,3 +141,12 @@ agrees op.Le true x y z lx ly e = e
 agrees op.Le false x y z lx ly e = e
 agrees op.Ge true x y z lx ly e = e
 agrees op.Ge false x y z lx ly e = e
+
+-- an operator on one integer
+pub one_agrees : (o : UnaryOp) (u : Bool) (x z : ℕ) → x < 65536 → given_of o u x ≡ Good z → of_one_word o x ≡ Good z
+one_agrees Minus true x z lx e = e
+one_agrees Minus false x z lx e = negation_agrees x z lx e
+one_agrees Plus true x z lx e = e
+one_agrees Plus false x z lx e = e
+one_agrees Complement true x z lx e = e
+one_agrees Complement false x z lx e = e

@@ -11,7 +11,7 @@ use Rattle.c_tree.specs.SourceRun.{static_object, first_world}
 use Rattle.c_tree.specs.WellFormed.{IsInitial}
 use Rattle.c_tree.specs.WellFormedProgram.{IsObject, IsProgram, static_in}
 use Rattle.code_runs.specs.Outside.{Nowhere, Places, no_words, with_statics, first_outside}
-use Rattle.tree_code.specs.TypedOfWords.{HasWords}
+use Rattle.c_tree.specs.TypedOfWords.{HasWords}
 use Rattle.lower_laws.specs.Seats.{Seat, Vacant, LiesAt, Seats, IsPlace, Apart}
 use Rattle.lower_laws.specs.Beside.{CellAlike, ObjectAlike, SeatAlike, Alike}
 use Rattle.lower_laws.specs.Surroundings.{IsLocal, ArePlaces, MayBeCalled}

@@ -24,7 +24,7 @@ use Rattle.code_runs.specs.Outside.{Places, address_of}
 use Rattle.code_runs.specs.Parts.{Res, Does, Flow, Next, ◌>>=◌, choose, give}
 use Rattle.code_runs.specs.TreeRun as run
 use Rattle.code_runs.specs.TreeRun.{Tree, label_weights}
-use Rattle.tree_code.specs.TypedOfWords.{StartsWithWord, UsesWords, OptionalUsesWords, StatementUsesWords, StatementsUseWords, ChoicesUseWords}
+use Rattle.c_tree.specs.TypedOfWords.{StartsWithWord, UsesWords, OptionalUsesWords, StatementUsesWords, StatementsUseWords, ChoicesUseWords}
 use Rattle.lower_laws.specs.Seats.{Seats}
 use Rattle.lower_laws.specs.Beside.{Held}
 use Rattle.lower_laws.specs.Surroundings.{ArePlaces, Surrounds}

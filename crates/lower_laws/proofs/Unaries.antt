@@ -25,7 +25,8 @@ use Rattle.lower_laws.proofs.Forms.{Optional, Values, Forms, worked}
 use Rattle.lower_laws.proofs.Truths.{tree_followed}
 use Rattle.lower_laws.proofs.Using.{Kept, of_forms}
 use Rattle.lower_laws.proofs.Binaries.{calculation}
-use Rattle.lower_laws.proofs.OperatorWords.{given_of, one_agrees, one_few}
+use Rattle.c_tree.proofs.OperatorWords.{given_of, one_few}
+use Rattle.lower_laws.proofs.Operators.{one_agrees}
 
 module _ (seats : Seats) where
   one_kept : (hs : List Held) (w : World) (t : Tree) → Alike seats hs w t → (at : ℕ) (o : UnaryOp) (k : Kind) (v : Value) (x : ℕ) → Valued seats hs false v x w t

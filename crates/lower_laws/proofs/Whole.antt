@@ -18,7 +18,7 @@ use Rattle.code_runs.specs.Keeps.{tree_run}
 use Rattle.code_runs.specs.Outside.{Places, no_words, first_outside}
 use Rattle.code_runs.specs.TreeRun as run
 use Rattle.code_runs.specs.TreeRun.{Tree, main_from}
-use Rattle.tree_code.specs.TypedOfWords.{HasWords}
+use Rattle.c_tree.specs.TypedOfWords.{HasWords}
 use Rattle.lower_laws.specs.Lowering.{KeepsSource}
 use Rattle.lower_laws.specs.Seats.{Seats}
 use Rattle.lower_laws.specs.Surroundings.{ArePlaces}

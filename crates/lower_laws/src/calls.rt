@@ -4,7 +4,7 @@ ghost use Rattle.c_tree.specs.ProgramView.{program_of};
 ghost use Rattle.lower_laws.specs.Lowering.{KeepsEverywhere};
 ghost use Rattle.tree_code.specs.Lowered.{lowered_program};
 ghost use Rattle.tree_code.specs.ProgramView.{tree_of};
-ghost use Rattle.tree_code.specs.TypedOfWords.{HasWords};
+ghost use Rattle.c_tree.specs.TypedOfWords.{HasWords};
 
 use crate::laws::lowering_keeps_runs;
 use c_tree::Program;

@@ -7,7 +7,7 @@ ghost use Rattle.c_tree.specs.WellFormedProgram.{IsProgram};
 ghost use Rattle.tree_code.specs.Lowered.{lowered_program};
 ghost use Rattle.code_runs.specs.Keeps.{tree_run};
 ghost use Rattle.code_runs.specs.Outside.{Places};
-ghost use Rattle.tree_code.specs.TypedOfWords.{HasWords};
+ghost use Rattle.c_tree.specs.TypedOfWords.{HasWords};
 ghost use Rattle.lower_laws.specs.Lowering.{KeepsSource};
 ghost use Rattle.lower_laws.specs.Seats.{AreSeats, Points, Seats};
 ghost use Rattle.lower_laws.specs.Surroundings.{ArePlaces};

@@ -172,10 +172,7 @@ impl Body {
             WordStmt::If { test, yes, no } => {
                 self.expression(test)?;
                 self.statement(yes)?;
-                match no {
-                    Some(no) => self.statement(no),
-                    None => Ok(()),
-                }
+                self.statement(no)
             }
             WordStmt::While { test, body } => {
                 self.expression(test)?;

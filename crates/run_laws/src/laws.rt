@@ -10,7 +10,7 @@ ghost use Rattle.mem_plan.specs.declared.data_plan.DataPlan.{DataPlan};
 ghost use Rattle.mem_plan.specs.Plan.{AreArranged, IsPlan};
 ghost use Rattle.code_runs.specs.Keeps.{acc_run};
 ghost use Rattle.code_runs.specs.Outside.{address_of};
-ghost use Rattle.tree_code.specs.TypedOfWords.{HasWords};
+ghost use Rattle.c_tree.specs.TypedOfWords.{HasWords};
 ghost use Rattle.lower_laws.specs.Lowering.{KeepsSource};
 ghost use Rattle.lower_laws.specs.Surroundings.{ArePlaces};
 ghost use Rattle.select_laws.specs.Selecting.{AreFar};

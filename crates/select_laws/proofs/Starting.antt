@@ -7,7 +7,7 @@ use Rattle.c_tree.specs.declared.program.Initial.{Initial}
 use Rattle.c_tree.specs.declared.program.Initial.TheVariants as initial
 use Rattle.c_tree.specs.TypedTree.{ObjectTree}
 use Rattle.code_runs.specs.Outside.{Nowhere, Memory, with_words, with_statics, initial_word, initial_words, first_outside, Places}
-pub use Rattle.tree_code.specs.TypedOfWords.{StartsWithWord, StartsWithWords}
+pub use Rattle.c_tree.specs.TypedOfWords.{StartsWithWord, StartsWithWords}
 use Rattle.select_laws.proofs.Sides.{HasWords, words_with}
 use Rattle.select_laws.proofs.Passing.{AllWords}
 use Rattle.select_laws.proofs.Entering.{MemoryHasWords}

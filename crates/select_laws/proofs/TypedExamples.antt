@@ -10,7 +10,7 @@ use Rattle.c_tree.proofs.Examples.Types.{int, int_at, words, object, main_with, 
 use Rattle.c_tree.proofs.Examples.WellFormed.{doubles, doubles_main}
 use Rattle.code_runs.specs.Outside.{Places, address_of}
 use Rattle.select_laws.specs.Selecting.{AreFar}
-use Rattle.tree_code.specs.TypedOfWords.{FunctionHasWords, HasWords}
+use Rattle.c_tree.specs.TypedOfWords.{FunctionHasWords, HasWords}
 use Rattle.select_laws.proofs.Sides.{some_is}
 
 doubles_functions : AllByRecursion FunctionHasWords doubles.functions

@@ -24,8 +24,8 @@ use Rattle.code_runs.specs.Outside.{Places, address_of}
 use Rattle.select_laws.specs.FitStatements.{IsFitInitial, IsFitObject, IsFitOptional, IsFitStatement, AreFitStatements, AreFitChoices}
 use Rattle.select_laws.specs.OfWords.{IsOfWords}
 use Rattle.select_laws.specs.Selecting.{AreFar, IsWordProgram}
-use Rattle.tree_code.specs.TypedOfWords.{StartsWithWord, StartsWithWords}
-use Rattle.tree_code.specs.TypedOfWords.{OptionalUsesWords, StatementUsesWords, StatementsUseWords, ChoicesUseWords, FunctionHasWords, HasWords}
+use Rattle.c_tree.specs.TypedOfWords.{StartsWithWord, StartsWithWords}
+use Rattle.c_tree.specs.TypedOfWords.{OptionalUsesWords, StatementUsesWords, StatementsUseWords, ChoicesUseWords, FunctionHasWords, HasWords}
 use Rattle.select_laws.proofs.Mains.{element_of}
 use Rattle.select_laws.proofs.MainReturns.{main_returns_values}
 use Rattle.select_laws.proofs.Selection.{word_programs_keep}

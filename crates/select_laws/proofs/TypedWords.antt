@@ -16,7 +16,7 @@ use Rattle.tree_code.specs.WordTree as code
 use Rattle.tree_code.specs.declared.operator.WordOp.{WordOp}
 use Rattle.acc_operations.specs.Kinds.{operation_of}
 use Rattle.select_laws.specs.OfWords.{GivesWord, IsOfWords, HasWordParts, IsTargetOfWords, AreOfWords}
-use Rattle.tree_code.specs.TypedOfWords.{UsesWords, TargetUsesWords, AllUseWords}
+use Rattle.c_tree.specs.TypedOfWords.{UsesWords, TargetUsesWords, AllUseWords}
 
 -- an operation that is one of two that give words gives one
 either_gives : (b : Bool) (m n : WordOp) → GivesWord (operation_of m) → GivesWord (operation_of n) → GivesWord (operation_of (one_of b m n))

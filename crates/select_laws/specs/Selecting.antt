@@ -9,7 +9,7 @@ use Rattle.acc_code.specs.AccTree.{FunctionItems}
 use Rattle.code_runs.specs.Keeps.{Keeps, acc_run, tree_run}
 use Rattle.code_runs.specs.Outside.{Places, address_of}
 use Rattle.code_runs.specs.TreeRun.{Addresses}
-use Rattle.tree_code.specs.TypedOfWords.{StartsWithWords}
+use Rattle.c_tree.specs.TypedOfWords.{StartsWithWords}
 use Rattle.select_laws.specs.FitStatements.{IsFitStatement, ReturnsValues}
 use Rattle.select_laws.specs.OfWords.{IsOfWords}
 

@@ -9,7 +9,7 @@ ghost use Rattle.acc_select.specs.Selected.{selected};
 ghost use Rattle.code_runs.specs.Keeps.{Keeps, acc_run, tree_run};
 ghost use Rattle.code_runs.specs.Outside.{Places, address_of};
 ghost use Rattle.select_laws.specs.Selecting.{AreFar, IsWordProgram};
-ghost use Rattle.tree_code.specs.TypedOfWords.{HasWords};
+ghost use Rattle.c_tree.specs.TypedOfWords.{HasWords};
 
 /// What the accumulator code of a word tree does is what the tree does, for objects at any places: the same outputs and
 /// ending with at most as much work, a run that goes on goes on, and where the tree is undefined the outputs before are kept.

@@ -14,8 +14,8 @@ use Rattle.c_rules.specs.Constants.{is_fixed, good, word_of_one, compares, calcu
 use Rattle.c_rules.specs.Typing.{place, word_at}
 use Rattle.c_rules.proofs.Formed.Context.{Gives}
 use Rattle.c_rules.proofs.Formed.GivesLemmas.{if_there}
-use Rattle.tree_code.specs.TypedOfWords.{UsesWords}
-use Rattle.source_laws.proofs.OperatorWords.{few_given, one_few}
+use Rattle.c_tree.specs.TypedOfWords.{UsesWords}
+use Rattle.c_tree.proofs.OperatorWords.{few_given, one_few}
 
 -- a word, where one is there
 abbrev pub IsWord : Option ℕ → Type 0

@@ -7,8 +7,8 @@ use Rattle.std.proofs.lemmas.Bool.{eq-eqb}
 use Rattle.std.proofs.lemmas.Bool.Decides.{eqb_tells}
 use Rattle.c_tree.specs.declared.program.Initial.{Initial}
 use Rattle.c_tree.specs.TypedTree.{ObjectTree}
-use Rattle.shape_laws.specs.Declarations.{times}
-use Rattle.shape_laws.specs.Fills.{fills_of}
+use Rattle.c_tree.specs.Declarations.{times}
+use Rattle.c_tree.specs.Fills.{fills_of}
 
 -- a number at the head of a list, and another one
 pub times_here : (n : ℕ) (ns : List ℕ) → times n (n ∷ ns) ≡ 1 + times n ns

@@ -10,8 +10,8 @@ use Rattle.c_syntax.specs.Derives.{DerivesFunction, DerivesUnit, LastExternal, M
 use Rattle.c_syntax.specs.SyntaxTree as tree
 use Rattle.c_syntax.specs.SyntaxTree.{Expression, InitialTree, ItemTree, DeclarationTree, Statement, Statements, Choices, FunctionSyntax}
 use Rattle.c_syntax.specs.SyntaxTree.{ExternalTree, Defined, Declared, UnitTree}
-use Rattle.shape_laws.specs.Values.{HasValue, ItemsHaveValues, DeclarationsHaveValues, HasValues, HaveValues, ChoicesHaveValues, ExternalHasValues}
-use Rattle.shape_laws.specs.Values.{UnitHasValues}
+use Rattle.c_syntax.specs.Values.{HasValue, ItemsHaveValues, DeclarationsHaveValues, HasValues, HaveValues, ChoicesHaveValues, ExternalHasValues}
+use Rattle.c_syntax.specs.Values.{UnitHasValues}
 
 -- initialisers
 list_value : (tokens : List Token) (es : List Expression) (at : ℕ) → DerivesList tokens es → HasValue (Some (tree.Braced es at))

@@ -15,10 +15,10 @@ use Rattle.c_tree.specs.TypedTree.{Stmt, FunctionTree}
 use Rattle.c_rules.specs.Outcome.{Outcome, Is, Broken}
 use Rattle.c_rules.specs.Programs.{program_tree}
 use Rattle.c_rules.specs.Units.{File, typed_unit}
-use Rattle.shape_laws.specs.Declarations.{declarations, local_numbers, times}
-use Rattle.shape_laws.specs.Fills.{filled_in, FilledOnce, FilledIfListed, FilledWhereDeclared, FilledBeforeUse}
-use Rattle.shape_laws.specs.Names.{statement_names}
-use Rattle.shape_laws.specs.Uses.{UsedWhereDeclared}
+use Rattle.c_tree.specs.Declarations.{declarations, local_numbers, times}
+use Rattle.c_tree.specs.Fills.{filled_in, FilledOnce, FilledIfListed, FilledWhereDeclared, FilledBeforeUse}
+use Rattle.c_tree.specs.NamesUsed.{statement_names}
+use Rattle.c_tree.specs.Scopes.{UsedWhereDeclared}
 
 abbrev functions_in : Outcome File → List FunctionTree
 functions_in (Is file) = (program_tree file).functions

@@ -21,9 +21,9 @@ use Rattle.c_rules.proofs.Formed.Context.{numbers_from}
 use Rattle.c_rules.proofs.Formed.FrameTypes.{IsPlaced, placed_in, references_differ, references_length}
 use Rattle.c_rules.proofs.FrameNumbers.{numbered_from, references_counted}
 use Rattle.c_rules.proofs.PlaceLemmas.{place_kept, place_within}
-use Rattle.shape_laws.specs.Declarations.{declared_in, declarations, scalar_numbers, local_numbers, times, DeclaredOnce, DeclaredInOrder}
-use Rattle.shape_laws.specs.Fills.{filled_in, FillsOwn, FillsFirst, fills_of, HasNoList, FilledOnce, FilledIfListed, FilledAsListed}
-use Rattle.shape_laws.specs.Fills.{FilledWhereDeclared, FilledBeforeUse}
+use Rattle.c_tree.specs.Declarations.{declared_in, declarations, scalar_numbers, local_numbers, times, DeclaredOnce, DeclaredInOrder}
+use Rattle.c_tree.specs.Fills.{filled_in, FillsOwn, FillsFirst, fills_of, HasNoList, FilledOnce, FilledIfListed, FilledAsListed}
+use Rattle.c_tree.specs.Fills.{FilledWhereDeclared, FilledBeforeUse}
 use Rattle.shape_laws.proofs.Counting.{one_below, ObjectsFilled, no_more_objects, object_filled, object_bare, filled_once, filled_as_listed}
 use Rattle.shape_laws.proofs.Grown.{AreFilled, no_object, with_fill, without_fill, filled_behind, numbers_joined, Adds}
 use Rattle.shape_laws.proofs.Named.{Differs}

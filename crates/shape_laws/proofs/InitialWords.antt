@@ -24,8 +24,8 @@ use Rattle.c_rules.specs.Scopes.{Scope}
 use Rattle.c_rules.specs.Typing.{place, constant_typing}
 use Rattle.c_rules.proofs.Formed.Context.{Gives, is, behind, unless}
 use Rattle.c_rules.proofs.Formed.GivesLemmas.{anything, if_there}
-use Rattle.tree_code.specs.TypedOfWords.{StartsWithWord}
-use Rattle.shape_laws.specs.Characters.{SaysWords}
+use Rattle.c_tree.specs.TypedOfWords.{StartsWithWord}
+use Rattle.c_syntax.specs.Characters.{SaysWords}
 use Rattle.shape_laws.proofs.ConstantWords.{IsWord, constant_few}
 use Rattle.shape_laws.proofs.TypedWords.{KnowsShort, constant_words}
 

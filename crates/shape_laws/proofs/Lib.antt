@@ -9,6 +9,7 @@ pub mod Within
 pub mod Counting
 pub mod Frames
 pub mod Units
+pub mod Placing
 pub mod Derived
 pub mod CharacterTokens
 pub mod Spoken

@@ -11,7 +11,7 @@ use Rattle.c_tree.specs.WellFormed.{Shape, Names, IsCell, PointsTo, IsThere, IsW
 use Rattle.c_rules.specs.Renumbering as by
 use Rattle.c_rules.specs.Renumbering.{numbered, renumbered}
 use Rattle.c_rules.proofs.Formed.SameReferences.{equal_references}
-use Rattle.shape_laws.specs.Names.{names_in, form_names, target_names, argument_names}
+use Rattle.c_tree.specs.NamesUsed.{names_in, form_names, target_names, argument_names}
 use Rattle.shape_laws.proofs.Renumbered.{place, IsKept}
 
 -- each name of a list

@@ -23,8 +23,8 @@ use Rattle.c_rules.proofs.Formed.Context.{Gives, is, broken, behind, unless}
 use Rattle.c_rules.proofs.Formed.DeclarationTypes.{IsDeclaredType, declared_type}
 use Rattle.c_rules.proofs.Formed.FileSoFar.{declared_or_old}
 use Rattle.c_rules.proofs.Formed.GivesLemmas.{anything}
-use Rattle.tree_code.specs.TypedOfWords.{StartsWithWord, UsesWords, StatementUsesWords}
-use Rattle.shape_laws.specs.Characters.{InitialSaysWords, ItemsSayWords, DeclarationsSayWords}
+use Rattle.c_tree.specs.TypedOfWords.{StartsWithWord, UsesWords, StatementUsesWords}
+use Rattle.c_syntax.specs.Characters.{InitialSaysWords, ItemsSayWords, DeclarationsSayWords}
 use Rattle.shape_laws.proofs.InitialWords.{EntryHasWord, entries_words, list_words}
 use Rattle.shape_laws.proofs.OperandWords.{given_words}
 use Rattle.shape_laws.proofs.TypedWords.{IsShort, KnowsShort, typed_words}

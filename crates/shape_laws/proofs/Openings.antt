@@ -26,7 +26,7 @@ use Rattle.c_rules.proofs.Formed.DeclarationTypes.{IsDeclaredType, declared_type
 use Rattle.c_rules.proofs.Formed.GivesLemmas.{anything, together, for_all}
 use Rattle.c_rules.proofs.Formed.LocalTypes.{IsInitialiser, typed_initialiser, typed_start}
 use Rattle.c_rules.proofs.Formed.SameReferences.{same_as_itself}
-use Rattle.shape_laws.specs.Values.{HasValue, ItemsHaveValues, DeclarationsHaveValues}
+use Rattle.c_syntax.specs.Values.{HasValue, ItemsHaveValues, DeclarationsHaveValues}
 use Rattle.shape_laws.proofs.Grown.{AreFilled, no_object, with_fill, without_fill, Adds, adds_nothing, adds_both}
 use Rattle.shape_laws.proofs.Renumbered.{Each}
 use Rattle.shape_laws.proofs.Scopes.{Known, with_object}

@@ -23,7 +23,7 @@ use Rattle.c_rules.specs.Operands.{loaded_as, target_of, loaded, indexed, cast_a
 use Rattle.c_rules.specs.Operands.{any_void, passed, is_integer, no_more, input, is_word_first, sent, output}
 use Rattle.c_rules.proofs.Formed.Context.{Gives, broken, is, behind, unless}
 use Rattle.c_rules.proofs.Formed.GivesLemmas.{one_of}
-use Rattle.tree_code.specs.TypedOfWords.{UsesWords, TargetUsesWords, AllUseWords}
+use Rattle.c_tree.specs.TypedOfWords.{UsesWords, TargetUsesWords, AllUseWords}
 use Rattle.shape_laws.proofs.ConstantWords.{IsWord}
 
 -- constants

@@ -11,8 +11,8 @@ use Rattle.c_tree.specs.WellFormed.{same_reference, is_among}
 use Rattle.c_rules.specs.Renumbering as by
 use Rattle.c_rules.specs.Renumbering.{numbered, renumbered, number_in}
 use Rattle.c_rules.proofs.Formed.SameReferences.{equal_references, same_as_itself}
-use Rattle.shape_laws.specs.Declarations.{declared_in, declared_among, declared_by_choices}
-use Rattle.shape_laws.specs.Fills.{filled_in, filled_among, filled_by_choices, FillsOwn, AllFillOwn, ChoicesFillOwn}
+use Rattle.c_tree.specs.Declarations.{declared_in, declared_among, declared_by_choices}
+use Rattle.c_tree.specs.Fills.{filled_in, filled_among, filled_by_choices, FillsOwn, AllFillOwn, ChoicesFillOwn}
 
 -- each number of a list
 abbrev pub Each : (ℕ → Type 0) → List ℕ → Type 0

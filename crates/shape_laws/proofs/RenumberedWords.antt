@@ -4,8 +4,8 @@ use Rattle.c_tree.specs.declared.program.VarRef.{VarRef}
 use Rattle.c_tree.specs.TypedTree as tree
 use Rattle.c_tree.specs.TypedTree.{Expr, Node, Lvalue, Named, At, Form, Exprs, Stmt, Stmts, Choices}
 use Rattle.c_rules.specs.Renumbering as by
-use Rattle.tree_code.specs.TypedOfWords.{UsesWords, FormUsesWords, TargetUsesWords, AllUseWords, OptionalUsesWords, StatementUsesWords}
-use Rattle.tree_code.specs.TypedOfWords.{StatementsUseWords, ChoicesUseWords}
+use Rattle.c_tree.specs.TypedOfWords.{UsesWords, FormUsesWords, TargetUsesWords, AllUseWords, OptionalUsesWords, StatementUsesWords}
+use Rattle.c_tree.specs.TypedOfWords.{StatementsUseWords, ChoicesUseWords}
 
 module _ (frame : List VarRef) where
   mutual

@@ -14,8 +14,8 @@ use Rattle.c_syntax.specs.Derives.{DerivesFunction, DerivesUnit, LastExternal, M
 use Rattle.c_syntax.specs.SyntaxTree as tree
 use Rattle.c_syntax.specs.SyntaxTree.{Expression, Expressions, InitialTree, ItemTree, DeclarationTree, Statement, Statements, Choices, FunctionSyntax}
 use Rattle.c_syntax.specs.SyntaxTree.{Defined, Declared, UnitTree}
-use Rattle.shape_laws.specs.Characters.{SaysWords, AllSayWords, OptionSaysWords, InitialSaysWords, ItemsSayWords, DeclarationsSayWords}
-use Rattle.shape_laws.specs.Characters.{StatementSaysWords, StatementsSayWords, ChoicesSayWords, ExternalSaysWords, UnitSaysWords}
+use Rattle.c_syntax.specs.Characters.{SaysWords, AllSayWords, OptionSaysWords, InitialSaysWords, ItemsSayWords, DeclarationsSayWords}
+use Rattle.c_syntax.specs.Characters.{StatementSaysWords, StatementsSayWords, ChoicesSayWords, ExternalSaysWords, UnitSaysWords}
 use Rattle.shape_laws.proofs.CharacterTokens.{KindIsWord, AreWords}
 
 -- parts of tokens

@@ -13,9 +13,9 @@ use Rattle.c_rules.specs.Renumbering as by
 use Rattle.c_rules.specs.Renumbering.{renumbered}
 use Rattle.c_rules.specs.Scopes.{Scope}
 use Rattle.c_rules.specs.Statements.{before}
-use Rattle.shape_laws.specs.Declarations.{declared_in, declared_among}
-use Rattle.shape_laws.specs.Fills.{filled_in, filled_among, filled_here, fills_itself, Avoids, FillsOwn, AllFillOwn, FillsFirst, AllFillFirst}
-use Rattle.shape_laws.specs.Names.{statement_names}
+use Rattle.c_tree.specs.Declarations.{declared_in, declared_among}
+use Rattle.c_tree.specs.Fills.{filled_in, filled_among, filled_here, fills_itself, Avoids, FillsOwn, AllFillOwn, FillsFirst, AllFillFirst}
+use Rattle.c_tree.specs.NamesUsed.{statement_names}
 use Rattle.shape_laws.proofs.Named.{EachName, each_weaker, names_stand, names_kept, Stands, IsBelow, below_more, Differs, none_among}
 use Rattle.shape_laws.proofs.Renumbered.{Each, each_first, each_behind, each_joined, each_number, place, places_joined, IsKept, named_there}
 use Rattle.shape_laws.proofs.Scopes.{Known, is_below}

@@ -16,8 +16,8 @@ use Rattle.c_rules.specs.Statements.{LocalTree, Typed, Labelled, opened_in, decl
 use Rattle.c_rules.specs.Statements.{may_break, may_continue, in_switch, repeats_label, typed_statement, typed_statements, typed_choices, typed_body}
 use Rattle.c_rules.specs.Typing.{typing, operand, constant_typing, word_at}
 use Rattle.c_rules.proofs.Formed.Context.{Gives, is, broken, behind, unless}
-use Rattle.tree_code.specs.TypedOfWords.{UsesWords, OptionalUsesWords, StatementUsesWords, StatementsUseWords, ChoicesUseWords}
-use Rattle.shape_laws.specs.Characters.{OptionSaysWords, DeclarationsSayWords, StatementSaysWords, StatementsSayWords, ChoicesSayWords}
+use Rattle.c_tree.specs.TypedOfWords.{UsesWords, OptionalUsesWords, StatementUsesWords, StatementsUseWords, ChoicesUseWords}
+use Rattle.c_syntax.specs.Characters.{OptionSaysWords, DeclarationsSayWords, StatementSaysWords, StatementsSayWords, ChoicesSayWords}
 use Rattle.shape_laws.proofs.ConstantWords.{word_there}
 use Rattle.shape_laws.proofs.OpenedWords.{LocalHasWords, OpensWords, declarations_words}
 use Rattle.shape_laws.proofs.OperandWords.{given_words}

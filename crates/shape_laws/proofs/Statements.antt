@@ -17,11 +17,11 @@ use Rattle.c_rules.specs.Statements.{may_break, may_continue, in_switch, repeats
 use Rattle.c_rules.specs.Typing.{typing, operand, constant_typing, word_at}
 use Rattle.c_rules.proofs.Formed.Context.{Gives, is, behind, unless}
 use Rattle.c_rules.proofs.Formed.GivesLemmas.{anything}
-use Rattle.shape_laws.specs.Declarations.{declared_in, declared_among, declared_by_choices}
-use Rattle.shape_laws.specs.Fills.{filled_in, filled_among, filled_by_choices, FillsOwn, AllFillOwn, ChoicesFillOwn}
-use Rattle.shape_laws.specs.Fills.{fills_itself, filled_here, Avoids, FillsFirst, AllFillFirst, ChoicesFillFirst}
-use Rattle.shape_laws.specs.Names.{statement_names}
-use Rattle.shape_laws.specs.Values.{HasValues, HaveValues, ChoicesHaveValues, DeclarationsHaveValues}
+use Rattle.c_tree.specs.Declarations.{declared_in, declared_among, declared_by_choices}
+use Rattle.c_tree.specs.Fills.{filled_in, filled_among, filled_by_choices, FillsOwn, AllFillOwn, ChoicesFillOwn}
+use Rattle.c_tree.specs.Fills.{fills_itself, filled_here, Avoids, FillsFirst, AllFillFirst, ChoicesFillFirst}
+use Rattle.c_tree.specs.NamesUsed.{statement_names}
+use Rattle.c_syntax.specs.Values.{HasValues, HaveValues, ChoicesHaveValues, DeclarationsHaveValues}
 use Rattle.shape_laws.proofs.Grown.{Adds, adds_nothing, adds_both}
 use Rattle.shape_laws.proofs.Named.{Differs}
 use Rattle.shape_laws.proofs.Openings.{Opens, opens_with_nothing, declarations_open}

@@ -23,8 +23,8 @@ use Rattle.c_rules.specs.Typing.{typing, typing_form, operands, port_arguments, 
 use Rattle.c_rules.proofs.Formed.Context.{Gives, broken, is, behind, unless}
 use Rattle.c_rules.proofs.Formed.GivesLemmas.{anything, one_of}
 use Rattle.c_rules.proofs.Formed.TypingLemmas.{constant_kept}
-use Rattle.tree_code.specs.TypedOfWords.{UsesWords}
-use Rattle.shape_laws.specs.Characters.{SaysWords, FormSaysWords, AllSayWords}
+use Rattle.c_tree.specs.TypedOfWords.{UsesWords}
+use Rattle.c_syntax.specs.Characters.{SaysWords, FormSaysWords, AllSayWords}
 use Rattle.shape_laws.proofs.ConstantWords.{IsWord}
 use Rattle.shape_laws.proofs.OperandWords.{number_words, picked_words, both_words, either_words, binary_words, unary_words, negated_words}
 use Rattle.shape_laws.proofs.OperandWords.{assigned_words, assigned_by_words, before_words, after_words, loaded_words, sized_words, address_words}

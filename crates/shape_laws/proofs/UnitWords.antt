@@ -35,8 +35,8 @@ use Rattle.c_rules.proofs.Formed.DeclarationTypes.{IsDeclaredType, declared_type
 use Rattle.c_rules.proofs.Formed.GivesLemmas.{anything}
 use Rattle.std.proofs.lemmas.Option.{none-some}
 use Rattle.c_rules.proofs.Formed.FileSoFar.{at_place}
-use Rattle.tree_code.specs.TypedOfWords.{StartsWithWord, StartsWithWords, StatementUsesWords, FunctionHasWords, HasWords}
-use Rattle.shape_laws.specs.Characters.{InitialSaysWords, ItemsSayWords, ExternalSaysWords, UnitSaysWords}
+use Rattle.c_tree.specs.TypedOfWords.{StartsWithWord, StartsWithWords, StatementUsesWords, FunctionHasWords, HasWords}
+use Rattle.c_syntax.specs.Characters.{InitialSaysWords, ItemsSayWords, ExternalSaysWords, UnitSaysWords}
 use Rattle.shape_laws.proofs.InitialWords.{EntryHasWord, entry_words, entries_words, cell_words, list_words}
 use Rattle.shape_laws.proofs.OpenedWords.{either_short, declared_short, LocalHasWords}
 use Rattle.shape_laws.proofs.RenumberedWords.{statement_kept}

@@ -32,9 +32,9 @@ use Rattle.c_rules.proofs.Formed.GivesLemmas.{anything, together}
 use Rattle.c_rules.proofs.Formed.ItemsSoFar.{typed_items}
 use Rattle.c_rules.proofs.Formed.OperandKinds.{starred_is_kind}
 use Rattle.c_rules.proofs.Formed.ParametersAsLocals.{typed_parameters, length_locals}
-use Rattle.shape_laws.specs.Declarations.{DeclaredOnce, DeclaredInOrder}
-use Rattle.shape_laws.specs.Fills.{FilledOnce, FilledWhereDeclared, FilledBeforeUse, FilledAsListed, FilledIfListed}
-use Rattle.shape_laws.specs.Values.{ExternalHasValues, UnitHasValues}
+use Rattle.c_tree.specs.Declarations.{DeclaredOnce, DeclaredInOrder}
+use Rattle.c_tree.specs.Fills.{FilledOnce, FilledWhereDeclared, FilledBeforeUse, FilledAsListed, FilledIfListed}
+use Rattle.c_syntax.specs.Values.{ExternalHasValues, UnitHasValues}
 use Rattle.shape_laws.proofs.Frames.{IsMadeWhole, in_order, declared_once, once, where_declared, before_use, filled_if_listed, filled_by_lists}
 use Rattle.shape_laws.proofs.Grown.{AreFilled, no_object, without_fill}
 use Rattle.shape_laws.proofs.Scopes.{known_parameters}

@@ -9,8 +9,8 @@ use Rattle.c_tree.specs.TypedTree.{Kind, Expr, Stmt, Stmts, Choices, FunctionTre
 use Rattle.c_tree.specs.WellFormed.{Shape, Names, IsThere, IsOptional, IsOptionalTest, IsReturned, IsWellTyped, IsWellFormed, AreWellFormed}
 use Rattle.c_tree.specs.WellFormed.{HasChoices, is_among, opened}
 use Rattle.c_tree.specs.WellFormedProgram.{IsProgram, IsFunction, object_in, names_within}
-use Rattle.shape_laws.specs.Names.{names_in, optional_names}
-use Rattle.shape_laws.specs.Uses.{IsKnown, AreKnown, UsesKnown, AllUseKnown, ChoicesUseKnown, UsedWhereDeclared}
+use Rattle.c_tree.specs.NamesUsed.{names_in, optional_names}
+use Rattle.c_tree.specs.Scopes.{IsKnown, AreKnown, UsesKnown, AllUseKnown, ChoicesUseKnown, UsedWhereDeclared}
 use Rattle.shape_laws.proofs.Named.{EachName, Stands, names_stand}
 use Rattle.shape_laws.proofs.Starts.{among_more, among_behind}
 

@@ -12,7 +12,7 @@ use Rattle.c_rules.specs.declared.fault.Rule.TheVariants.{LongConstant}
 use Rattle.c_rules.specs.Outcome.{Outcome, Is, Broken}
 use Rattle.c_rules.specs.Programs.{program_tree}
 use Rattle.c_rules.specs.Units.{File, typed_unit}
-use Rattle.shape_laws.specs.Characters.{UnitSaysWords}
+use Rattle.c_syntax.specs.Characters.{UnitSaysWords}
 
 abbrev starts_in : Outcome File → List (List Initial)
 starts_in (Is file) = map (λ o. o.initial) (program_tree file).statics

@@ -7,12 +7,13 @@ ghost use Rattle.c_syntax.specs.SyntaxTree.{UnitTree};
 ghost use Rattle.c_tree.specs.TypedTree.{ProgramTree};
 ghost use Rattle.c_tree.specs.WellFormedProgram.{IsProgram};
 ghost use Rattle.c_rules.specs.Checked.{IsTyped};
-ghost use Rattle.tree_code.specs.TypedOfWords.{HasWords};
-ghost use Rattle.shape_laws.specs.Characters.{UnitSaysWords};
-ghost use Rattle.shape_laws.specs.Declarations.{DeclaredOnce, DeclaredInOrder};
-ghost use Rattle.shape_laws.specs.Fills.{FilledOnce, FilledWhereDeclared, FilledBeforeUse, FilledAsListed, FilledIfListed};
-ghost use Rattle.shape_laws.specs.Uses.{UsedWhereDeclared};
-ghost use Rattle.shape_laws.specs.Values.{UnitHasValues};
+ghost use Rattle.c_tree.specs.TypedOfWords.{HasWords};
+ghost use Rattle.c_syntax.specs.Characters.{UnitSaysWords};
+ghost use Rattle.c_tree.specs.Declarations.{DeclaredOnce, DeclaredInOrder};
+ghost use Rattle.c_tree.specs.Fills.{FilledOnce, FilledWhereDeclared, FilledBeforeUse, FilledAsListed, FilledIfListed};
+ghost use Rattle.c_tree.specs.Placed.{IsPlaced};
+ghost use Rattle.c_tree.specs.Scopes.{UsedWhereDeclared};
+ghost use Rattle.c_syntax.specs.Values.{UnitHasValues};
 
 /// In the typed program of a source each object of a function is declared in one place. It is filled with its list in at most one, by a statement of
 /// the block that declares it, in front of which no other one of that block names it. An object with a list is filled; where the source has no empty
@@ -25,6 +26,11 @@ pub fn typed_programs_are_whole()
     ensures before_use { (unit : UnitTree) (program : ProgramTree) → IsTyped unit program → All FilledBeforeUse program.functions }
     ensures listed { (unit : UnitTree) (program : ProgramTree) → IsTyped unit program → All FilledIfListed program.functions }
     ensures exact { (unit : UnitTree) (program : ProgramTree) → UnitHasValues unit → IsTyped unit program → All FilledAsListed program.functions }
+{}
+
+/// In the typed program of a source whose braces hold values, the objects of each function stand where the source has them.
+pub fn typed_programs_are_placed()
+    ensures { (unit : UnitTree) (program : ProgramTree) → UnitHasValues unit → IsProgram program → IsTyped unit program → All IsPlaced program.functions }
 {}
 
 /// In the tree of tokens braces hold a value.

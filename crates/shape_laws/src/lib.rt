@@ -6,5 +6,5 @@ mod laws;
 
 pub use laws::{
     objects_are_used_where_declared, sources_have_values, sources_say_words,
-    typed_programs_are_of_words, typed_programs_are_whole,
+    typed_programs_are_of_words, typed_programs_are_placed, typed_programs_are_whole,
 };

@@ -15,7 +15,6 @@ pub mod Depths
 pub mod Starting
 pub mod Telling
 mod Examples
-pub mod OperatorWords
 pub mod Wordly
 pub mod WordlyStatements
 pub mod TellingWords

@@ -6,7 +6,7 @@ use Rattle.c_tree.specs.Exec.{Flow, enter, exec}
 use Rattle.c_tree.specs.SourceRun.{call_within, pass}
 use Rattle.c_tree.specs.Store.{Does, Gives, Value, World}
 use Rattle.c_tree.specs.TypedTree.{Expr, ProgramTree, Stmt}
-use Rattle.tree_code.specs.TypedOfWords.{HasWords, StartsWithWords, StatementUsesWords, UsesWords}
+use Rattle.c_tree.specs.TypedOfWords.{HasWords, StartsWithWords, StatementUsesWords, UsesWords}
 use Rattle.source_laws.specs.Words.{FlowHasBits, GivenHasBits, HaveBits, HoldsWords}
 use Rattle.source_laws.proofs.Wordly.{Came, Keeps, Any, evals}
 use Rattle.source_laws.proofs.WordlyStatements.{enters, passes, stmts, calls_keep}

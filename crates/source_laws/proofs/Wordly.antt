@@ -12,9 +12,9 @@ use Rattle.c_syntax.specs.declared.operator.BinaryOp.TheVariants as op
 use Rattle.c_tree.specs.TypedTree.{Kind, Expr, Node, Lvalue, Named, At, Form, Const, Read, AddressOf, Load, Unary, Binary, And, Or, Not, Pick, Assign, AssignOp, StepBefore, StepAfter, Call, In, Out, Comma, Convert, Exprs, none, more}
 use Rattle.c_tree.specs.Store.{Value, Word, Pointer, Null, Cell, Unset, Holds, Obj, World, Res, Gives, Finished, TooMany, Fails, Does, after, ◌>>=◌, give, fail, cell_of, with_cell, store_value, read_cell, load, write_cell, save, taken, take_word}
 use Rattle.c_tree.specs.Eval.{Env, Calls, calc, made_pointer, move, if_living, where_living, equality, ordering, without_sign, is_unsigned, of_two, of_one, test_of, need, spot_of, choose, some, emit, stepped, kind_of, eval, value, eval_form, condition, expression_place, spot, values}
-use Rattle.tree_code.specs.TypedOfWords.{UsesWords, FormUsesWords, TargetUsesWords, AllUseWords}
+use Rattle.c_tree.specs.TypedOfWords.{UsesWords, FormUsesWords, TargetUsesWords, AllUseWords}
 use Rattle.source_laws.specs.Words.{HasBits, CellHasBits, GivenHasBits, HaveBits, AreWords, HoldsWords, EndsWithWord}
-use Rattle.source_laws.proofs.OperatorWords.{given_by, given_of, few_given, one_few, difference_few}
+use Rattle.c_tree.proofs.OperatorWords.{given_by, given_of, few_given, one_few, difference_few}
 use Rattle.source_laws.proofs.Storing.{found, found_cell, set_cell}
 
 -- words behind a part of a run, however it ended, and of its value

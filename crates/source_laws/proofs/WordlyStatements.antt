@@ -16,7 +16,7 @@ use Rattle.c_tree.specs.Eval.{Env, Calls, object_number}
 use Rattle.c_tree.specs.Labels.{has_case}
 use Rattle.c_tree.specs.Exec.{Flow, Next, Broke, Continued, Returned, too_many, after_turn, turns, turns_first, in_order, behind_switch, zero_of, initial_cell, set_cells, fresh, unset_scalar, unset_object, make_object, enter, leave, cells_set, fill, third_of, test_or_true, returned, word_or_zero, exec, exec_all, from_case, from_default, run_choices}
 use Rattle.c_tree.specs.SourceRun.{pass, result_of, nothing_named, call_function, call_within, main_of, outcome_of, source_run, static_object, first_world}
-use Rattle.tree_code.specs.TypedOfWords.{StartsWithWord, StartsWithWords, OptionalUsesWords, StatementUsesWords, StatementsUseWords, ChoicesUseWords, FunctionHasWords, HasWords}
+use Rattle.c_tree.specs.TypedOfWords.{StartsWithWord, StartsWithWords, OptionalUsesWords, StatementUsesWords, StatementsUseWords, ChoicesUseWords, FunctionHasWords, HasWords}
 use Rattle.source_laws.specs.Words.{CellHasBits, GivenHasBits, HaveBits, FlowHasBits, HoldsWords, IsOfWords}
 use Rattle.source_laws.proofs.Naming.{function_same}
 use Rattle.source_laws.proofs.Opening.{replicated}

@@ -14,7 +14,7 @@ ghost use Rattle.c_tree.specs.TypedTree.{Expr, FunctionTree, Kind, ProgramTree, 
 ghost use Rattle.c_tree.specs.Uses.{called, statement_uses, uses};
 ghost use Rattle.c_tree.specs.WellFormed.{AreNew, IsAutomatic, IsThere, IsWellFormed, IsWellTyped, Names, Shape, opened};
 ghost use Rattle.c_tree.specs.WellFormedProgram.{IsProgram, kind_of_parameter, names_within, object_in, static_names};
-ghost use Rattle.tree_code.specs.TypedOfWords.{HasWords, StartsWithWords, StatementUsesWords, UsesWords};
+ghost use Rattle.c_tree.specs.TypedOfWords.{HasWords, StartsWithWords, StatementUsesWords, UsesWords};
 ghost use Rattle.source_laws.specs.Loops.{HasNoLoop, IsLoopless, IsWhole};
 ghost use Rattle.source_laws.specs.Sound.{AreNamesIn, IsKept, IsSound, whole_run};
 ghost use Rattle.source_laws.specs.Words.{FlowHasBits, GivenHasBits, HaveBits, HoldsWords, IsOfWords};

@@ -10,7 +10,7 @@ use Rattle.c_tree.specs.TypedTree.{ObjectTree}
 use Rattle.c_tree.specs.WellFormed.{IsInitial, StartsAt}
 use Rattle.c_tree.specs.WellFormedProgram.{object_shape, static_in}
 use Rattle.c25_isa.specs.Step.{wrap16}
-use Rattle.tree_code.specs.TypedOfWords.{StartsWithWord, StartsWithWords}
+use Rattle.c_tree.specs.TypedOfWords.{StartsWithWord, StartsWithWords}
 use Rattle.tree_code.specs.WellFormedCode.{IsObjectAmong}
 use Rattle.frame_runs.specs.Places.{address_in}
 use Rattle.frame_emit.specs.Startup.{initial_word, up_to_last, before_zeros}

@@ -16,7 +16,7 @@ use Rattle.c25_code.specs.Work.{Work, InRange, work_of}
 use Rattle.c25_code.proofs.ItemRuns.{straight_runs, items_run_on}
 use Rattle.c25_code.proofs.Ranges.{behind_instr-fits}
 use Rattle.c25_code.proofs.Startups.{startup_arrives}
-use Rattle.tree_code.specs.TypedOfWords.{StartsWithWords}
+use Rattle.c_tree.specs.TypedOfWords.{StartsWithWords}
 use Rattle.tree_code.specs.WellFormedCode.{IsCode}
 use Rattle.tree_code.specs.WordTree.{ProgramCode}
 use Rattle.mem_plan.specs.declared.data_plan.DataPlan.{DataPlan}

@@ -4,7 +4,7 @@ ghost use Rattle.word_base.specs.Ports.{Input, IsInput};
 ghost use Rattle.c_tree.specs.SourceRun.{main_name};
 ghost use Rattle.c25_isa.specs.Pieces.{items_size, ItemsAt};
 ghost use Rattle.c25_isa.specs.State.{IsStart, Start};
-ghost use Rattle.tree_code.specs.TypedOfWords.{StartsWithWords};
+ghost use Rattle.c_tree.specs.TypedOfWords.{StartsWithWords};
 ghost use Rattle.tree_code.specs.WellFormedCode.{IsCode};
 ghost use Rattle.tree_code.specs.WordTree.{ProgramCode};
 ghost use Rattle.mem_plan.specs.declared.data_plan.DataPlan.{DataPlan};

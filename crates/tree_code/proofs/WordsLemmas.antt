@@ -20,7 +20,7 @@ use Rattle.c_tree.specs.TypedTree as tree
 use Rattle.tree_code.specs.declared.program.TreeFunction.{TreeFunction}
 use Rattle.tree_code.specs.Lowered.{lowered_function}
 use Rattle.tree_code.specs.WordView.{function_code_of}
-use Rattle.tree_code.specs.TypedOfWords.{StartsWithWord, StartsWithWords, UsesWords, FormUsesWords, AllUseWords, StatementUsesWords, StatementsUseWords, ChoicesUseWords, FunctionHasWords}
+use Rattle.c_tree.specs.TypedOfWords.{StartsWithWord, StartsWithWords, UsesWords, FormUsesWords, AllUseWords, StatementUsesWords, StatementsUseWords, ChoicesUseWords, FunctionHasWords}
 use Rattle.tree_code.proofs.LoweredLemmas.{next}
 
 argument_more : (xs : List TypedExpr) (x : TypedExpr) → AllUseWords (typed.argument_list xs) → UsesWords (typed.expr_of x) → AllUseWords (typed.argument_list (xs ++ x ∷ []))

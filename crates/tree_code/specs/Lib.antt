@@ -7,7 +7,6 @@ pub mod WordTemporaries
 pub mod OperandForms
 pub mod ByteCount
 pub mod Lowered
-pub mod TypedOfWords
 pub mod WordLabels
 pub mod WordUses
 pub mod WellFormedCode

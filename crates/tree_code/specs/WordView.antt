@@ -8,7 +8,7 @@ use Rattle.tree_code.specs.declared.word_expression.WordTargetForm.{WordTargetFo
 use Rattle.tree_code.specs.declared.word_expression.WordForm as form
 use Rattle.tree_code.specs.declared.word_expression.WordForm.{WordForm, Row_of-WordExpr, end_of-WordExpr, more_of-WordExpr}
 use Rattle.tree_code.specs.declared.word_statement.WordStmt as stmt
-use Rattle.tree_code.specs.declared.word_statement.WordStmt.{WordStmt, Row_of-WordStmt, end_of-WordStmt, more_of-WordStmt, Held-WordStmt-If-2}
+use Rattle.tree_code.specs.declared.word_statement.WordStmt.{WordStmt, Row_of-WordStmt, end_of-WordStmt, more_of-WordStmt}
 use Rattle.tree_code.specs.declared.word_statement.WordChoice as choice
 use Rattle.tree_code.specs.declared.word_statement.WordChoice.{WordChoice}
 use Rattle.tree_code.specs.declared.word_statement.WordStmt.{Row_of-WordChoice, end_of-WordChoice, more_of-WordChoice}
@@ -66,7 +66,7 @@ abbrev mutual
   word_stmt_of (stmt.Block' declared shape all) = Block declared.items (word_stmts_of all)
   word_stmt_of (stmt.Fill n) = Fill n
   word_stmt_of (stmt.Expr e) = Do_expr (word_expr_of e)
-  word_stmt_of (stmt.If' test p s other) = If (word_expr_of test) (word_stmt_of s) (word_else_of other)
+  word_stmt_of (stmt.If' test p s q t) = If (word_expr_of test) (word_stmt_of s) (word_stmt_of t)
   word_stmt_of (stmt.While' test p s) = While (word_expr_of test) (word_stmt_of s)
   word_stmt_of (stmt.Do' p s test) = Do_while (word_stmt_of s) (word_expr_of test)
   word_stmt_of (stmt.For' first test third p s) = For (optional_word_of first) (optional_word_of test) (optional_word_of third) (word_stmt_of s)
@@ -74,11 +74,6 @@ abbrev mutual
   word_stmt_of stmt.Break = Break
   word_stmt_of stmt.Continue = Continue
   word_stmt_of (stmt.Return value) = Return (optional_word_of value)
-
-  -- an absent else is an empty block
-  pub word_else_of : Held-WordStmt-If-2 → StmtCode
-  word_else_of stmt.None' = Block [] done
-  word_else_of (stmt.Some' p s) = word_stmt_of s
 
   -- the statements of a block
   pub word_stmts_of : {m : _} → Row_of-WordStmt m → StmtsCode

@@ -2,7 +2,7 @@
 ghost use Rattle.std.specs.Prelude.{◌≡◌, map, IfOk};
 ghost use Rattle.std.specs.List.{AllByRecursion};
 ghost use Rattle.c_tree.specs.View.{object_of};
-ghost use Rattle.tree_code.specs.TypedOfWords.{StartsWithWord, StartsWithWords};
+ghost use Rattle.c_tree.specs.TypedOfWords.{StartsWithWord, StartsWithWords};
 
 use c_tree::{Initial, Object, VarRef};
 use std::alloc::Global;

@@ -206,10 +206,9 @@ fn statement(s: &WordStmt) -> u8
         WordStmt::Expr(e) => expression(e),
         WordStmt::Return(value) => optional(value),
         WordStmt::Block { body, .. } => statements(body),
-        WordStmt::If { test, yes, no } => match no {
-            Some(no) => larger(expression(test), larger(statement(yes), statement(no))),
-            None => larger(expression(test), statement(yes)),
-        },
+        WordStmt::If { test, yes, no } => {
+            larger(expression(test), larger(statement(yes), statement(no)))
+        }
         WordStmt::While { test, body } => larger(expression(test), statement(body)),
         WordStmt::Do { body, test } => larger(statement(body), expression(test)),
         WordStmt::For {

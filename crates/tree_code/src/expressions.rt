@@ -3,7 +3,7 @@ ghost use Rattle.std.specs.Prelude.{◌≡◌, IfOk};
 ghost use Rattle.c_tree.specs.View as typed;
 ghost use Rattle.tree_code.specs.Lowered as lowering;
 ghost use Rattle.tree_code.specs.Lowered.{lowered, lowered_form, lowered_target, lowered_list, lowered_optional};
-ghost use Rattle.tree_code.specs.TypedOfWords.{UsesWords, FormUsesWords, TargetUsesWords, AllUseWords, OptionalUsesWords};
+ghost use Rattle.c_tree.specs.TypedOfWords.{UsesWords, FormUsesWords, TargetUsesWords, AllUseWords, OptionalUsesWords};
 ghost use Rattle.tree_code.specs.WordTree as word;
 ghost use Rattle.tree_code.specs.WordView.{word_expr_of, word_form_of, word_lvalue_of, word_argument_list, optional_word_of};
 
@@ -99,12 +99,17 @@ fn operation(
         ExprForm::Const(word) => leaf(WordForm::Const(*word), at),
         ExprForm::Read(named) => leaf(WordForm::Read(*named), at),
         ExprForm::AddressOf(named) => leaf(WordForm::AddressOf(*named), at),
-        ExprForm::In { port } => leaf(WordForm::In { port: *port }, at),
+        ExprForm::In { port } => leaf(
+            WordForm::In {
+                port: port.number(),
+            },
+            at,
+        ),
         ExprForm::Load(value) => load(alloc, value, at),
         ExprForm::Not(value) => not(alloc, value, at),
         ExprForm::Convert(value) => expression(alloc, value),
         ExprForm::Unary { op, value } => unary(alloc, *op, value, at),
-        ExprForm::Out { port, value } => out(alloc, *port, value, at),
+        ExprForm::Out { port, value } => out(alloc, port.number(), value, at),
         ExprForm::Binary { op, left, right } => {
             let op = word_op(*op, left.kind, right.kind);
             binary(alloc, right, op, part(alloc, left)?, at)

@@ -6,7 +6,7 @@ ghost use Rattle.c_tree.specs.View.{object_of};
 ghost use Rattle.c_tree.specs.ProgramView.{program_of};
 ghost use Rattle.tree_code.specs.ProgramView.{tree_of};
 ghost use Rattle.tree_code.specs.Lowered.{HasFewScalars, lowered_function, lowered_program};
-ghost use Rattle.tree_code.specs.TypedOfWords.{StartsWithWords, FunctionHasWords, HasWords};
+ghost use Rattle.c_tree.specs.TypedOfWords.{StartsWithWords, FunctionHasWords, HasWords};
 ghost use Rattle.tree_code.specs.WordTree.{code};
 ghost use Rattle.tree_code.specs.WellFormedCode.{IsCode};
 ghost use Rattle.tree_code.specs.WordTemporaries.{word_statement_temporaries};

@@ -3,7 +3,7 @@ ghost use Rattle.std.specs.Prelude.{◌≡◌, IfOk, []};
 ghost use Rattle.c_tree.specs.View as typed;
 ghost use Rattle.c_tree.specs.TypedTree as tree;
 ghost use Rattle.tree_code.specs.Lowered.{lowered, lowered_optional, lowered_statement, lowered_statements, lowered_choices};
-ghost use Rattle.tree_code.specs.TypedOfWords.{UsesWords, OptionalUsesWords, StatementUsesWords, StatementsUseWords, ChoicesUseWords};
+ghost use Rattle.c_tree.specs.TypedOfWords.{UsesWords, OptionalUsesWords, StatementUsesWords, StatementsUseWords, ChoicesUseWords};
 ghost use Rattle.tree_code.specs.WordTree as word;
 ghost use Rattle.tree_code.specs.WordView.{optional_word_of, word_stmt_of, word_statement_list, word_choice_list, word_choice_before};
 
@@ -34,10 +34,7 @@ fn statement(alloc: Global, s: &TypedStmt) -> Result<WordStmt, NoMemory>
         TypedStmt::Expr(e) => effect(alloc, e),
         TypedStmt::Return(value) => returned(alloc, value),
         TypedStmt::Block { declared, body } => block(alloc, declared, body),
-        TypedStmt::If { test, yes, no } => match no {
-            Some(no) => if_else(alloc, no, part(alloc, yes)?, test),
-            None => if_alone(alloc, yes, test),
-        },
+        TypedStmt::If { test, yes, no } => either(alloc, no, part(alloc, yes)?, test),
         TypedStmt::While { test, body } => while_loop(alloc, body, test),
         TypedStmt::Do { body, test } => do_loop(alloc, body, test),
         TypedStmt::For {
@@ -91,9 +88,9 @@ fn block(alloc: Global, declared: &[VarRef], list: &[TypedStmt]) -> Result<WordS
     Ok(WordStmt::Block { declared, body })
 }
 
-// An if with an else, whose other part is lowered.
+// An if whose first part is lowered.
 #[cycle(statements)]
-fn if_else(
+fn either(
     alloc: Global,
     no: &TypedStmt,
     yes: Box<WordStmt>,
@@ -103,10 +100,10 @@ fn if_else(
     ensures words { IfOk result (λ _. UsesWords (typed.expr_of test.now) × StatementUsesWords (typed.stmt_of no.now)) }
 {
     let no = part(alloc, no)?;
-    if_both(alloc, test, yes, no)
+    two_armed(alloc, test, yes, no)
 }
 
-fn if_both(
+fn two_armed(
     alloc: Global,
     test: &TypedExpr,
     yes: Box<WordStmt>,
@@ -116,25 +113,7 @@ fn if_both(
     ensures words { IfOk result (λ _. UsesWords (typed.expr_of test.now)) }
 {
     let test = expression(alloc, test)?;
-    Ok(WordStmt::If {
-        test,
-        yes,
-        no: Some(no),
-    })
-}
-
-#[cycle(statements)]
-fn if_alone(alloc: Global, yes: &TypedStmt, test: &TypedExpr) -> Result<WordStmt, NoMemory>
-    ensures tree { IfOk result (λ w. word_stmt_of w ≡ word.If (lowered (typed.expr_of test.now)) (lowered_statement (typed.stmt_of yes.now)) (word.Block [] word.done)) }
-    ensures words { IfOk result (λ _. UsesWords (typed.expr_of test.now) × StatementUsesWords (typed.stmt_of yes.now)) }
-{
-    let yes = part(alloc, yes)?;
-    let test = expression(alloc, test)?;
-    Ok(WordStmt::If {
-        test,
-        yes,
-        no: None,
-    })
+    Ok(WordStmt::If { test, yes, no })
 }
 
 #[cycle(statements)]

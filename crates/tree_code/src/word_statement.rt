@@ -24,10 +24,11 @@ pub enum WordStmt {
     Fill(u32),
     /// An expression whose value isn't used.
     Expr(WordExpr),
+    /// An absent else is an empty statement.
     If {
         test: WordExpr,
         yes: Box<WordStmt>,
-        no: Option<Box<WordStmt>>,
+        no: Box<WordStmt>,
     },
     While {
         test: WordExpr,

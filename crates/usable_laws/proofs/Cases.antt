@@ -4,7 +4,7 @@ use Rattle.std.specs.Prelude.{⊤}
 use Rattle.c_tree.specs.TypedTree as source
 use Rattle.c_tree.specs.TypedTree.{Stmt, Stmts, Choices}
 use Rattle.tree_code.specs.Lowered.{lowered_statement, lowered_statements, lowered_choices}
-use Rattle.tree_code.specs.TypedOfWords.{StatementUsesWords, StatementsUseWords, ChoicesUseWords}
+use Rattle.c_tree.specs.TypedOfWords.{StatementUsesWords, StatementsUseWords, ChoicesUseWords}
 use Rattle.tree_code.specs.WordTree as tree
 use Rattle.tree_code.specs.WordTree.{StmtCode, StmtsCode, ChoicesCode}
 use Rattle.acc_select.specs.Selected.{labels_of}

@@ -7,7 +7,7 @@ use Rattle.c_tree.specs.WellFormedProgram.{IsProgram}
 use Rattle.c_tree.specs.declared.program.VarRef.{VarRef}
 use Rattle.c_tree.specs.declared.program.VarRef.TheVariants.{Scalar, Local, Static}
 use Rattle.tree_code.specs.Lowered.{lowered_function, lowered_program}
-use Rattle.tree_code.specs.TypedOfWords.{FunctionHasWords, HasWords}
+use Rattle.c_tree.specs.TypedOfWords.{FunctionHasWords, HasWords}
 use Rattle.tree_code.specs.WordTemporaries.{word_statement_temporaries}
 use Rattle.tree_code.specs.WordTree.{FunctionCode}
 use Rattle.acc_code.specs.AccTree.{ItemList, FunctionItems}

@@ -1,4 +1,5 @@
-use Rattle.std.proofs.Common.{rules, arith, ◌≡◌, ◌∙◌, refl, sym, ap, subst, ℕ, suc, ◌+◌, true, false, None, ◌++◌, drop, map}
+use Rattle.std.proofs.Common.{rules, arith, ◌≡◌, ◌∙◌, refl, sym, ap, subst, ℕ, suc, ◌+◌, true, false, Some, None, ◌++◌, drop, map}
+use Rattle.std.specs.Prelude.{slice_get}
 use Rattle.std.proofs.lemmas.Option.{slice_get_read, slice_get_past}
 use Rattle.c_tree.specs.Store.{Gives, after, give, load, save}
 use Rattle.c_tree.specs.Eval.{Env, choose, condition, eval_form, points, spot, values}
@@ -13,6 +14,7 @@ use Rattle.c_state.specs.Values.{option_of, value_of}
 use Rattle.c_state.specs.Worlds.{world_of, ComesTo, Stops}
 use Rattle.c_means.proofs.CallLemmas.{call_there, call_missing, entered_first, body_stops, body_gives, next_argument, argument_stops, from_here, plus_one, mapped_behind}
 use Rattle.c_means.proofs.RunLemmas.{stopped, eval_comes, value_comes, exec_comes, assign_place, convert_place, target_place, and_right, or_right, arm_of, other_comes}
+use Rattle.c_means.proofs.RoomLemmas.{called_has_room}
 use Rattle.c_means.proofs.Sizes.{nodes, form_nodes, argument_nodes, statement_nodes, body_nodes, choice_nodes, body_falls, argument_in, statement_in, choice_in}
 use Rattle.c_means.proofs.StepLemmas.{step_before_old, step_after_old, assign_old, assign_new, assign_saved}
 use Rattle.c_means.proofs.TurnLemmas.{stops_behind, one_turn, one_turn_first, first_tests, first_test_stops, third_stops, third_gives, loop_left, loop_on, loop_stops, loop_end}
@@ -60,7 +62,14 @@ expressions::both-returns-in_err-right t c =
 
 pub expressions::called-body-requires : goal.expressions::called-body-requires
 expressions::called-body-requires t c =
-    (body_falls c.args.run.now (record { alloc = c.args.run.now.alloc; program = c.args.run.now.program; function = c.in-Some-get.function; turns = c.args.run.now.turns; depth = c.in-Some.depth }) c.args.function t refl (search rules) (rw c.as_slice.ensures at (slice_get_read c.as_slice.result.now _ c.args.function c.in-Some-get.function.now refl (search rules) (search rules))) c.decreases, tt {0})
+    let r = c.args.run.now in
+    let there : slice_get r.program.now.functions c.args.function ≡ Some c.in-Some-get.function.now = rw c.as_slice.ensures at (slice_get_read c.as_slice.result.now _ c.args.function c.in-Some-get.function.now refl (search rules) (search rules)) in
+    (body_falls r (record { alloc = r.alloc; program = r.program; function = c.in-Some-get.function; turns = r.turns; depth = c.in-Some.depth; room = _ }) c.args.function t refl (search rules) there c.decreases, tt {0})
+
+pub expressions::called-invariant_of-body : goal.expressions::called-invariant_of-body
+expressions::called-invariant_of-body t c =
+    let there : slice_get c.args.run.now.program.now.functions c.args.function ≡ Some c.in-Some-get.function.now = rw c.as_slice.ensures at (slice_get_read c.as_slice.result.now _ c.args.function c.in-Some-get.function.now refl (search rules) (search rules)) in
+    record { room = called_has_room c.args.run.now.program.now c.args.function c.in-Some-get.function.now there }
 
 pub expressions::called-returns-in-None : goal.expressions::called-returns-in-None
 expressions::called-returns-in-None t c =

@@ -30,11 +30,8 @@ decreases-block_part l = 16 * (goal.size-block_part l) + 4
 abbrev pub decreases-list_part : goal.decreases-list_part
 decreases-list_part l = 16 * (goal.size-list_part l) + 2
 
-abbrev pub decreases-if_else : goal.decreases-if_else
-decreases-if_else l = 16 * (max (size-WordStmt l.yes.now) (size-WordStmt l.no.now)) + 4
-
-abbrev pub decreases-if_alone : goal.decreases-if_alone
-decreases-if_alone l = 16 * ((size-WordStmt l.yes.now)) + 4
+abbrev pub decreases-either : goal.decreases-either
+decreases-either l = 16 * (max (size-WordStmt l.yes.now) (size-WordStmt l.no.now)) + 4
 
 abbrev pub decreases-while_loop : goal.decreases-while_loop
 decreases-while_loop l = 16 * ((size-WordStmt l.body.now)) + 2

@@ -1,16 +1,18 @@
-use Rattle.std.proofs.Common.{rules, ◌≡◌, arith}
+use Rattle.std.proofs.Common.{rules, ◌≡◌, refl, arith}
 use Rattle.c_tree.specs.View.{argument_list, form_of}
 use Rattle.c_tree.specs.declared.typed_expression.ExprForm as form
 use Rattle.c_tree.specs.TypedTree as tree
 use Rattle.c_tree.specs.TypedTree.{Expr, Form}
 use Rattle.c_rules.specs.Renumbering as by
-use Rattle.c_frames.proofs.RenumberLemmas.{alike, arguments_done, call_renumbered, part, goal_part, of_parts}
+use Rattle.c_frames.proofs.RenumberLemmas.{alike, call_renumbered, part, goal_part, of_parts}
+use Rattle.pass_laws.proofs.Arguments.{arguments_replaced}
 use Rattle.c_frames.proofs.renumber.+expressions.Goals as goal
 
 pub arguments-returns : goal.arguments-returns
 arguments-returns t c =
-    arguments_done c.args.frame.now c.args.list.now.len c.loop-e.e-index c.loop-e.e-items c.args.list.now.items c.deref_mut-e-items.result.now c.deref_mut-e-items.ensures.value
-    c.loop-e.invariant.long (omega (arith, c.args.list.now.ok)) (omega (arith, c.loop-e-test.false, c.loop-e.invariant.long)) c.loop-e.invariant.done
+    arguments_replaced (by.expression c.args.frame.now) (by.arguments c.args.frame.now) refl (λ e rest. refl) c.args.list.now.len c.loop-e.e-index c.loop-e.e-items
+    c.args.list.now.items c.deref_mut-e-items.result.now c.deref_mut-e-items.ensures.value (omega (arith, c.args.list.now.ok))
+    (omega (arith, c.loop-e-test.false)) c.loop-e.invariant
 
 pub operation-returns-in-Call : goal.operation-returns-in-Call
 operation-returns-in-Call t c =

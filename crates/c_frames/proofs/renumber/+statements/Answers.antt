@@ -1,21 +1,24 @@
-use Rattle.std.proofs.Common.{◌∙◌, ap, map, Option, arith}
+use Rattle.std.proofs.Common.{◌∙◌, ap, refl, map, Option, arith}
 use Rattle.c_tree.specs.View.{expr_of, option_expr_of, statement_list, choice_list}
 use Rattle.c_tree.specs.TypedTree as tree
 use Rattle.c_tree.specs.TypedTree.{Expr, Stmt}
 use Rattle.c_rules.specs.Renumbering as by
-use Rattle.c_frames.proofs.RenumberLemmas.{alike, of_statement_parts, body_part, statements_done, choices_done, block_renumbered, switch_renumbered}
+use Rattle.c_frames.proofs.RenumberLemmas.{alike, of_statement_parts, body_part, block_renumbered, switch_renumbered}
+use Rattle.pass_laws.proofs.Statements.{statements_replaced}
+use Rattle.pass_laws.proofs.Choices.{choices_replaced}
 use Rattle.c_frames.proofs.renumber.+statements.Goals as goal
 
 pub statements-returns : goal.statements-returns
 statements-returns t c =
-    statements_done c.args.frame.now c.args.list.now.len c.loop-s.s-index c.loop-s.s-items c.args.list.now.items c.deref_mut-s-items.result.now c.deref_mut-s-items.ensures.value
-    c.loop-s.invariant.long (omega (arith, c.args.list.now.ok)) (omega (arith, c.loop-s-test.false, c.loop-s.invariant.long)) c.loop-s.invariant.done
+    statements_replaced (by.statement c.args.frame.now) (by.statements c.args.frame.now) refl (λ s rest. refl) c.args.list.now.len c.loop-s.s-index c.loop-s.s-items
+    c.args.list.now.items c.deref_mut-s-items.result.now c.deref_mut-s-items.ensures.value (omega (arith, c.args.list.now.ok))
+    (omega (arith, c.loop-s-test.false)) c.loop-s.invariant
 
 pub choices-returns : goal.choices-returns
 choices-returns t c =
-    choices_done c.args.frame.now c.args.list.now.len c.loop-part.part-index c.loop-part.part-items c.args.list.now.items c.deref_mut-part-items.result.now
-    c.deref_mut-part-items.ensures.value c.loop-part.invariant.long (omega (arith, c.args.list.now.ok)) (omega (arith, c.loop-part-test.false, c.loop-part.invariant.long))
-    c.loop-part.invariant.done
+    choices_replaced (by.statement c.args.frame.now) (by.choices c.args.frame.now) refl (λ w rest. refl) (λ rest. refl) (λ s rest. refl) c.args.list.now.len
+    c.loop-part.part-index c.loop-part.part-items c.args.list.now.items c.deref_mut-part-items.result.now c.deref_mut-part-items.ensures.value
+    (omega (arith, c.args.list.now.ok)) (omega (arith, c.loop-part-test.false)) c.loop-part.invariant
 
 pub statement-returns-in-Block : goal.statement-returns-in-Block
 statement-returns-in-Block t c =

@@ -1,11 +1,6 @@
-use Rattle.std.proofs.Common.{◌≡◌, ℕ, ◌<◌, ◌≤◌, length, get_or}
-use Rattle.c_tree.specs.declared.program.VarRef.{VarRef}
 use Rattle.c_rules.specs.Renumbering as by
+use Rattle.pass_laws.specs.Replaced.{IsReplacedTo}
 use Rattle.c_frames.proofs.renumber.references.Given as goal
 
 abbrev pub invariant-loop-named : goal.invariant-loop-named
-invariant-loop-named l = record {
-  long : length l.named-items ≡ length l.initial.named-items;
-  done : (k : ℕ) (d : VarRef) → k < l.named-index → get_or l.named-items k d ≡ by.renumbered l.frame (get_or l.initial.named-items k d);
-  kept : (k : ℕ) (d : VarRef) → l.named-index ≤ k → get_or l.named-items k d ≡ get_or l.initial.named-items k d;
-}
+invariant-loop-named l = IsReplacedTo (λ r. r) (by.renumbered l.frame) l.named-index l.initial.named-items l.named-items

@@ -1,14 +1,16 @@
-use Rattle.std.proofs.Common.{arith, max}
-use Rattle.c_tree.specs.View.{expr_of}
-use Rattle.c_tree.specs.Temporaries.{temporaries}
-use Rattle.c_frames.proofs.TemporariesLemmas.{argument_further, of_binary, of_call, of_shape, held}
+use Rattle.std.proofs.Common.{◌+◌, max, arith}
+use Rattle.c_tree.specs.View.{expr_of, argument_list}
+use Rattle.c_tree.specs.Temporaries.{temporaries, argument_temporaries}
+use Rattle.c_frames.proofs.TemporariesLemmas.{argument_more, of_binary, of_call, of_shape, held}
+use Rattle.pass_laws.proofs.Folds.{step_further}
 use Rattle.c_frames.proofs.temporaries.+expressions.Goals as goal
 
 pub arguments-loop-e-preserved : goal.arguments-loop-e-preserved
 arguments-loop-e-preserved t c = record {
   kept = omega arith;
-  most = argument_further c.args.list.now c.loop-e.e-index c.e-item.result c.e-item.is c.loop-e-test.true c.loop-e.invariant.most c.loop-e.invariant.kept
-      (omega (arith, c.max-most.ensures, c.in_ok-here.ensures, c.in_ok-count.ensures));
+  most = let further = step_further (λ es. argument_temporaries (argument_list es)) (λ kept most e. max most (kept + temporaries (expr_of e))) argument_more
+      c.args.list.now c.loop-e.e-index c.e-item.result c.e-item.is c.loop-e-test.true c.loop-e.invariant.most
+      in omega (arith, c.max-most.ensures, c.in_ok-here.ensures, c.in_ok-count.ensures, c.loop-e.invariant.kept, further);
 }
 
 pub expression-returns-in-Call : goal.expression-returns-in-Call

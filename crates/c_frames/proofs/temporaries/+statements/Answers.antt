@@ -1,13 +1,15 @@
-use Rattle.std.proofs.Common.{◌∙◌, ap, max, sym, arith}
-use Rattle.c_tree.specs.declared.typed_statement.TypedStmt as stmt
+use Rattle.std.proofs.Common.{max, refl, sym, arith}
 use Rattle.c_tree.specs.View.{expr_of, option_expr_of, stmt_of, choice_list}
-use Rattle.c_tree.specs.Temporaries.{temporaries, optional_temporaries, statement_temporaries, choices_temporaries}
-use Rattle.c_frames.proofs.TemporariesLemmas.{of_statement, statement_further, choice_further, of_block, of_switch}
+use Rattle.c_tree.specs.Temporaries.{temporaries, optional_temporaries, statement_temporaries, statements_temporaries, choices_temporaries}
+use Rattle.c_frames.proofs.TemporariesLemmas.{of_statement, of_block, of_switch}
+use Rattle.pass_laws.proofs.Joins.{maxima}
+use Rattle.pass_laws.proofs.Statements.{statements_further}
+use Rattle.pass_laws.proofs.Choices.{choices_further}
 use Rattle.c_frames.proofs.temporaries.+statements.Goals as goal
 
 pub choices-loop-part-preserved : goal.choices-loop-part-preserved
 choices-loop-part-preserved t c =
-    choice_further c.args.list.now c.loop-part.part-index c.part-item.result c.part-item.is c.loop-part-test.true c.loop-part.invariant
+    choices_further maxima choices_temporaries refl (λ w rest. omega arith) (λ rest. omega arith) (λ s rest. omega arith) c.args.list.now c.loop-part.part-index c.part-item.result c.part-item.is c.loop-part-test.true c.loop-part.invariant
     (omega (arith, c.max-most.ensures, c.in_ok-count.ensures))
 
 pub statement-returns-in-Block : goal.statement-returns-in-Block
@@ -15,7 +17,7 @@ statement-returns-in-Block t c = of_block c.statements.result c.args.s.now c.in-
 
 pub statements-loop-s-preserved : goal.statements-loop-s-preserved
 statements-loop-s-preserved t c =
-    statement_further c.args.list.now c.loop-s.s-index c.s-item.result c.s-item.is c.loop-s-test.true c.loop-s.invariant
+    statements_further maxima statement_temporaries statements_temporaries refl (λ s rest. refl) c.args.list.now c.loop-s.s-index c.s-item.result c.s-item.is c.loop-s-test.true c.loop-s.invariant
     (omega (arith, c.max-most.ensures, c.in_ok-count.ensures))
 
 pub statement-returns-in-While : goal.statement-returns-in-While
@@ -40,9 +42,9 @@ statement-returns-in-Switch t c =
     of_switch c.larger-in-Switch.result c.args.s.now c.in-Switch.value c.in-Switch.all c.in-Switch.is c.deref-in-Switch.ensures.value
     (c.larger-in-Switch.ensures (temporaries (expr_of c.in-Switch.value)) (choices_temporaries (choice_list c.deref-in-Switch.result.now)) c.expression-in-Switch.ensures c.choices.ensures)
 
-pub statement-returns-in-Some : goal.statement-returns-in-Some
-statement-returns-in-Some t c =
-    of_statement c.larger-in-Some.result (c.in-If.is ∙ ap (stmt.If c.in-If.test c.in-If.yes) c.in-Some.is)
-    (c.larger-in-Some.ensures (temporaries (expr_of c.in-If.test)) (max (statement_temporaries (stmt_of c.in-If.yes.value)) (statement_temporaries (stmt_of c.in-Some.no.value))) c.expression-in-Some.ensures
-    (c.larger.ensures (statement_temporaries (stmt_of c.in-If.yes.value)) (statement_temporaries (stmt_of c.in-Some.no.value)) (of_statement c.statement.result (sym c.deref-in-Some.ensures) c.statement.ensures)
-    (of_statement c.statement-in-Some.result (sym c.deref-in-Some-2.ensures) c.statement-in-Some.ensures)))
+pub statement-returns-in-If : goal.statement-returns-in-If
+statement-returns-in-If t c =
+    of_statement c.larger-in-If.result c.in-If.is
+    (c.larger-in-If.ensures (temporaries (expr_of c.in-If.test)) (max (statement_temporaries (stmt_of c.in-If.yes.value)) (statement_temporaries (stmt_of c.in-If.no.value))) c.expression-in-If.ensures
+    (c.larger.ensures (statement_temporaries (stmt_of c.in-If.yes.value)) (statement_temporaries (stmt_of c.in-If.no.value)) (of_statement c.statement.result (sym c.deref-in-If.ensures) c.statement.ensures)
+    (of_statement c.statement-in-If.result (sym c.deref-in-If-2.ensures) c.statement-in-If.ensures)))

@@ -7,7 +7,11 @@ use Rattle.c_state.specs.Inputs.{input_left}
 use Rattle.c_means.specs.Runs.{statics_of}
 use Rattle.c_state.specs.Stores.{store_of}
 use Rattle.c_means.proofs.MainLemmas.{at_start}
+use Rattle.c_means.proofs.RoomLemmas.{statics_have_room}
 use Rattle.c_means.proofs.run.start.Goals as goal
+
+pub statics-requires : goal.statics-requires
+statics-requires c = statics_have_room c.args.program.now c.as_slice.result.now c.as_slice.ensures
 
 pub returns : goal.returns
 returns c =

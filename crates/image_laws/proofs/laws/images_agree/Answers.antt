@@ -5,7 +5,7 @@ use Rattle.c_tree.specs.SourceRun.{source_run}
 use Rattle.c_tree.specs.TypedTree.{ProgramTree}
 use Rattle.c_tree.specs.WellFormedProgram.{IsProgram}
 use Rattle.tree_code.specs.Lowered.{lowered_program}
-use Rattle.tree_code.specs.TypedOfWords.{HasWords}
+use Rattle.c_tree.specs.TypedOfWords.{HasWords}
 use Rattle.acc_select.specs.IsSelected.{IsEmittable}
 use Rattle.acc_select.specs.Selected.{selected}
 use Rattle.mem_plan.specs.declared.data_plan.DataPlan.{DataPlan}

@@ -1,6 +1,6 @@
 use Rattle.std.proofs.Common.{◌≡◌, take}
 use Rattle.std.specs.List.{AllByRecursion}
-use Rattle.tree_code.specs.TypedOfWords.{StartsWithWord}
+use Rattle.c_tree.specs.TypedOfWords.{StartsWithWord}
 use Rattle.tree_code.proofs.copies.copied_initial.Given as goal
 
 abbrev pub invariant-loop-x : goal.invariant-loop-x

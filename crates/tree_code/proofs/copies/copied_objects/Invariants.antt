@@ -1,6 +1,6 @@
 use Rattle.std.proofs.Common.{◌≡◌, map, take}
 use Rattle.c_tree.specs.View.{object_of}
-use Rattle.tree_code.specs.TypedOfWords.{StartsWithWords}
+use Rattle.c_tree.specs.TypedOfWords.{StartsWithWords}
 use Rattle.tree_code.proofs.copies.copied_objects.Given as goal
 
 abbrev pub invariant-loop-o : goal.invariant-loop-o

@@ -1,7 +1,7 @@
 use Rattle.std.proofs.Common.{◌≡◌, take}
 use Rattle.c_tree.specs.View as typed
 use Rattle.tree_code.specs.Lowered.{lowered_list}
-use Rattle.tree_code.specs.TypedOfWords.{AllUseWords}
+use Rattle.c_tree.specs.TypedOfWords.{AllUseWords}
 use Rattle.tree_code.specs.WordView.{word_argument_list}
 use Rattle.tree_code.proofs.expressions.+expressions.Given as goal
 

@@ -1,7 +1,7 @@
 use Rattle.std.proofs.Common.{◌≡◌, map, take, All}
 use Rattle.c_tree.specs.View as typed
 use Rattle.tree_code.specs.Lowered.{lowered_function}
-use Rattle.tree_code.specs.TypedOfWords.{FunctionHasWords}
+use Rattle.c_tree.specs.TypedOfWords.{FunctionHasWords}
 use Rattle.tree_code.specs.WordView.{function_code_of}
 use Rattle.tree_code.proofs.lowering.functions.Given as goal
 

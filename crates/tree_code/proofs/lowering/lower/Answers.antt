@@ -3,7 +3,7 @@ use Rattle.c_tree.specs.View as typed
 use Rattle.c_tree.specs.View.{object_of}
 use Rattle.c_tree.specs.ProgramView.{program_of}
 use Rattle.tree_code.specs.Lowered.{lowered_function}
-use Rattle.tree_code.specs.TypedOfWords.{StartsWithWords, FunctionHasWords}
+use Rattle.c_tree.specs.TypedOfWords.{StartsWithWords, FunctionHasWords}
 use Rattle.tree_code.specs.WordView.{function_code_of}
 use Rattle.tree_code.proofs.CodeLemmas.{code_of, few_scalars}
 use Rattle.tree_code.proofs.lowering.lower.Goals as goal

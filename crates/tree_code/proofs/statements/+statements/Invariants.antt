@@ -1,7 +1,7 @@
 use Rattle.std.proofs.Common.{◌≡◌, take}
 use Rattle.c_tree.specs.View as typed
 use Rattle.tree_code.specs.Lowered.{lowered_statements, lowered_choices}
-use Rattle.tree_code.specs.TypedOfWords.{StatementsUseWords, ChoicesUseWords}
+use Rattle.c_tree.specs.TypedOfWords.{StatementsUseWords, ChoicesUseWords}
 use Rattle.tree_code.specs.WordView.{word_statement_list, word_choice_list}
 use Rattle.tree_code.proofs.statements.+statements.Given as goal
 

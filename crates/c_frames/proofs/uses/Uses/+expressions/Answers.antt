@@ -1,8 +1,10 @@
-use Rattle.std.proofs.Common.{◌++◌, ap, ◌∙◌}
+use Rattle.std.proofs.Common.{◌++◌, refl, ap, ◌∙◌}
 use Rattle.c_tree.specs.View.{argument_list}
-use Rattle.c_tree.specs.Uses.{list_uses}
+use Rattle.c_tree.specs.Uses.{uses, list_uses}
 use Rattle.std.proofs.lemmas.Result.{IfOk-equal}
-use Rattle.c_frames.proofs.UsesLemmas.{one_further, with_call}
+use Rattle.c_frames.proofs.UsesLemmas.{with_call}
+use Rattle.pass_laws.proofs.Joins.{lists}
+use Rattle.pass_laws.proofs.Arguments.{arguments_behind}
 use Rattle.c_frames.proofs.uses.Uses.+expressions.Goals as goal
 
 pub expression-returns-in_ok-expressions-in-Call : goal.expression-returns-in_ok-expressions-in-Call
@@ -13,4 +15,4 @@ expression-returns-in_ok-expressions-in-Call t c =
 
 pub expressions-loop-e-preserved : goal.expressions-loop-e-preserved
 expressions-loop-e-preserved t c =
-    one_further c.args.self.now.list.items c.args.list.now c.loop-e.e-index c.e-item.result c.e-item.is c.loop-e-test.true c.loop-e.invariant c.in_ok-expression.ensures
+    arguments_behind lists uses list_uses refl (λ e rest. refl) c.args.self.now.list.items c.args.list.now c.loop-e.e-index c.e-item.result c.e-item.is c.loop-e-test.true c.loop-e.invariant c.in_ok-expression.ensures

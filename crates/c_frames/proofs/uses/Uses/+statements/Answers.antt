@@ -1,13 +1,17 @@
-use Rattle.std.proofs.Common.{ap, sym, ◌∙◌}
+use Rattle.std.proofs.Common.{◌++◌, refl, ap, sym, ◌∙◌, append-nil}
 use Rattle.c_tree.specs.View.{choice_list}
-use Rattle.c_tree.specs.Uses.{case_count}
+use Rattle.c_tree.specs.Uses.{case_count, statement_uses, statements_uses, choices_uses}
 use Rattle.std.proofs.lemmas.Result.{IfOk-equal}
-use Rattle.c_frames.proofs.UsesLemmas.{one_statement_further, choice_further, with_block, with_switch}
+use Rattle.c_frames.proofs.UsesLemmas.{with_block, with_switch}
+use Rattle.pass_laws.proofs.Joins.{lists}
+use Rattle.pass_laws.proofs.Statements.{statements_behind}
+use Rattle.pass_laws.proofs.Choices.{choices_behind}
 use Rattle.c_frames.proofs.uses.Uses.+statements.Goals as goal
 
 pub choices-loop-choice-preserved : goal.choices-loop-choice-preserved
 choices-loop-choice-preserved t c =
-    choice_further c.args.self.now.list.items c.args.list.now c.loop-choice.choice-index c.choice-item.result c.choice-item.is c.loop-choice-test.true c.loop-choice.invariant c.in_ok-choice.ensures
+    choices_behind lists choices_uses refl (λ w rest. refl) (λ rest. refl) (λ s rest. ap (λ l. l ++ choices_uses rest) (sym (append-nil (statement_uses s))))
+    c.args.self.now.list.items c.args.list.now c.loop-choice.choice-index c.choice-item.result c.choice-item.is c.loop-choice-test.true c.loop-choice.invariant c.in_ok-choice.ensures
 
 pub statement-returns-in-Block : goal.statement-returns-in-Block
 statement-returns-in-Block t c =
@@ -23,4 +27,4 @@ statement-returns-in_ok-add-in-Switch t c =
 
 pub statements-loop-s-preserved : goal.statements-loop-s-preserved
 statements-loop-s-preserved t c =
-    one_statement_further c.args.self.now.list.items c.args.list.now c.loop-s.s-index c.s-item.result c.s-item.is c.loop-s-test.true c.loop-s.invariant c.in_ok-statement.ensures
+    statements_behind lists statement_uses statements_uses refl (λ s rest. refl) c.args.self.now.list.items c.args.list.now c.loop-s.s-index c.s-item.result c.s-item.is c.loop-s-test.true c.loop-s.invariant c.in_ok-statement.ensures

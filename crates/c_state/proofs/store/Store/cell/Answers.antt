@@ -1,6 +1,4 @@
-use Rattle.std.proofs.Common.{◌≡◌, sym, ap, ◌∙◌, slice_get, arith}
-use Rattle.std.proofs.lemmas.Grind.{common_steps}
-use Rattle.std.proofs.lemmas.Option.{gets}
+use Rattle.std.proofs.Common.{sym, ap, ◌∙◌}
 use Rattle.c_tree.specs.Store as runs
 use Rattle.c_state.proofs.ObjectLemmas.{stands}
 use Rattle.c_state.proofs.StoreLemmas.{there, cell_refused, cell_given}
@@ -20,5 +18,4 @@ returns c =
     let o = c.index-living.result.now in
     let here = stands s.objects.items _ c.args.object.number c.in_ok-place.place o c.deref.ensures.value c.in_ok-place.ensures c.index-living.ensures in
     let is = there s.objects.items s.made c.args.object.number c.in_ok-place.place o s.numbered here.0 here.1 in
-    let read : c.copied.result ≡ slice_get o.cells.items c.args.index = grind (arith, common_steps, gets) in
-    cell_given o c.args.index c.args.is_pointer _ c.if-living-is_pointer.false read ∙ ap (λ x. runs.cell_of x c.args.index c.args.is_pointer) (sym is)
+    cell_given o c.args.index c.args.is_pointer _ c.if-living-is_pointer.false c.get.ensures ∙ ap (λ x. runs.cell_of x c.args.index c.args.is_pointer) (sym is)

@@ -1,6 +1,5 @@
-use Rattle.std.proofs.Common.{sym, ap, refl, map}
+use Rattle.std.proofs.Common.{sym, ap, refl}
 use Rattle.c_tree.specs.Exec.{cells_set}
-use Rattle.c_state.specs.Values.{cell_view}
 use Rattle.c_state.proofs.ObjectLemmas.{stands, numbered_changed}
 use Rattle.c_state.proofs.StoreLemmas.{there, same_store, written}
 use Rattle.c_state.proofs.store.Store.fill.Goals as goal
@@ -17,5 +16,5 @@ returns-in-Some c =
     let s = c.args.self.now in
     let o = c.index_mut.result.now in
     let here = stands s.objects.items _ c.args.object.number c.in-Some.place o c.deref.ensures.value c.in-Some.ensures c.index_mut.ensures.value in
-    let gives = ap (λ x. cells_set x (map cell_view c.args.cells.items)) (sym (there s.objects.items s.made c.args.object.number c.in-Some.place o s.numbered here.0 here.1)) in
+    let gives = ap (λ x. cells_set x c.args.cells) (sym (there s.objects.items s.made c.args.object.number c.in-Some.place o s.numbered here.0 here.1)) in
     same_store s.made _ _ (written s.objects.items s.made c.args.object.number c.in-Some.place o _ _ s.numbered here.0 here.1 refl gives)

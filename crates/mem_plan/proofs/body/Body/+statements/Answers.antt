@@ -41,11 +41,8 @@ statement-returns-in_ok-expression-in-Switch-clause-routine t c =
     (switch_routine c.args.self.now.routine c.args.s.now c.in-Switch.value c.in-Switch.choices c.in-Switch.is c.deref-in-Switch.ensures.value
     c.in_ok-expression-in-Switch.ensures.routine)
 
-pub statement-returns-in-Some-clause-calls : goal.statement-returns-in-Some-clause-calls
-statement-returns-in-Some-clause-calls t c = search (rules, called_append, append_assoc)
-
-pub statement-returns-in-None-clause-calls : goal.statement-returns-in-None-clause-calls
-statement-returns-in-None-clause-calls t c = search (rules, called_append, append_assoc)
+pub statement-returns-in_ok-statement-in-If-clause-calls : goal.statement-returns-in_ok-statement-in-If-clause-calls
+statement-returns-in_ok-statement-in-If-clause-calls t c = search (rules, called_append, append_assoc)
 
 pub statement-returns-in_ok-expression-in-While-clause-calls : goal.statement-returns-in_ok-expression-in-While-clause-calls
 statement-returns-in_ok-expression-in-While-clause-calls t c = search (rules, called_append, append_assoc)

@@ -5,7 +5,7 @@ use Rattle.c_tree.specs.declared.program.VarRef.TheVariants.{Scalar, Local, Stat
 use Rattle.c_tree.specs.TypedTree as tree
 use Rattle.c_tree.specs.TypedTree.{Expr, Stmt, Stmts, Choices, FunctionTree}
 use Rattle.c_tree.specs.WellFormed.{is_among}
-use Rattle.shape_laws.specs.Names.{names_in, optional_names}
+use Rattle.c_tree.specs.NamesUsed.{names_in, optional_names}
 
 -- a name of an object of the whole program, or one of these
 abbrev pub IsKnown : List VarRef → VarRef → Type 0

@@ -6,8 +6,8 @@ use Rattle.c_tree.specs.declared.program.VarRef.TheVariants.{Scalar, Local, Stat
 use Rattle.c_tree.specs.TypedTree as tree
 use Rattle.c_tree.specs.TypedTree.{Stmt, Stmts, Choices, ObjectTree, FunctionTree}
 use Rattle.c_tree.specs.WellFormed.{is_among}
-use Rattle.shape_laws.specs.Declarations.{times}
-use Rattle.shape_laws.specs.Names.{statement_names}
+use Rattle.c_tree.specs.Declarations.{times}
+use Rattle.c_tree.specs.NamesUsed.{statement_names}
 
 abbrev mutual
   -- the numbers of the objects that a statement fills, in order

@@ -2,8 +2,8 @@ use Rattle.std.proofs.Common.{replicate, map, ap, ◌∙◌}
 use Rattle.c_tree.specs.Store as runs
 use Rattle.c_state.specs.declared.value.Cell.TheVariants as cells
 use Rattle.c_state.specs.Values.{cell_view}
-use Rattle.c_state.proofs.FillLemmas.{replicated}
-use Rattle.c_state.proofs.fills.unset.Goals as goal
+use Rattle.c_state.proofs.CellLemmas.{replicated}
+use Rattle.c_state.proofs.cells.Cells.unset.Goals as goal
 
 pub returns : goal.returns
 returns c =

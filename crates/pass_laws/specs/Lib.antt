@@ -1,0 +1,2 @@
+pub mod Monoids
+pub mod Replaced
