@@ -4,8 +4,8 @@
 #     bench/certificates.sh [PROGRAM]
 #
 # A source whose function accesses 24 scalars 400 times is built with a budget of 1,000,000 nodes, on one processor and on four, and its
-# certificate is checked on one. A certificate of 100 MB of marks is read, and one of 100 MB of blocks. The accesses are made by a
-# generator with a fixed seed, so that two machines do the same.
+# certificate is checked on one. A certificate of 100 MB of marks is read, and one of 100 MB of blocks; and three of small frames, with the most
+# memory that their checks hold. The accesses are made by a generator with a fixed seed, so that two machines do the same.
 set -eu
 top=$(cd "$(dirname "${BASH_SOURCE[0]}")/.." && pwd)
 program=${1:-$top/c25cc}
@@ -46,3 +46,33 @@ timed 'read, marks' "$program" check b.img marks.crt
     printf 'list 0310 0\ncost 10000000\nclaim best 0 1\nmarks 0\nendframe\nend\n'
 } > blocks.crt
 timed 'read, blocks' "$program" check b.img blocks.crt
+
+# held WHAT FILE: the most memory that the check of a certificate holds, as a part of its length.
+held() {
+    local process most=0 now
+    "$program" check b.img "$2" > answer &
+    process=$!
+    while now=$(awk '/^VmHWM/ { print $2 }' "/proc/$process/status" 2> none) && [ -n "$now" ]; do
+        most=$now
+        sleep 0.01
+    done
+    wait "$process" || true
+    echo "$most $(stat -c %s "$2")" | awk -v what="$1" '{ printf "%-40s %.2f times %d bytes\n", what, $1 * 1024 / $2, $2 }'
+}
+
+# small FRAMES NAME SCALARS LINES COST: a certificate of frames of this name, so many scalars and lines behind them, and this cost.
+small() {
+    awk -v frames="$1" -v name="$2" -v scalars="$3" -v lines="$4" -v cost="$5" 'BEGIN {
+        print "C25 CERTIFICATE 2"
+        for (i = 0; i < frames; i++) printf "frame %s\nregisters 1\nstep 1\nscalars %d\n%scost %d\nclaim optimal\nmarks 1\nc\nendframe\n", name, scalars, lines, cost
+        print "end"
+    }'
+}
+
+small 400000 f 0 '' 0 > none.crt
+small 300000 f 1 'block 1 0\nlist 0310 0\n' 1 > one.crt
+small 300000 main 0 '' 0 > main.crt
+for kind in none one main; do
+    timed "frames of one kind, $kind" "$program" check b.img "$kind.crt"
+    held "their memory, $kind" "$kind.crt"
+done
