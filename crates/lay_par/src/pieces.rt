@@ -26,8 +26,9 @@ pub(crate) struct Pieces {
     pub(crate) end: u8,
 }
 
-/// The ends of the pieces of a round, each with the same best arrangement at first. Of two or more the first two are the halves of one
-/// join, and so are the third and the fourth where the pieces are long.
+/// The ends of the pieces of a round, each with the same best arrangement at first. Of pieces that are long each has a thread of its own, but for the
+/// last, which this thread runs; of others the first has. This thread begins them all, one behind another: threads that two threads begin at once may be
+/// put on one processor, and wait there for one another while another processor has nothing to do.
 pub(crate) fn run_round<R: Threads + Sync, G: Gate + Sync>(
     rt: &R,
     alloc: Global,
@@ -46,7 +47,52 @@ pub(crate) fn run_round<R: Threads + Sync, G: Gate + Sync>(
     if pieces.end - pieces.first <= 2 || seq.scalars() <= FEW_SCALARS {
         return run_halves(rt, alloc, gate, seq, root, pieces, best);
     }
-    let third = pieces.first + 2;
+    let second = pieces.first + 1;
+    let lower = Pieces {
+        end: second,
+        ..pieces
+    };
+    let upper = Pieces {
+        first: second,
+        ..pieces
+    };
+    let (first, others) = join(
+        rt,
+        move || -> Result<Vec<PieceEnd>, NoMemory>
+            requires { IsRoot seq.now root.now × (lower.first ≤ lower.end) × (lower.end ≤ seq.now.scalars) × IsBest seq.now best.now }
+            ensures { IfOk result (λ ends. Ran root.entry.now.position.registers seq.entry.now lower.quota best.entry.now.arrangement lower.first (lower.end - lower.first) ends.items) }
+        { run_in_turn(alloc, gate, seq, root, lower, best) },
+        move || -> Result<Vec<PieceEnd>, NoMemory>
+            requires { IsSync R.row × IsSync G.row × IsRoot seq.now root.now × (upper.first ≤ upper.end) × (upper.end ≤ seq.now.scalars) × IsBest seq.now best.now }
+            ensures { IfOk result (λ ends. Ran root.entry.now.position.registers seq.entry.now upper.quota best.entry.now.arrangement upper.first (upper.end - upper.first) ends.items) }
+        { run_others(rt, alloc, gate, seq, root, upper, best) },
+    );
+    let mut ends = first?;
+    let mut more = others?;
+    ends.append(&mut more)?;
+    Ok(ends)
+}
+
+// The pieces of a round behind its first.
+fn run_others<R: Threads + Sync, G: Gate + Sync>(
+    rt: &R,
+    alloc: Global,
+    gate: &G,
+    seq: &Sequence,
+    root: &Root,
+    pieces: Pieces,
+    best: &Best,
+) -> Result<Vec<PieceEnd>, NoMemory>
+    requires root { IsRoot seq.now root.now }
+    requires order { pieces.first ≤ pieces.end }
+    requires end { pieces.end ≤ seq.now.scalars }
+    requires best { IsBest seq.now best.now }
+    ensures { IfOk result (λ ends. Ran root.now.position.registers seq.now pieces.quota best.now.arrangement pieces.first (pieces.end - pieces.first) ends.items) }
+{
+    if pieces.end - pieces.first <= 2 {
+        return run_halves(rt, alloc, gate, seq, root, pieces, best);
+    }
+    let third = pieces.first + 1;
     let lower = Pieces {
         end: third,
         ..pieces
@@ -55,19 +101,19 @@ pub(crate) fn run_round<R: Threads + Sync, G: Gate + Sync>(
         first: third,
         ..pieces
     };
-    let (first, second) = join(
+    let (second, others) = join(
         rt,
         move || -> Result<Vec<PieceEnd>, NoMemory>
-            requires { IsSync R.row × IsSync G.row × IsRoot seq.now root.now × (lower.first ≤ lower.end) × (lower.end ≤ seq.now.scalars) × IsBest seq.now best.now }
+            requires { IsRoot seq.now root.now × (lower.first ≤ lower.end) × (lower.end ≤ seq.now.scalars) × IsBest seq.now best.now }
             ensures { IfOk result (λ ends. Ran root.entry.now.position.registers seq.entry.now lower.quota best.entry.now.arrangement lower.first (lower.end - lower.first) ends.items) }
-        { run_halves(rt, alloc, gate, seq, root, lower, best) },
+        { run_in_turn(alloc, gate, seq, root, lower, best) },
         move || -> Result<Vec<PieceEnd>, NoMemory>
             requires { IsSync R.row × IsSync G.row × IsRoot seq.now root.now × (upper.first ≤ upper.end) × (upper.end ≤ seq.now.scalars) × IsBest seq.now best.now }
             ensures { IfOk result (λ ends. Ran root.entry.now.position.registers seq.entry.now upper.quota best.entry.now.arrangement upper.first (upper.end - upper.first) ends.items) }
         { run_halves(rt, alloc, gate, seq, root, upper, best) },
     );
-    let mut ends = first?;
-    let mut more = second?;
+    let mut ends = second?;
+    let mut more = others?;
     ends.append(&mut more)?;
     Ok(ends)
 }

@@ -1,4 +1,4 @@
--- The pieces of both parts.
+-- The first piece, and those behind it.
 use Rattle.std.proofs.Common.{◌+◌, ◌-◌, ◌≤◌, sym, subst, arith}
 use Rattle.std.proofs.lemmas.Result.{IfOk-at_ok}
 use Rattle.lay_search.specs.Rounds.{Ran}
@@ -13,7 +13,7 @@ returns g c =
     let best = c.args.best.now.arrangement in
     let first = c.args.pieces.first in
     let end = c.args.pieces.end in
-    let middle = c.args.pieces.first + 2 in
+    let middle = c.args.pieces.first + 1 in
     let from : first ≤ middle = omega arith in
     let to : middle ≤ end = omega (arith, c.if-pieces-le2.false) in
     let lower = IfOk-at_ok (λ ends. Ran k seq quota best first (middle - first) ends.items) c.in_ok-ends.was c.join-first.ensures.first in
