@@ -1,5 +1,5 @@
 #!/usr/bin/env bash
-# Tries the edits in tests/edits, outside the gate: mistakes that the gate refused before, in crates where each try costs minutes. They are put into
+# Tries the edits in tests/edits, outside the gate: mistakes that the gate refused before, most of which cost minutes a try. They are put into
 # a copy of what is committed, in place of all others, and the gate is run there over their crates alone; it says what became of each.
 # With names of crates behind it, it tries those of these.
 script=edits

@@ -14,7 +14,7 @@ use Rattle.c_tree.specs.ProgramView.{program_of}
 use Rattle.c_tree.specs.View.{function_of, object_of}
 use Rattle.c_tree.specs.SourceRun.{main_of, main_name}
 use Rattle.c_tree.specs.WellFormedProgram.{IsFunction}
-use Rattle.c_state.specs.Fills.{HasRoom}
+use Rattle.c_state.specs.Room.{HasRoom}
 use Rattle.c_means.proofs.ArrayLemmas.{object_at}
 use Rattle.c_means.proofs.Sizes.{get_mapped}
 

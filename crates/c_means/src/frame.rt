@@ -1,6 +1,6 @@
 //! What a function's body runs with.
 ghost use Rattle.std.specs.Prelude.{map, All};
-ghost use Rattle.c_state.specs.Fills.{HasRoom};
+ghost use Rattle.c_state.specs.Room.{HasRoom};
 ghost use Rattle.c_tree.specs.View.{object_of};
 
 use c_tree::{Function, Program};

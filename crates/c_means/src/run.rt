@@ -7,7 +7,7 @@ ghost use Rattle.c_tree.specs.View.{function_of, object_of};
 ghost use Rattle.c_tree.specs.SourceRun as calls;
 ghost use Rattle.c_tree.specs.SourceRun.{source_run};
 ghost use Rattle.c_means.specs.Runs.{IsOutcome, main_run, statics_of};
-ghost use Rattle.c_state.specs.Fills.{HasRoom};
+ghost use Rattle.c_state.specs.Room.{HasRoom};
 ghost use Rattle.c_state.specs.Stores.{store_of};
 ghost use Rattle.c_state.specs.Values.{option_of};
 ghost use Rattle.c_state.specs.Worlds.{world_of, ComesTo};

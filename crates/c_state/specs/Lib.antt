@@ -1,6 +1,6 @@
 -- What is known at a point of a run, beside the definition of runs (docs/LANGUAGE.md, "Evaluation").
 pub mod Values
-pub mod Fills
+pub mod Room
 pub mod Objects
 pub mod Stores
 pub mod Inputs

@@ -3,7 +3,7 @@ ghost use Rattle.std.specs.Prelude.{◌≡◌, length, replicate, slice_get, sli
 ghost use Rattle.c_tree.specs.Store as runs;
 ghost use Rattle.c_tree.specs.Exec.{initial_cell, zero_of, set_cells};
 ghost use Rattle.c_tree.specs.View.{object_of};
-ghost use Rattle.c_state.specs.Fills.{HasRoom};
+ghost use Rattle.c_state.specs.Room.{HasRoom};
 ghost use Rattle.c_state.specs.Values.{cell_view, option_cell_of, value_of};
 
 use crate::names::static_name;

@@ -32,8 +32,8 @@ abbrev mutual
   declared_by_choices (tree.body s rest) = declared_in s ++ declared_by_choices rest
 
 -- all that a function declares: its parameters, and the objects of its blocks
-abbrev pub declarations : FunctionTree → List VarRef
-declarations f = f.params ++ declared_in f.body
+abbrev pub declared_in_function : FunctionTree → List VarRef
+declared_in_function f = f.params ++ declared_in f.body
 
 -- the numbers of the frame scalars among names, and those of the objects in memory
 abbrev pub scalar_numbers : List VarRef → List ℕ
@@ -49,16 +49,16 @@ local_numbers (Local n ∷ vs) = n ∷ local_numbers vs
 local_numbers (Static n ∷ vs) = local_numbers vs
 
 -- how often a number stands in a list
-abbrev pub times : ℕ → List ℕ → ℕ
-times n [] = 0
-times n (m ∷ ms) = (if m == n then 1 else 0) + times n ms
+abbrev pub occurrences : ℕ → List ℕ → ℕ
+occurrences n [] = 0
+occurrences n (m ∷ ms) = (if m == n then 1 else 0) + occurrences n ms
 
 -- each object of a function is declared in one place
 pub record DeclaredOnce (f : FunctionTree) : Type 0 where
-  pub scalars : (n : ℕ) → n < length f.scalars → times n (scalar_numbers (declarations f)) ≡ 1
-  pub locals : (n : ℕ) → n < length f.locals → times n (local_numbers (declarations f)) ≡ 1
+  pub scalars : (n : ℕ) → n < length f.scalars → occurrences n (scalar_numbers (declared_in_function f)) ≡ 1
+  pub locals : (n : ℕ) → n < length f.locals → occurrences n (local_numbers (declared_in_function f)) ≡ 1
 
 -- the objects of each kind are declared in order of their numbers, and no others are
 pub record DeclaredInOrder (f : FunctionTree) : Type 0 where
-  pub scalars : scalar_numbers (declarations f) ≡ range_with_len 0 (length f.scalars)
-  pub locals : local_numbers (declarations f) ≡ range_with_len 0 (length f.locals)
+  pub scalars : scalar_numbers (declared_in_function f) ≡ range_with_len 0 (length f.scalars)
+  pub locals : local_numbers (declared_in_function f) ≡ range_with_len 0 (length f.locals)

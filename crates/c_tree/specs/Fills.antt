@@ -6,7 +6,7 @@ use Rattle.c_tree.specs.declared.program.VarRef.TheVariants.{Scalar, Local, Stat
 use Rattle.c_tree.specs.TypedTree as tree
 use Rattle.c_tree.specs.TypedTree.{Stmt, Stmts, Choices, ObjectTree, FunctionTree}
 use Rattle.c_tree.specs.WellFormed.{is_among}
-use Rattle.c_tree.specs.Declarations.{times}
+use Rattle.c_tree.specs.Declarations.{occurrences}
 use Rattle.c_tree.specs.NamesUsed.{statement_names}
 
 abbrev mutual
@@ -36,7 +36,7 @@ abbrev mutual
 
 -- no object is filled in two places
 abbrev pub FilledOnce : FunctionTree → Type 0
-FilledOnce f = (n : ℕ) → times n (filled_in f.body) ≤ 1
+FilledOnce f = (n : ℕ) → occurrences n (filled_in f.body) ≤ 1
 
 -- a parameter has no list
 abbrev pub HasNoList : FunctionTree → VarRef → Type 0
@@ -46,7 +46,7 @@ HasNoList f (Static n) = ⊥
 
 -- an object of a function that has a list is filled in one place, and no parameter has a list
 pub record FilledIfListed (f : FunctionTree) : Type 0 where
-  pub locals : (n : ℕ) (o : ObjectTree) → slice_get f.locals n ≡ Some o → o.initial ≢ [] → times n (filled_in f.body) ≡ 1
+  pub locals : (n : ℕ) (o : ObjectTree) → slice_get f.locals n ≡ Some o → o.initial ≢ [] → occurrences n (filled_in f.body) ≡ 1
   pub parameters : All (HasNoList f) f.params
 
 -- how often an object with this list is filled
@@ -56,7 +56,7 @@ fills_of (i ∷ is) = 1
 
 -- an object with a list is filled in one place, and one without a list in none
 abbrev pub FilledAsListed : FunctionTree → Type 0
-FilledAsListed f = (n : ℕ) (o : ObjectTree) → slice_get f.locals n ≡ Some o → times n (filled_in f.body) ≡ fills_of o.initial
+FilledAsListed f = (n : ℕ) (o : ObjectTree) → slice_get f.locals n ≡ Some o → occurrences n (filled_in f.body) ≡ fills_of o.initial
 
 -- an array is filled by a statement of the block that declares it, where the block around a statement declares these
 abbrev mutual

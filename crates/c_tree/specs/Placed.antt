@@ -5,7 +5,7 @@ use Rattle.c_tree.specs.Declarations.{DeclaredOnce, DeclaredInOrder}
 use Rattle.c_tree.specs.Scopes.{UsedWhereDeclared}
 use Rattle.c_tree.specs.Fills.{FilledAsListed, FilledWhereDeclared, FilledBeforeUse, HasNoList}
 
-pub record IsPlaced (f : FunctionTree) : Type 0 where
+pub record FunctionIsPlaced (f : FunctionTree) : Type 0 where
   -- each object is declared in one place, in order of the numbers, and used in the block that declares it, or a parameter in the whole body
   pub declared : DeclaredOnce f
   pub ordered : DeclaredInOrder f

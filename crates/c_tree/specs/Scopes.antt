@@ -3,7 +3,7 @@ use Rattle.std.specs.Prelude.{◌≡◌, ⊤, true, List, [], ◌∷◌, ◌++�
 use Rattle.c_tree.specs.declared.program.VarRef.{VarRef}
 use Rattle.c_tree.specs.declared.program.VarRef.TheVariants.{Scalar, Local, Static}
 use Rattle.c_tree.specs.TypedTree as tree
-use Rattle.c_tree.specs.TypedTree.{Expr, Stmt, Stmts, Choices, FunctionTree}
+use Rattle.c_tree.specs.TypedTree.{Stmt, Stmts, Choices, FunctionTree}
 use Rattle.c_tree.specs.WellFormed.{is_among}
 use Rattle.c_tree.specs.NamesUsed.{names_in, optional_names}
 

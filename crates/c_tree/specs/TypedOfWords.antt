@@ -81,6 +81,6 @@ pub record FunctionHasWords (f : FunctionTree) : Type 0 where
   pub locals : StartsWithWords f.locals
   pub body : StatementUsesWords f.body
 
-pub record HasWords (p : ProgramTree) : Type 0 where
+pub record ProgramHasWords (p : ProgramTree) : Type 0 where
   pub statics : StartsWithWords p.statics
   pub functions : All FunctionHasWords p.functions

@@ -7,8 +7,8 @@ ghost use Rattle.c_tree.specs.View.{function_of as function_view, object_of};
 ghost use Rattle.c_syntax.specs.SyntaxView.{unit_of};
 ghost use Rattle.c_syntax.specs.Values.{UnitHasValues};
 ghost use Rattle.c_syntax.specs.Characters.{UnitSaysWords};
-ghost use Rattle.c_tree.specs.Placed.{IsPlaced};
-ghost use Rattle.c_tree.specs.TypedOfWords.{HasWords};
+ghost use Rattle.c_tree.specs.Placed.{FunctionIsPlaced};
+ghost use Rattle.c_tree.specs.TypedOfWords.{ProgramHasWords};
 ghost use Rattle.c_tree.specs.WellFormedProgram.{IsProgram};
 ghost use Rattle.c_rules.specs.Checked.{IsTyped};
 ghost use Rattle.c_rules.specs.Faults.{Says};
@@ -44,8 +44,8 @@ pub fn check(alloc: Global, unit: &Unit) -> Result<Program, TypeFault>
 // The program of a source whose functions' objects are known.
 fn program(alloc: Global, contents: Contents, frames: Vec<Vec<VarRef>>) -> Result<Program, NoMemory>
     requires well_formed { IsProgram (made_of frames.items contents) }
-    requires placed { All IsPlaced (made_of frames.items contents).functions }
-    requires words { HasWords (made_of frames.items contents) }
+    requires placed { All FunctionIsPlaced (made_of frames.items contents).functions }
+    requires words { ProgramHasWords (made_of frames.items contents) }
     ensures { IfOk result (λ p. program_of p ≡ made_of frames.items contents) }
 {
     Ok(Program {

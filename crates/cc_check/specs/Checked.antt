@@ -4,7 +4,7 @@ use Rattle.std.specs.List.{flat_map}
 use Rattle.c25_isa.specs.Image.{Contents}
 use Rattle.lay_cert.specs.Frames.{Frame}
 use Rattle.lay_cert.specs.CertReading.{Reads}
-use Rattle.lay_cert.specs.FrameReading.{Reading, HasRead}
+use Rattle.lay_cert.specs.FrameReading.{Reading, HasReadFrames}
 use Rattle.cc_check.specs.Checks.{OptimalHolds}
 use Rattle.cc_check.specs.CheckText.{frame_line, has_frame, all_pass}
 
@@ -18,7 +18,7 @@ pub record AreChecked (image : Contents) (fs : List Frame) (lines : List ℕ) (p
 -- the frames that are read so far are checked
 pub record ChecksRead (image : Contents) (bytes : List ℕ) (reader : Reading) (lines : List ℕ) (pass : Bool) (marks : List Bool) : Type 0 where
   pub frames : List Frame
-  pub read : HasRead bytes frames reader
+  pub read : HasReadFrames bytes frames reader
   pub checked : AreChecked image frames lines pass marks
   pub marked : length marks ≡ length image.functions
 

@@ -1,5 +1,5 @@
 //! Walks that are kept, so that no function is walked over twice.
-ghost use Rattle.std.specs.Prelude.{◌≡◌, ◌<◌, None, length, replicate, vec_len, IfOk, IfSome};
+ghost use Rattle.std.specs.Prelude.{◌≡◌, ◌<◌, None, length, vec_len, IfOk, IfSome};
 ghost use Rattle.c25_isa.specs.Image.{Contents};
 ghost use Rattle.cc_check.specs.Kept.{IsWalkOf, AreKept};
 

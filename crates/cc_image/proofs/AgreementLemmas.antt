@@ -7,7 +7,7 @@ use Rattle.c_tree.specs.SourceRun.{source_run}
 use Rattle.c_tree.specs.TypedTree.{ProgramTree}
 use Rattle.c_tree.specs.WellFormedProgram.{IsProgram}
 use Rattle.tree_code.specs.Lowered.{lowered_program}
-use Rattle.c_tree.specs.TypedOfWords.{HasWords}
+use Rattle.c_tree.specs.TypedOfWords.{ProgramHasWords}
 use Rattle.tree_code.specs.WordTree.{ProgramCode}
 use Rattle.acc_code.specs.AccTree.{FunctionItems}
 use Rattle.acc_select.specs.IsSelected.{IsEmittable}
@@ -41,7 +41,7 @@ ok_of_four (Err e) h k l m f = tt
 
 -- the laws of images for the layouts of a program
 abbrev ForImage : (ProgramTree → DataPlan → List ℕ → Type 0) → Type 0
-ForImage So = (t : ProgramTree) (plan : DataPlan) (arrangements : List (List (List ℕ))) (step : ℕ) (image : Contents) → IsProgram t → HasWords t → AreArranged (lowered_program t).functions arrangements → IsPlan (lowered_program t) arrangements plan
+ForImage So = (t : ProgramTree) (plan : DataPlan) (arrangements : List (List (List ℕ))) (step : ℕ) (image : Contents) → IsProgram t → ProgramHasWords t → AreArranged (lowered_program t).functions arrangements → IsPlan (lowered_program t) arrangements plan
     → IsEmittable (lowered_program t) (selected (lowered_program t)) → step < 256 → Linked (emission_pieces (emission_of t plan arrangements step)) image → PiecesFit (emission_pieces (emission_of t plan arrangements step)) → pieces_size (emission_pieces (emission_of t plan arrangements step)) ≤ 65536
     → So t plan image.words
 
@@ -49,7 +49,7 @@ pub size_same : (ps : List Piece) → pieces_size ps ≡ pieces_words ps
 size_same [] = refl
 size_same (p ∷ ps) = ap (λ n. items_size p.items + n) (size_same ps) ∙ sym (sum_by-cons (λ (q : Piece). items_size q.items) p ps)
 
-for_image : (So : ProgramTree → DataPlan → List ℕ → Type 0) → ForImage So → (o : Options) (t : ProgramTree) (p : ProgramCode) (gs : List FunctionItems) → AreOptions o → p ≡ lowered_program t → IsProgram t → HasWords t → AreArranged p.functions (layouts o p) → IsEmittable p gs → gs ≡ selected p
+for_image : (So : ProgramTree → DataPlan → List ℕ → Type 0) → ForImage So → (o : Options) (t : ProgramTree) (p : ProgramCode) (gs : List FunctionItems) → AreOptions o → p ≡ lowered_program t → IsProgram t → ProgramHasWords t → AreArranged p.functions (layouts o p) → IsEmittable p gs → gs ≡ selected p
     → (image : Contents) (h : HasImage o t image) → So t h.plan image.words
 for_image So law o t p gs options same is words arranged emittable chosen image h =
     let few = options.to_eight in
@@ -57,12 +57,12 @@ for_image So law o t p gs options same is words arranged emittable chosen image 
     law t h.plan (layouts o (lowered_program t)) o.step image is words (subst (λ p. AreArranged p.functions (layouts o p)) same arranged) h.planned
     (subst (λ p. IsEmittable p (selected p)) same (subst (IsEmittable p) chosen emittable)) (omega (arith, few)) h.linked h.ranges (omega (arith, size, size_same (all_pieces o (lowered_program t) h.plan)))
 
-pub image_agrees : ForImage (λ t plan words. Agrees (source_run t) words) → (o : Options) (t : ProgramTree) (p : ProgramCode) (gs : List FunctionItems) → AreOptions o → p ≡ lowered_program t → ∥ IsProgram t ∥₁ → HasWords t → AreArranged p.functions (layouts o p) → IsEmittable p gs → gs ≡ selected p
+pub image_agrees : ForImage (λ t plan words. Agrees (source_run t) words) → (o : Options) (t : ProgramTree) (p : ProgramCode) (gs : List FunctionItems) → AreOptions o → p ≡ lowered_program t → ∥ IsProgram t ∥₁ → ProgramHasWords t → AreArranged p.functions (layouts o p) → IsEmittable p gs → gs ≡ selected p
     → (image : Contents) → HasImage o t image → ∥ Agrees (source_run t) image.words ∥₁
 image_agrees law o t p gs options same known words arranged emittable chosen image h =
     ∥∥₁_map known (λ is. for_image (λ t plan words. Agrees (source_run t) words) law o t p gs options same is words arranged emittable chosen image h)
 
-pub image_in_time : ForImage EndsInTime → (o : Options) (t : ProgramTree) (p : ProgramCode) (gs : List FunctionItems) → AreOptions o → p ≡ lowered_program t → ∥ IsProgram t ∥₁ → HasWords t → AreArranged p.functions (layouts o p) → IsEmittable p gs → gs ≡ selected p
+pub image_in_time : ForImage EndsInTime → (o : Options) (t : ProgramTree) (p : ProgramCode) (gs : List FunctionItems) → AreOptions o → p ≡ lowered_program t → ∥ IsProgram t ∥₁ → ProgramHasWords t → AreArranged p.functions (layouts o p) → IsEmittable p gs → gs ≡ selected p
     → (image : Contents) → HasImage o t image → ∥ EndsWithin o t image ∥₁
 image_in_time law o t p gs options same known words arranged emittable chosen image h =
     ∥∥₁_map known (λ is plan planned. subst (λ x. EndsInTime t x image.words) (one_plan o t h.plan plan h.planned planned) (for_image EndsInTime law o t p gs options same is words arranged emittable chosen image h))

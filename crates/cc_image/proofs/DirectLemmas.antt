@@ -4,7 +4,7 @@ use Rattle.std.proofs.Math.Logic.{∥∥₁_map}
 use Rattle.c_tree.specs.TypedTree.{ProgramTree}
 use Rattle.c_tree.specs.WellFormedProgram.{IsProgram}
 use Rattle.tree_code.specs.Lowered.{lowered_program}
-use Rattle.c_tree.specs.TypedOfWords.{HasWords}
+use Rattle.c_tree.specs.TypedOfWords.{ProgramHasWords}
 use Rattle.tree_code.specs.WordTree.{ProgramCode}
 use Rattle.acc_code.specs.AccTree.{FunctionItems}
 use Rattle.acc_select.specs.IsSelected.{IsEmittable}
@@ -25,18 +25,18 @@ use Rattle.cc_image.proofs.OneImage.{one_plan}
 
 -- the law of direct operands for the layouts of a program
 abbrev ForDirect : Type 0
-ForDirect = (t : ProgramTree) (plan : DataPlan) (arrangements : List (List (List ℕ))) (step : ℕ) (image : Contents) → IsProgram t → HasWords t → AreArranged (lowered_program t).functions arrangements → IsPlan (lowered_program t) arrangements plan
+ForDirect = (t : ProgramTree) (plan : DataPlan) (arrangements : List (List (List ℕ))) (step : ℕ) (image : Contents) → IsProgram t → ProgramHasWords t → AreArranged (lowered_program t).functions arrangements → IsPlan (lowered_program t) arrangements plan
     → IsEmittable (lowered_program t) (selected (lowered_program t)) → step < 256 → Linked (emission_pieces (emission_of t plan arrangements step)) image → PiecesFit (emission_pieces (emission_of t plan arrangements step)) → pieces_size (emission_pieces (emission_of t plan arrangements step)) ≤ 65536
     → AreDirect (emission_of t plan arrangements step) image
 
-direct_by : ForDirect → (o : Options) (t : ProgramTree) → AreOptions o → IsProgram t → HasWords t → AreArranged (lowered_program t).functions (layouts o (lowered_program t)) → IsEmittable (lowered_program t) (selected (lowered_program t))
+direct_by : ForDirect → (o : Options) (t : ProgramTree) → AreOptions o → IsProgram t → ProgramHasWords t → AreArranged (lowered_program t).functions (layouts o (lowered_program t)) → IsEmittable (lowered_program t) (selected (lowered_program t))
     → (image : Contents) (h : HasImage o t image) → AreDirect (emission_of t h.plan (layouts o (lowered_program t)) o.step) image
 direct_by law o t options is words arranged emittable image h =
     let few = options.to_eight in
     let size = h.fits in
     law t h.plan (layouts o (lowered_program t)) o.step image is words arranged h.planned emittable (omega (arith, few)) h.linked h.ranges (omega (arith, size, size_same (all_pieces o (lowered_program t) h.plan)))
 
-pub image_direct : ForDirect → (o : Options) (t : ProgramTree) (p : ProgramCode) (gs : List FunctionItems) → AreOptions o → p ≡ lowered_program t → ∥ IsProgram t ∥₁ → HasWords t → AreArranged p.functions (layouts o p) → IsEmittable p gs → gs ≡ selected p
+pub image_direct : ForDirect → (o : Options) (t : ProgramTree) (p : ProgramCode) (gs : List FunctionItems) → AreOptions o → p ≡ lowered_program t → ∥ IsProgram t ∥₁ → ProgramHasWords t → AreArranged p.functions (layouts o p) → IsEmittable p gs → gs ≡ selected p
     → (image : Contents) → HasImage o t image → ∥ IsDirect o t image ∥₁
 image_direct law o t p gs options same known words arranged emittable chosen image h =
     ∥∥₁_map known

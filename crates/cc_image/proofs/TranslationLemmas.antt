@@ -6,7 +6,7 @@ use Rattle.word_base.specs.Ports.{Input, IsInput}
 use Rattle.c_tree.specs.SourceRun.{source_run}
 use Rattle.c_tree.specs.TypedTree.{ProgramTree}
 use Rattle.c_tree.specs.WellFormedProgram.{IsProgram}
-use Rattle.c_tree.specs.TypedOfWords.{HasWords}
+use Rattle.c_tree.specs.TypedOfWords.{ProgramHasWords}
 use Rattle.acc_select.specs.Selected.{selected}
 use Rattle.code_runs.specs.Keeps.{acc_run, tree_run}
 use Rattle.code_runs.specs.Outside.{Places}
@@ -55,21 +55,21 @@ ok_then (Err e) h k = tt
 
 -- the law of runs for the layouts of a program
 abbrev pub RunsKept : Type 0
-RunsKept = (t : ProgramTree) (arrangements : List (List (List ℕ))) (plan : DataPlan) (input : Input) (n : ℕ) → IsProgram t → HasWords t → AreArranged (lowered_program t).functions arrangements → IsPlan (lowered_program t) arrangements plan → IsInput input
+RunsKept = (t : ProgramTree) (arrangements : List (List (List ℕ))) (plan : DataPlan) (input : Input) (n : ℕ) → IsProgram t → ProgramHasWords t → AreArranged (lowered_program t).functions arrangements → IsPlan (lowered_program t) arrangements plan → IsInput input
     → KeepsSource (source_run t input n) (acc_run (places_of plan) (lowered_program t) (selected (lowered_program t)) input n)
 
-pub runs_kept : RunsKept → (o : Options) (t : ProgramTree) (p : ProgramCode) → p ≡ lowered_program t → ∥ IsProgram t ∥₁ → HasWords t → AreArranged p.functions (layouts o p) → ∥ KeepsRuns o t ∥₁
+pub runs_kept : RunsKept → (o : Options) (t : ProgramTree) (p : ProgramCode) → p ≡ lowered_program t → ∥ IsProgram t ∥₁ → ProgramHasWords t → AreArranged p.functions (layouts o p) → ∥ KeepsRuns o t ∥₁
 runs_kept law o t p same known words arranged =
     ∥∥₁_map known (λ is plan planned input n inputs. law t (layouts o (lowered_program t)) plan input n is words (subst (λ p. AreArranged p.functions (layouts o p)) same arranged) planned inputs)
 
 -- the law of lowering for a plan of the program
 abbrev pub TreesKept : Type 0
-TreesKept = (q : Places) (t : ProgramTree) (input : Input) (n : ℕ) → IsProgram t → HasWords t → ArePlaces q t → IsInput input → KeepsSource (source_run t input n) (tree_run q (lowered_program t) input n)
+TreesKept = (q : Places) (t : ProgramTree) (input : Input) (n : ℕ) → IsProgram t → ProgramHasWords t → ArePlaces q t → IsInput input → KeepsSource (source_run t input n) (tree_run q (lowered_program t) input n)
 
 abbrev pub PlansHavePlaces : Type 0
 PlansHavePlaces = (t : ProgramTree) (arrangements : List (List (List ℕ))) (plan : DataPlan) → IsProgram t → AreArranged (lowered_program t).functions arrangements → IsPlan (lowered_program t) arrangements plan → ArePlaces (places_of plan) t
 
-pub trees_kept : TreesKept → PlansHavePlaces → (o : Options) (t : ProgramTree) (p : ProgramCode) → p ≡ lowered_program t → ∥ IsProgram t ∥₁ → HasWords t → AreArranged p.functions (layouts o p) → ∥ TreeKeepsRuns o t ∥₁
+pub trees_kept : TreesKept → PlansHavePlaces → (o : Options) (t : ProgramTree) (p : ProgramCode) → p ≡ lowered_program t → ∥ IsProgram t ∥₁ → ProgramHasWords t → AreArranged p.functions (layouts o p) → ∥ TreeKeepsRuns o t ∥₁
 trees_kept law places o t p same known words arranged =
     ∥∥₁_map known
     (λ is plan planned input n inputs.

@@ -7,7 +7,7 @@ use Rattle.std.proofs.lemmas.Option.{same_Some, slice_get_within}
 use Rattle.c_tree.specs.TypedTree.{ProgramTree}
 use Rattle.c_tree.specs.WellFormedProgram.{IsProgram}
 use Rattle.tree_code.specs.Lowered.{lowered_program}
-use Rattle.c_tree.specs.TypedOfWords.{HasWords}
+use Rattle.c_tree.specs.TypedOfWords.{ProgramHasWords}
 use Rattle.tree_code.specs.WordTree.{FunctionCode, ProgramCode}
 use Rattle.acc_code.specs.AccTree.{FunctionItems}
 use Rattle.acc_code.specs.AccSequence.{blocks_of, once}
@@ -82,11 +82,11 @@ each_of P (y ∷ ys) all (suc k) x is = each_of P ys (λ i d within. all (suc i)
 
 -- the law of walks for the layouts of a program
 abbrev ForWalks : Type 0
-ForWalks = (t : ProgramTree) (plan : DataPlan) (arrangements : List (List (List ℕ))) (step : ℕ) (image : Contents) (k : ℕ) (code : FunctionCode) (g : FunctionItems) (frame : FramePlan) (lists : List (List ℕ)) → IsProgram t → HasWords t → AreArranged (lowered_program t).functions arrangements → IsPlan (lowered_program t) arrangements plan
+ForWalks = (t : ProgramTree) (plan : DataPlan) (arrangements : List (List (List ℕ))) (step : ℕ) (image : Contents) (k : ℕ) (code : FunctionCode) (g : FunctionItems) (frame : FramePlan) (lists : List (List ℕ)) → IsProgram t → ProgramHasWords t → AreArranged (lowered_program t).functions arrangements → IsPlan (lowered_program t) arrangements plan
     → IsEmittable (lowered_program t) (selected (lowered_program t)) → step < 256 → Linked (emission_pieces (emission_of t plan arrangements step)) image → PiecesFit (emission_pieces (emission_of t plan arrangements step)) → pieces_size (emission_pieces (emission_of t plan arrangements step)) ≤ 65536
     → IsFunctionOf (emission_of t plan arrangements step) k code g frame lists → HasWalk image k step g frame lists
 
-module _ (law : ForWalks) (o : Options) (t : ProgramTree) (options : AreOptions o) (words : HasWords t) (arranged : AreArranged (lowered_program t).functions (layouts o (lowered_program t))) (emittable : IsEmittable (lowered_program t) (selected (lowered_program t))) (image : Contents) (h : HasImage o t image) where
+module _ (law : ForWalks) (o : Options) (t : ProgramTree) (options : AreOptions o) (words : ProgramHasWords t) (arranged : AreArranged (lowered_program t).functions (layouts o (lowered_program t))) (emittable : IsEmittable (lowered_program t) (selected (lowered_program t))) (image : Contents) (h : HasImage o t image) where
   abbrev p : ProgramCode
   p = lowered_program t
 
@@ -113,7 +113,7 @@ module _ (law : ForWalks) (o : Options) (t : ProgramTree) (options : AreOptions 
       let x = frame_at o (selected p) h.plan.frames k f (ap (λ fs. slice_get fs k) (sym are) ∙ at) in
       subst (IsWalked image k) x.is (walked_as k x.g x.plan (walk_of is k x.g x.plan x.g_at x.plan_at) (subst ClaimsHold (sym x.is) (each_of ClaimsHold frames claims k f at)))
 
-pub frames_walked : ForWalks → (o : Options) (t : ProgramTree) (p : ProgramCode) (gs : List FunctionItems) → AreOptions o → p ≡ lowered_program t → ∥ IsProgram t ∥₁ → HasWords t → AreArranged p.functions (layouts o p) → IsEmittable p gs → gs ≡ selected p
+pub frames_walked : ForWalks → (o : Options) (t : ProgramTree) (p : ProgramCode) (gs : List FunctionItems) → AreOptions o → p ≡ lowered_program t → ∥ IsProgram t ∥₁ → ProgramHasWords t → AreArranged p.functions (layouts o p) → IsEmittable p gs → gs ≡ selected p
     → (image : Contents) (frames : List Frame) → HasImage o t image → HasFrames o t frames → All ClaimsHold frames → ∥ AreWalked image frames ∥₁
 frames_walked law o t p gs options same known words arranged emittable chosen image frames h framed claims =
     let plans = one_plan o t framed.plan h.plan framed.planned h.planned in

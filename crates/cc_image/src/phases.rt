@@ -17,7 +17,7 @@ ghost use Rattle.lay_cert.specs.Frames.{Frame};
 ghost use Rattle.mem_plan.specs.Plan.{AreArranged, IsPlan};
 ghost use Rattle.tree_code.specs.Lowered.{lowered_program};
 ghost use Rattle.tree_code.specs.ProgramView.{tree_of};
-ghost use Rattle.c_tree.specs.TypedOfWords.{HasWords};
+ghost use Rattle.c_tree.specs.TypedOfWords.{ProgramHasWords};
 
 use crate::fault::TranslationFault;
 use acc_select::{AccFunction, AccProgram};
@@ -59,7 +59,7 @@ struct Planned {
 
 fn choose(alloc: Global, program: &Program) -> Result<Chosen, NoMemory>
     ensures tree { IfOk result (λ c. tree_of c.tree ≡ lowered_program (program_of program.now)) }
-    ensures words { IfOk result (λ _. HasWords (program_of program.now)) }
+    ensures words { IfOk result (λ _. ProgramHasWords (program_of program.now)) }
     ensures code { IfOk result (λ c. functions_of c.code ≡ selected (tree_of c.tree)) }
     ensures emittable { IfOk result (λ c. IsEmittable (tree_of c.tree) (functions_of c.code)) }
 {

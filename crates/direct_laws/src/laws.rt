@@ -3,7 +3,7 @@ ghost use Rattle.std.specs.Prelude.{◌≤◌, ◌<◌, ℕ, List};
 ghost use Rattle.c_tree.specs.TypedTree.{ProgramTree};
 ghost use Rattle.c_tree.specs.WellFormedProgram.{IsProgram};
 ghost use Rattle.tree_code.specs.Lowered.{lowered_program};
-ghost use Rattle.c_tree.specs.TypedOfWords.{HasWords};
+ghost use Rattle.c_tree.specs.TypedOfWords.{ProgramHasWords};
 ghost use Rattle.acc_select.specs.IsSelected.{IsEmittable};
 ghost use Rattle.acc_select.specs.Selected.{selected};
 ghost use Rattle.mem_plan.specs.declared.data_plan.DataPlan.{DataPlan};
@@ -29,7 +29,7 @@ pub fn images_are_direct()
 
 /// So it is of a typed program of words.
 pub fn programs_are_direct()
-    ensures direct { (t : ProgramTree) (plan : DataPlan) (arrangements : List (List (List ℕ))) (step : ℕ) (image : Contents) → IsProgram t → HasWords t → AreArranged (lowered_program t).functions arrangements → IsPlan (lowered_program t) arrangements plan
+    ensures direct { (t : ProgramTree) (plan : DataPlan) (arrangements : List (List (List ℕ))) (step : ℕ) (image : Contents) → IsProgram t → ProgramHasWords t → AreArranged (lowered_program t).functions arrangements → IsPlan (lowered_program t) arrangements plan
         → IsEmittable (lowered_program t) (selected (lowered_program t)) → step < 256 → Linked (all_pieces (emission_of t plan arrangements step)) image → PiecesFit (all_pieces (emission_of t plan arrangements step)) → pieces_size (all_pieces (emission_of t plan arrangements step)) ≤ 65536
         → AreDirect (emission_of t plan arrangements step) image }
 {

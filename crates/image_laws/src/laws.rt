@@ -5,7 +5,7 @@ ghost use Rattle.c_tree.specs.SourceRun.{source_run};
 ghost use Rattle.c_tree.specs.TypedTree.{ProgramTree};
 ghost use Rattle.c_tree.specs.WellFormedProgram.{IsProgram};
 ghost use Rattle.tree_code.specs.Lowered.{lowered_program};
-ghost use Rattle.c_tree.specs.TypedOfWords.{HasWords, StartsWithWords};
+ghost use Rattle.c_tree.specs.TypedOfWords.{ProgramHasWords, StartsWithWords};
 ghost use Rattle.acc_select.specs.IsSelected.{IsEmittable};
 ghost use Rattle.acc_select.specs.Selected.{selected};
 ghost use Rattle.mem_plan.specs.declared.data_plan.DataPlan.{DataPlan};
@@ -36,10 +36,10 @@ pub fn images_keep_runs()
 
 /// So the image of a typed program of words agrees with the program, and ends in time where the program ends.
 pub fn images_agree()
-    ensures agree { (t : ProgramTree) (plan : DataPlan) (arrangements : List (List (List ℕ))) (step : ℕ) (image : Contents) → IsProgram t → HasWords t → AreArranged (lowered_program t).functions arrangements → IsPlan (lowered_program t) arrangements plan
+    ensures agree { (t : ProgramTree) (plan : DataPlan) (arrangements : List (List (List ℕ))) (step : ℕ) (image : Contents) → IsProgram t → ProgramHasWords t → AreArranged (lowered_program t).functions arrangements → IsPlan (lowered_program t) arrangements plan
         → IsEmittable (lowered_program t) (selected (lowered_program t)) → step < 256 → Linked (all_pieces (emission_of t plan arrangements step)) image → PiecesFit (all_pieces (emission_of t plan arrangements step)) → pieces_size (all_pieces (emission_of t plan arrangements step)) ≤ 65536
         → Agrees (source_run t) image.words }
-    ensures in_time { (t : ProgramTree) (plan : DataPlan) (arrangements : List (List (List ℕ))) (step : ℕ) (image : Contents) → IsProgram t → HasWords t → AreArranged (lowered_program t).functions arrangements → IsPlan (lowered_program t) arrangements plan
+    ensures in_time { (t : ProgramTree) (plan : DataPlan) (arrangements : List (List (List ℕ))) (step : ℕ) (image : Contents) → IsProgram t → ProgramHasWords t → AreArranged (lowered_program t).functions arrangements → IsPlan (lowered_program t) arrangements plan
         → IsEmittable (lowered_program t) (selected (lowered_program t)) → step < 256 → Linked (all_pieces (emission_of t plan arrangements step)) image → PiecesFit (all_pieces (emission_of t plan arrangements step)) → pieces_size (all_pieces (emission_of t plan arrangements step)) ≤ 65536
         → EndsInTime t plan image.words }
 {

@@ -11,7 +11,7 @@ pub record Reading : Type 0 where
   pub frames : ℕ
 
 -- exactly these frames of the bytes are read, and the reader stands between frames
-pub record HasRead (bytes : List ℕ) (fs : List Frame) (r : Reading) : Type 0 where
+pub record HasReadFrames (bytes : List ℕ) (fs : List Frame) (r : Reading) : Type 0 where
   pub short : length bytes ≤ 536870912
   pub stands : Stands bytes r.at (Inside r.steps fs Between)
   pub counted : length fs ≡ r.frames
@@ -20,4 +20,4 @@ pub record HasRead (bytes : List ℕ) (fs : List Frame) (r : Reading) : Type 0 w
 pub record IsReading (r : Reading) : Type 0 where
   pub bytes : List ℕ
   pub read : List Frame
-  pub has : HasRead bytes read r
+  pub has : HasReadFrames bytes read r

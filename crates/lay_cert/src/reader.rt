@@ -4,7 +4,7 @@ ghost use Rattle.word_base.specs.Name.{IsName};
 ghost use Rattle.lay_cert.specs.Frames.{Frame, IsWhole};
 ghost use Rattle.lay_cert.specs.CertReading.{Unread, Inside, Finished, Named, Between, Reads, Says};
 ghost use Rattle.lay_cert.specs.LineReading.{Stands};
-ghost use Rattle.lay_cert.specs.FrameReading.{HasRead};
+ghost use Rattle.lay_cert.specs.FrameReading.{HasReadFrames};
 
 use crate::certificate::{CertFrame, FrameParts};
 use crate::fault::CertFault;
@@ -39,7 +39,7 @@ impl<'a> CertReader<'a> {
     /// Before the first frame of these bytes, of which it reads the version.
     pub fn new(bytes: &'a [u8]) -> Result<Self, CertFault>
         requires { length bytes.now ≤ 536870912 }
-        ensures { MatchResult result (HasRead bytes.now []) (Says bytes.now) }
+        ensures { MatchResult result (HasReadFrames bytes.now []) (Says bytes.now) }
     {
         let mut lines = Lines::new(bytes);
         let steps = read_version(&mut lines)?;
@@ -54,7 +54,7 @@ impl<'a> CertReader<'a> {
     /// so that a further call answers the same, unless memory is wanting. The faults are those of `read_cert`.
     pub fn next(&mut self, alloc: Global) -> Result<Option<CertFrame>, CertFault>
         // The frame that the bytes say next, the end that they say, or their fault.
-        ensures read { (bytes : List ℕ) (fs : List Frame) → HasRead bytes fs self.old → MatchResult result (λ found. MatchOption found (Reads bytes fs) (λ f. HasRead bytes (fs ++ f ∷ []) self.new)) (Says bytes) }
+        ensures read { (bytes : List ℕ) (fs : List Frame) → HasReadFrames bytes fs self.old → MatchResult result (λ found. MatchOption found (Reads bytes fs) (λ f. HasReadFrames bytes (fs ++ f ∷ []) self.new)) (Says bytes) }
         // It is a frame, and its numbers have their bits.
         ensures whole { IfOk result (λ found. IfSome found IsWhole) }
         // It is one more, and they are never more than bytes: reading frame by frame ends.

@@ -1,5 +1,5 @@
 //! Reading whole certificates.
-ghost use Rattle.std.specs.Prelude.{◌≡◌, ◌≢◌, ◌⊎◌, ◌≤◌, ℕ, List, length, MatchResult, IfOk, IfErr};
+ghost use Rattle.std.specs.Prelude.{◌≡◌, ◌≢◌, ◌⊎◌, ◌≤◌, List, length, MatchResult, IfOk, IfErr};
 ghost use Rattle.lay_cert.specs.Frames.{Frame, AreWhole};
 ghost use Rattle.lay_cert.specs.CertReading.{Reads, Says};
 ghost use Rattle.lay_cert.specs.declared.fault.CertFault.{CertFault};

@@ -17,7 +17,7 @@ use Rattle.tree_code.specs.Lowered.{lowered, lowered_program}
 use Rattle.code_runs.specs.Keeps.{tree_run}
 use Rattle.code_runs.specs.Outside.{Places, address_of}
 use Rattle.code_runs.specs.TreeRun as run
-use Rattle.c_tree.specs.TypedOfWords.{StartsWithWord, FunctionHasWords, HasWords}
+use Rattle.c_tree.specs.TypedOfWords.{StartsWithWord, FunctionHasWords, ProgramHasWords}
 use Rattle.lower_laws.specs.Lowering.{KeepsSource}
 use Rattle.lower_laws.specs.Surroundings.{ArePlaces}
 use Rattle.lower_laws.proofs.Growing.{value_grows, decide_grows, effect_grows}
@@ -49,7 +49,7 @@ static_objects p g = record { objects_of = of_static; statics = λ n s is. is }
     of_static (Local n) s e = absurd (none-some s e)
     of_static (Static n) s e = e
 
-module _ (q : Places) (p : ProgramTree) (is : IsProgram p) (has : HasWords p) (places : ArePlaces q p) (n : ℕ) where
+module _ (q : Places) (p : ProgramTree) (is : IsProgram p) (has : ProgramHasWords p) (places : ArePlaces q p) (n : ℕ) where
   function_is : (f : ℕ) (g : FunctionTree) → slice_get p.functions f ≡ Some g → IsFunction p g
   function_is f g get = element_of (IsFunction p) p.functions is.functions f g get
 

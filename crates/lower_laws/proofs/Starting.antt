@@ -11,7 +11,7 @@ use Rattle.c_tree.specs.SourceRun.{static_object, first_world}
 use Rattle.c_tree.specs.WellFormed.{IsInitial}
 use Rattle.c_tree.specs.WellFormedProgram.{IsObject, IsProgram, static_in}
 use Rattle.code_runs.specs.Outside.{Nowhere, Places, no_words, with_statics, first_outside}
-use Rattle.c_tree.specs.TypedOfWords.{HasWords}
+use Rattle.c_tree.specs.TypedOfWords.{ProgramHasWords}
 use Rattle.lower_laws.specs.Seats.{Seat, Vacant, LiesAt, Seats, IsPlace, Apart}
 use Rattle.lower_laws.specs.Beside.{CellAlike, ObjectAlike, SeatAlike, Alike}
 use Rattle.lower_laws.specs.Surroundings.{IsLocal, ArePlaces, MayBeCalled}
@@ -38,7 +38,7 @@ same_count e = (cc, cc)
 vacant_lies : {a n : ℕ} → Vacant ≡ LiesAt a n → ⊥
 vacant_lies e = cc
 
-module _ (q : Places) (p : ProgramTree) (places : ArePlaces q p) (is : IsProgram p) (has : HasWords p) where
+module _ (q : Places) (p : ProgramTree) (places : ArePlaces q p) (is : IsProgram p) (has : ProgramHasWords p) where
   abbrev seats : Seats
   seats = first_seats q p.statics
 

@@ -18,7 +18,7 @@ use Rattle.code_runs.specs.Keeps.{tree_run}
 use Rattle.code_runs.specs.Outside.{Places, no_words, first_outside}
 use Rattle.code_runs.specs.TreeRun as run
 use Rattle.code_runs.specs.TreeRun.{Tree, main_from}
-use Rattle.c_tree.specs.TypedOfWords.{HasWords}
+use Rattle.c_tree.specs.TypedOfWords.{ProgramHasWords}
 use Rattle.lower_laws.specs.Lowering.{KeepsSource}
 use Rattle.lower_laws.specs.Seats.{Seats}
 use Rattle.lower_laws.specs.Surroundings.{ArePlaces}
@@ -47,7 +47,7 @@ main_found (f ∷ fs) k (suc i) g differ get named =
     let number = rest.1 in
     (ap (λ b. cond b (Some f) (main_of fs)) e ∙ rest.0, ap (λ b. cond b k (main_from (suc k) (map lowered_function fs))) e ∙ omega (arith, number))
 
-module _ (q : Places) (p : ProgramTree) (is : IsProgram p) (has : HasWords p) (places : ArePlaces q p) (n : ℕ) (bodies : BodiesKeep q p n) (input : Input) (inputs : IsInput input) where
+module _ (q : Places) (p : ProgramTree) (is : IsProgram p) (has : ProgramHasWords p) (places : ArePlaces q p) (n : ℕ) (bodies : BodiesKeep q p n) (input : Input) (inputs : IsInput input) where
   abbrev functions : List FunctionCode
   functions = map lowered_function p.functions
 

@@ -7,7 +7,7 @@ ghost use Rattle.c_tree.specs.WellFormedProgram.{IsProgram};
 ghost use Rattle.tree_code.specs.Lowered.{lowered_program};
 ghost use Rattle.code_runs.specs.Keeps.{tree_run};
 ghost use Rattle.code_runs.specs.Outside.{Places};
-ghost use Rattle.c_tree.specs.TypedOfWords.{HasWords};
+ghost use Rattle.c_tree.specs.TypedOfWords.{ProgramHasWords};
 ghost use Rattle.lower_laws.specs.Lowering.{KeepsSource};
 ghost use Rattle.lower_laws.specs.Seats.{AreSeats, Points, Seats};
 ghost use Rattle.lower_laws.specs.Surroundings.{ArePlaces};
@@ -28,5 +28,5 @@ pub fn addresses_tell_pointers()
 /// which are static objects and the local ones of a function and of all that it reaches by calls. Nothing is said of work here, since
 /// the work of a typed program is that of its word tree.
 pub fn lowering_keeps_runs()
-    ensures keeps { (q : Places) (p : ProgramTree) (input : Input) (n : ℕ) → IsProgram p → HasWords p → ArePlaces q p → IsInput input → KeepsSource (source_run p input n) (tree_run q (lowered_program p) input n) }
+    ensures keeps { (q : Places) (p : ProgramTree) (input : Input) (n : ℕ) → IsProgram p → ProgramHasWords p → ArePlaces q p → IsInput input → KeepsSource (source_run p input n) (tree_run q (lowered_program p) input n) }
 {}

@@ -10,7 +10,7 @@ ghost use Rattle.mem_plan.specs.declared.data_plan.DataPlan.{DataPlan};
 ghost use Rattle.mem_plan.specs.Plan.{AreArranged, IsPlan};
 ghost use Rattle.code_runs.specs.Keeps.{acc_run};
 ghost use Rattle.code_runs.specs.Outside.{address_of};
-ghost use Rattle.c_tree.specs.TypedOfWords.{HasWords};
+ghost use Rattle.c_tree.specs.TypedOfWords.{ProgramHasWords};
 ghost use Rattle.lower_laws.specs.Lowering.{KeepsSource};
 ghost use Rattle.lower_laws.specs.Surroundings.{ArePlaces};
 ghost use Rattle.select_laws.specs.Selecting.{AreFar};
@@ -22,7 +22,7 @@ pub fn translation_keeps_runs()
     // A plan has objects at places that lowering and selection ask for.
     ensures places { (t : ProgramTree) (arrangements : List (List (List ℕ))) (plan : DataPlan) → IsProgram t → AreArranged (lowered_program t).functions arrangements → IsPlan (lowered_program t) arrangements plan → ArePlaces (places_of plan) t }
     ensures far { (t : ProgramTree) (arrangements : List (List (List ℕ))) (plan : DataPlan) → AreArranged (lowered_program t).functions arrangements → IsPlan (lowered_program t) arrangements plan → (f : ℕ) → AreFar (address_of (places_of plan) f) }
-    ensures keeps { (t : ProgramTree) (arrangements : List (List (List ℕ))) (plan : DataPlan) (input : Input) (n : ℕ) → IsProgram t → HasWords t → AreArranged (lowered_program t).functions arrangements → IsPlan (lowered_program t) arrangements plan → IsInput input → KeepsSource (source_run t input n) (acc_run (places_of plan) (lowered_program t) (selected (lowered_program t)) input n) }
+    ensures keeps { (t : ProgramTree) (arrangements : List (List (List ℕ))) (plan : DataPlan) (input : Input) (n : ℕ) → IsProgram t → ProgramHasWords t → AreArranged (lowered_program t).functions arrangements → IsPlan (lowered_program t) arrangements plan → IsInput input → KeepsSource (source_run t input n) (acc_run (places_of plan) (lowered_program t) (selected (lowered_program t)) input n) }
 {
     mem_plan::plans_keep_apart();
     lower_laws::lowering_keeps_runs();

@@ -10,21 +10,21 @@ use Rattle.c_tree.proofs.Examples.Types.{int, int_at, words, object, main_with, 
 use Rattle.c_tree.proofs.Examples.WellFormed.{doubles, doubles_main}
 use Rattle.code_runs.specs.Outside.{Places, address_of}
 use Rattle.select_laws.specs.Selecting.{AreFar}
-use Rattle.c_tree.specs.TypedOfWords.{FunctionHasWords, HasWords}
+use Rattle.c_tree.specs.TypedOfWords.{FunctionHasWords, ProgramHasWords}
 use Rattle.select_laws.proofs.Sides.{some_is}
 
 doubles_functions : AllByRecursion FunctionHasWords doubles.functions
 doubles_functions = (record { locals = tt; body = search arith }, (record { locals = search arith; body = search arith }, tt))
 
-doubles_words : HasWords doubles
+doubles_words : ProgramHasWords doubles
 doubles_words = record { statics = search arith; functions = All-from_recursion FunctionHasWords doubles.functions doubles_functions }
 
 -- a constant of 17 bits
-wide_constant : HasWords (alone (main_with [] [] (Return (Some (int_at 0 (Const 65536)))))) → ⊥
+wide_constant : ProgramHasWords (alone (main_with [] [] (Return (Some (int_at 0 (Const 65536)))))) → ⊥
 wide_constant h = let below : 65536 < 65536 = (h.functions 0 doubles_main (omega arith)).body in omega (arith, below)
 
 -- a listed word of 17 bits
-wide_word : HasWords (program (object 1 int (words (65536 ∷ [])) ∷ []) []) → ⊥
+wide_word : ProgramHasWords (program (object 1 int (words (65536 ∷ [])) ∷ []) []) → ⊥
 wide_word h = let below : 65536 < 65536 = h.statics.0.0 in omega (arith, below)
 
 -- static objects at 512, local ones at 768

@@ -25,7 +25,7 @@ use Rattle.select_laws.specs.FitStatements.{IsFitInitial, IsFitObject, IsFitOpti
 use Rattle.select_laws.specs.OfWords.{IsOfWords}
 use Rattle.select_laws.specs.Selecting.{AreFar, IsWordProgram}
 use Rattle.c_tree.specs.TypedOfWords.{StartsWithWord, StartsWithWords}
-use Rattle.c_tree.specs.TypedOfWords.{OptionalUsesWords, StatementUsesWords, StatementsUseWords, ChoicesUseWords, FunctionHasWords, HasWords}
+use Rattle.c_tree.specs.TypedOfWords.{OptionalUsesWords, StatementUsesWords, StatementsUseWords, ChoicesUseWords, FunctionHasWords, ProgramHasWords}
 use Rattle.select_laws.proofs.Mains.{element_of}
 use Rattle.select_laws.proofs.MainReturns.{main_returns_values}
 use Rattle.select_laws.proofs.Selection.{word_programs_keep}
@@ -84,7 +84,7 @@ module _ (q : Places) (f : ℕ) (locals : List ObjectTree) (starts : StartsWithW
     choices_typed names c (tree.default rest) t h = choices_typed names c rest t h
     choices_typed names c (tree.body s rest) t h = (statement_typed names c s t.0 h.0, choices_typed names c rest t.1 h.1)
 
-module _ (q : Places) (p : ProgramTree) (is : IsProgram p) (words : HasWords p) where
+module _ (q : Places) (p : ProgramTree) (is : IsProgram p) (words : ProgramHasWords p) where
   from_slot : (f : ℕ) (slot : Option FunctionTree) (g : FunctionCode) → slice_get p.functions f ≡ slot → option_map lowered_function slot ≡ Some g → IsFitStatement IsOfWords (address_of q f) q g.locals g.body
   from_slot f None g at e = absurd cc
   from_slot f (Some t) g at e =

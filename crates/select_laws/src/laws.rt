@@ -9,7 +9,7 @@ ghost use Rattle.acc_select.specs.Selected.{selected};
 ghost use Rattle.code_runs.specs.Keeps.{Keeps, acc_run, tree_run};
 ghost use Rattle.code_runs.specs.Outside.{Places, address_of};
 ghost use Rattle.select_laws.specs.Selecting.{AreFar, IsWordProgram};
-ghost use Rattle.c_tree.specs.TypedOfWords.{HasWords};
+ghost use Rattle.c_tree.specs.TypedOfWords.{ProgramHasWords};
 
 /// What the accumulator code of a word tree does is what the tree does, for objects at any places: the same outputs and
 /// ending with at most as much work, a run that goes on goes on, and where the tree is undefined the outputs before are kept.
@@ -19,6 +19,6 @@ pub fn selection_keeps_runs()
 
 /// The word tree of a typed program of words meets the condition, so selection keeps its runs.
 pub fn typed_programs_keep()
-    ensures of_words { (q : Places) (p : ProgramTree) → IsProgram p → HasWords p → ((f : ℕ) → AreFar (address_of q f)) → IsWordProgram q (lowered_program p) }
-    ensures keeps { (q : Places) (p : ProgramTree) (input : Input) (n : ℕ) → IsProgram p → HasWords p → ((f : ℕ) → AreFar (address_of q f)) → IsInput input → Keeps (tree_run q (lowered_program p) input n) (acc_run q (lowered_program p) (selected (lowered_program p)) input n) }
+    ensures of_words { (q : Places) (p : ProgramTree) → IsProgram p → ProgramHasWords p → ((f : ℕ) → AreFar (address_of q f)) → IsWordProgram q (lowered_program p) }
+    ensures keeps { (q : Places) (p : ProgramTree) (input : Input) (n : ℕ) → IsProgram p → ProgramHasWords p → ((f : ℕ) → AreFar (address_of q f)) → IsInput input → Keeps (tree_run q (lowered_program p) input n) (acc_run q (lowered_program p) (selected (lowered_program p)) input n) }
 {}

@@ -15,7 +15,7 @@ use Rattle.c_tree.specs.TypedTree.{Stmt, FunctionTree}
 use Rattle.c_rules.specs.Outcome.{Outcome, Is, Broken}
 use Rattle.c_rules.specs.Programs.{program_tree}
 use Rattle.c_rules.specs.Units.{File, typed_unit}
-use Rattle.c_tree.specs.Declarations.{declarations, local_numbers, times}
+use Rattle.c_tree.specs.Declarations.{declared_in_function, local_numbers, occurrences}
 use Rattle.c_tree.specs.Fills.{filled_in, FilledOnce, FilledIfListed, FilledWhereDeclared, FilledBeforeUse}
 use Rattle.c_tree.specs.NamesUsed.{statement_names}
 use Rattle.c_tree.specs.Scopes.{UsedWhereDeclared}
@@ -26,7 +26,7 @@ functions_in (Broken rule at) = []
 
 -- what each function of a source declares, what it fills, and the lists of its objects in memory
 abbrev declared_by : UnitTree → List (List VarRef)
-declared_by unit = map declarations (functions_in (typed_unit unit))
+declared_by unit = map declared_in_function (functions_in (typed_unit unit))
 
 abbrev filled_by : UnitTree → List (List ℕ)
 filled_by unit = map (λ f. filled_in f.body) (functions_in (typed_unit unit))
@@ -154,7 +154,7 @@ with_body body = record {
 abbrev twice : FunctionTree
 twice = with_body (tree.Block [] (tree.both (tree.Block (Local 0 ∷ []) tree.done) (tree.both (tree.Block (Local 0 ∷ []) tree.done) tree.done)))
 
-declared_twice : times 0 (local_numbers (declarations twice)) ≡ 2
+declared_twice : occurrences 0 (local_numbers (declared_in_function twice)) ≡ 2
 declared_twice = refl
 
 -- an array that a block within that of its declaration fills
@@ -187,7 +187,7 @@ again = with_body (tree.Block (Local 0 ∷ []) (tree.both (tree.Fill 0) (tree.bo
 filled_again : FilledOnce again → ⊥
 filled_again once = absurd (omega (arith, once 0, two))
   where
-    two : times 0 (filled_in again.body) ≡ 2
+    two : occurrences 0 (filled_in again.body) ≡ 2
     two = refl
 
 abbrev never : FunctionTree

@@ -21,7 +21,7 @@ use Rattle.c_rules.proofs.Formed.Context.{numbers_from}
 use Rattle.c_rules.proofs.Formed.FrameTypes.{IsPlaced, placed_in, references_differ, references_length}
 use Rattle.c_rules.proofs.FrameNumbers.{numbered_from, references_counted}
 use Rattle.c_rules.proofs.PlaceLemmas.{place_kept, place_within}
-use Rattle.c_tree.specs.Declarations.{declared_in, declarations, scalar_numbers, local_numbers, times, DeclaredOnce, DeclaredInOrder}
+use Rattle.c_tree.specs.Declarations.{declared_in, declared_in_function, scalar_numbers, local_numbers, occurrences, DeclaredOnce, DeclaredInOrder}
 use Rattle.c_tree.specs.Fills.{filled_in, FillsOwn, FillsFirst, fills_of, HasNoList, FilledOnce, FilledIfListed, FilledAsListed}
 use Rattle.c_tree.specs.Fills.{FilledWhereDeclared, FilledBeforeUse}
 use Rattle.shape_laws.proofs.Counting.{one_below, ObjectsFilled, no_more_objects, object_filled, object_bare, filled_once, filled_as_listed}
@@ -214,7 +214,7 @@ module _ (Given : Type 0) (f : TypedFunction) (made : IsMadeWhole Given f) where
       (subst (λ n. AreFilled Given n made.adds.others (filled_in f.body)) behind made.adds.filled))
 
   -- what it declares is its frame
-  declares_frame : declarations (function_tree f) ≡ frame f
+  declares_frame : declared_in_function (function_tree f) ≡ frame f
   declares_frame =
       let long : length (frame f) ≡ f.parameters + length made.adds.others =
       references_length us f.locals ∙ ap length made.adds.grown ∙ length-append made.first made.adds.others
@@ -237,8 +237,8 @@ module _ (Given : Type 0) (f : TypedFunction) (made : IsMadeWhole Given f) where
 
   pub declared_once : DeclaredOnce (function_tree f)
   declared_once = record {
-    scalars = λ n less. ap (times n) in_order.scalars ∙ one_below n (length (function_tree f).scalars) less;
-    locals = λ n less. ap (times n) in_order.locals ∙ one_below n (length (function_tree f).locals) less;
+    scalars = λ n less. ap (occurrences n) in_order.scalars ∙ one_below n (length (function_tree f).scalars) less;
+    locals = λ n less. ap (occurrences n) in_order.locals ∙ one_below n (length (function_tree f).locals) less;
   }
 
   stands : StandsAt Given us (frame f) 0 (numbered_from us 0 0 0 f.locals)
@@ -258,7 +258,7 @@ module _ (Given : Type 0) (f : TypedFunction) (made : IsMadeWhole Given f) where
   -- how often an object in memory is filled
   abbrev IsFilledRight : ObjectTree → ℕ → Type 0
   IsFilledRight o n =
-      (o.initial ≢ [] → times n (filled_in (function_tree f).body) ≡ 1) × (Given → times n (filled_in (function_tree f).body) ≡ fills_of o.initial)
+      (o.initial ≢ [] → occurrences n (filled_in (function_tree f).body) ≡ 1) × (Given → occurrences n (filled_in (function_tree f).body) ≡ fills_of o.initial)
 
   at_place : (n : ℕ) (o : ObjectTree) → slice_get (function_tree f).locals n ≡ Some o → IsFilledRight o n
   at_place n o there =

@@ -13,6 +13,7 @@ pub mod Placing
 pub mod Derived
 pub mod CharacterTokens
 pub mod Spoken
+pub mod Texts
 pub mod ConstantWords
 pub mod OperandWords
 pub mod TypedWords

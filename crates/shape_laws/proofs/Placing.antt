@@ -1,16 +1,15 @@
 -- In the typed program of a source the objects of each function stand where the source has them.
-use Rattle.std.proofs.Common.{get_or}
 use Rattle.std.specs.Prelude.{All}
 use Rattle.c_syntax.specs.SyntaxTree.{UnitTree}
 use Rattle.c_syntax.specs.Values.{UnitHasValues}
-use Rattle.c_tree.specs.Placed.{IsPlaced}
+use Rattle.c_tree.specs.Placed.{FunctionIsPlaced}
 use Rattle.c_tree.specs.TypedTree.{ProgramTree}
 use Rattle.c_tree.specs.WellFormedProgram.{IsProgram}
 use Rattle.c_rules.specs.Checked.{IsTyped}
 use Rattle.shape_laws.proofs.Units.{all_declared, all_ordered, all_placed, all_before_use, all_listed, all_exact}
 use Rattle.shape_laws.proofs.Within.{all_used}
 
-pub all_are_placed : (unit : UnitTree) (program : ProgramTree) → UnitHasValues unit → IsProgram program → IsTyped unit program → All IsPlaced program.functions
+pub all_are_placed : (unit : UnitTree) (program : ProgramTree) → UnitHasValues unit → IsProgram program → IsTyped unit program → All FunctionIsPlaced program.functions
 all_are_placed unit program values formed typed k d below = record {
   declared = all_declared unit program typed k d below;
   ordered = all_ordered unit program typed k d below;

@@ -35,7 +35,7 @@ use Rattle.c_rules.proofs.Formed.DeclarationTypes.{IsDeclaredType, declared_type
 use Rattle.c_rules.proofs.Formed.GivesLemmas.{anything}
 use Rattle.std.proofs.lemmas.Option.{none-some}
 use Rattle.c_rules.proofs.Formed.FileSoFar.{at_place}
-use Rattle.c_tree.specs.TypedOfWords.{StartsWithWord, StartsWithWords, StatementUsesWords, FunctionHasWords, HasWords}
+use Rattle.c_tree.specs.TypedOfWords.{StartsWithWord, StartsWithWords, StatementUsesWords, FunctionHasWords, ProgramHasWords}
 use Rattle.c_syntax.specs.Characters.{InitialSaysWords, ItemsSayWords, ExternalSaysWords, UnitSaysWords}
 use Rattle.shape_laws.proofs.InitialWords.{EntryHasWord, entry_words, entries_words, cell_words, list_words}
 use Rattle.shape_laws.proofs.OpenedWords.{either_short, declared_short, LocalHasWords}
@@ -204,11 +204,11 @@ objects_start (refs.Static n ∷ rs) (l ∷ ls) all = objects_start rs ls all.1
 function_has : (f : TypedFunction) → TypedHasWords f → FunctionHasWords (function_tree f)
 function_has f has = record { locals = objects_start (frame f) f.locals has.locals; body = statement_kept (frame f) f.body has.body }
 
-pub program_words : (unit : UnitTree) (program : ProgramTree) → UnitSaysWords unit → IsTyped unit program → HasWords program
+pub program_words : (unit : UnitTree) (program : ProgramTree) → UnitSaysWords unit → IsTyped unit program → ProgramHasWords program
 program_words unit program says typed =
     let has : FileHasWords typed.file =
     of_is (typed_unit unit) typed.file (externals_words (empty_file unit) unit (empty_words unit) says) typed.typed in
-    subst HasWords (sym typed.tree) (record {
+    subst ProgramHasWords (sym typed.tree) (record {
       statics = statics_start typed.file.statics has.statics;
       functions = All-map FunctionHasWords function_tree typed.file.functions
           (λ k d below. function_has (get_or typed.file.functions k d) (has.functions k d below));

@@ -7,11 +7,11 @@ ghost use Rattle.c_syntax.specs.SyntaxTree.{UnitTree};
 ghost use Rattle.c_tree.specs.TypedTree.{ProgramTree};
 ghost use Rattle.c_tree.specs.WellFormedProgram.{IsProgram};
 ghost use Rattle.c_rules.specs.Checked.{IsTyped};
-ghost use Rattle.c_tree.specs.TypedOfWords.{HasWords};
+ghost use Rattle.c_tree.specs.TypedOfWords.{ProgramHasWords};
 ghost use Rattle.c_syntax.specs.Characters.{UnitSaysWords};
 ghost use Rattle.c_tree.specs.Declarations.{DeclaredOnce, DeclaredInOrder};
 ghost use Rattle.c_tree.specs.Fills.{FilledOnce, FilledWhereDeclared, FilledBeforeUse, FilledAsListed, FilledIfListed};
-ghost use Rattle.c_tree.specs.Placed.{IsPlaced};
+ghost use Rattle.c_tree.specs.Placed.{FunctionIsPlaced};
 ghost use Rattle.c_tree.specs.Scopes.{UsedWhereDeclared};
 ghost use Rattle.c_syntax.specs.Values.{UnitHasValues};
 
@@ -30,7 +30,7 @@ pub fn typed_programs_are_whole()
 
 /// In the typed program of a source whose braces hold values, the objects of each function stand where the source has them.
 pub fn typed_programs_are_placed()
-    ensures { (unit : UnitTree) (program : ProgramTree) → UnitHasValues unit → IsProgram program → IsTyped unit program → All IsPlaced program.functions }
+    ensures { (unit : UnitTree) (program : ProgramTree) → UnitHasValues unit → IsProgram program → IsTyped unit program → All FunctionIsPlaced program.functions }
 {}
 
 /// In the tree of tokens braces hold a value.
@@ -52,7 +52,7 @@ pub fn sources_say_words()
 /// that in all that they compute, and refuse longer numbers, so of a tree it asks only that its character constants are words (`trees`), as those of a
 /// text are (`texts`).
 pub fn typed_programs_are_of_words()
-    ensures trees { (unit : UnitTree) (program : ProgramTree) → UnitSaysWords unit → IsTyped unit program → HasWords program }
+    ensures trees { (unit : UnitTree) (program : ProgramTree) → UnitSaysWords unit → IsTyped unit program → ProgramHasWords program }
     ensures texts { (bytes : List ℕ) (tokens : List Token) (unit : UnitTree) (program : ProgramTree) → Lexes bytes tokens → DerivesUnit tokens unit
-        → IsTyped unit program → HasWords program }
+        → IsTyped unit program → ProgramHasWords program }
 {}

@@ -6,7 +6,7 @@ use Rattle.c_tree.specs.Exec.{Flow, enter, exec}
 use Rattle.c_tree.specs.SourceRun.{call_within, pass}
 use Rattle.c_tree.specs.Store.{Does, Gives, Value, World}
 use Rattle.c_tree.specs.TypedTree.{Expr, ProgramTree, Stmt}
-use Rattle.c_tree.specs.TypedOfWords.{HasWords, StartsWithWords, StatementUsesWords, UsesWords}
+use Rattle.c_tree.specs.TypedOfWords.{ProgramHasWords, StartsWithWords, StatementUsesWords, UsesWords}
 use Rattle.source_laws.specs.Words.{FlowHasBits, GivenHasBits, HaveBits, HoldsWords}
 use Rattle.source_laws.proofs.Wordly.{Came, Keeps, Any, evals}
 use Rattle.source_laws.proofs.WordlyStatements.{enters, passes, stmts, calls_keep}
@@ -15,12 +15,12 @@ came : {A : Type 0} (q : A → Type 0) (f : Does A) (a : A) (w later : World) �
 came q f a w later h words e = subst (Came q) e (h.by w words)
 
 module _ (p : ProgramTree) (n depth : ℕ) (env : Env) where
-  pub expression : (e : Expr) (v : Option Value) (w later : World) → HasWords p → UsesWords e → HoldsWords w
+  pub expression : (e : Expr) (v : Option Value) (w later : World) → ProgramHasWords p → UsesWords e → HoldsWords w
       → eval (call_within p n depth) env e w ≡ Gives v later → HoldsWords later × GivenHasBits v
   expression e v w later has typed words came_to =
       came GivenHasBits (eval (call_within p n depth) env e) v w later (evals (call_within p n depth) env (calls_keep p has n depth) e typed) words came_to
 
-  pub statement : (s : Stmt) (flow : Flow) (w later : World) → HasWords p → StartsWithWords env.function.locals → StatementUsesWords s → HoldsWords w
+  pub statement : (s : Stmt) (flow : Flow) (w later : World) → ProgramHasWords p → StartsWithWords env.function.locals → StatementUsesWords s → HoldsWords w
       → exec (call_within p n depth) n s env w ≡ Gives flow later
       → HoldsWords later × FlowHasBits flow
   statement s flow w later has own typed words came_to =

@@ -16,7 +16,7 @@ use Rattle.c_tree.specs.Eval.{Env, Calls, object_number}
 use Rattle.c_tree.specs.Labels.{has_case}
 use Rattle.c_tree.specs.Exec.{Flow, Next, Broke, Continued, Returned, too_many, after_turn, turns, turns_first, in_order, behind_switch, zero_of, initial_cell, set_cells, fresh, unset_scalar, unset_object, make_object, enter, leave, cells_set, fill, third_of, test_or_true, returned, word_or_zero, exec, exec_all, from_case, from_default, run_choices}
 use Rattle.c_tree.specs.SourceRun.{pass, result_of, nothing_named, call_function, call_within, main_of, outcome_of, source_run, static_object, first_world}
-use Rattle.c_tree.specs.TypedOfWords.{StartsWithWord, StartsWithWords, OptionalUsesWords, StatementUsesWords, StatementsUseWords, ChoicesUseWords, FunctionHasWords, HasWords}
+use Rattle.c_tree.specs.TypedOfWords.{StartsWithWord, StartsWithWords, OptionalUsesWords, StatementUsesWords, StatementsUseWords, ChoicesUseWords, FunctionHasWords, ProgramHasWords}
 use Rattle.source_laws.specs.Words.{CellHasBits, GivenHasBits, HaveBits, FlowHasBits, HoldsWords, IsOfWords}
 use Rattle.source_laws.proofs.Naming.{function_same}
 use Rattle.source_laws.proofs.Opening.{replicated}
@@ -205,7 +205,7 @@ module _ (calls : Calls) (keep : CallsKeep calls) (n : ℕ) where
       (nothing_named f) own.locals >>> λ e i. passes f.params args e.0 h >>> λ _ _. stmts f.body e.0 i own.body >>> λ flow j. leaves e.1 >>> λ _ _. gives
       (result_of flow) (result_bits flow j)
 
-module _ (p : ProgramTree) (has : HasWords p) (n : ℕ) where
+module _ (p : ProgramTree) (has : ProgramHasWords p) (n : ℕ) where
   pub calls_keep : (depth : ℕ) → CallsKeep (call_within p n depth)
   calls_keep zero = record { by = λ f vs h. too_manys }
   calls_keep (suc depth) = record { by = λ f vs h. functions (call_within p n depth) (calls_keep depth) n (slice_get p.functions f) vs (λ g at. element_of FunctionHasWords p.functions has.functions f g at) h }

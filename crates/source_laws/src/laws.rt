@@ -14,7 +14,7 @@ ghost use Rattle.c_tree.specs.TypedTree.{Expr, FunctionTree, Kind, ProgramTree, 
 ghost use Rattle.c_tree.specs.Uses.{called, statement_uses, uses};
 ghost use Rattle.c_tree.specs.WellFormed.{AreNew, IsAutomatic, IsThere, IsWellFormed, IsWellTyped, Names, Shape, opened};
 ghost use Rattle.c_tree.specs.WellFormedProgram.{IsProgram, kind_of_parameter, names_within, object_in, static_names};
-ghost use Rattle.c_tree.specs.TypedOfWords.{HasWords, StartsWithWords, StatementUsesWords, UsesWords};
+ghost use Rattle.c_tree.specs.TypedOfWords.{ProgramHasWords, StartsWithWords, StatementUsesWords, UsesWords};
 ghost use Rattle.source_laws.specs.Loops.{HasNoLoop, IsLoopless, IsWhole};
 ghost use Rattle.source_laws.specs.Sound.{AreNamesIn, IsKept, IsSound, whole_run};
 ghost use Rattle.source_laws.specs.Words.{FlowHasBits, GivenHasBits, HaveBits, HoldsWords, IsOfWords};
@@ -108,10 +108,10 @@ pub fn more_comes_from_loops()
 /// In the run of a program of words each word has 16 bits, in objects, values, the input that is left and the outputs, where the words of
 /// its input have.
 pub fn runs_keep_words()
-    ensures start { (p : ProgramTree) (input : Input) → HasWords p → IsInput input → HoldsWords (first_world p input) }
-    ensures expression { (p : ProgramTree) (n depth : ℕ) (env : Env) (e : Expr) (v : Option Value) (w later : World) → HasWords p
+    ensures start { (p : ProgramTree) (input : Input) → ProgramHasWords p → IsInput input → HoldsWords (first_world p input) }
+    ensures expression { (p : ProgramTree) (n depth : ℕ) (env : Env) (e : Expr) (v : Option Value) (w later : World) → ProgramHasWords p
         → UsesWords e → HoldsWords w → eval (call_within p n depth) env e w ≡ Gives v later → HoldsWords later × GivenHasBits v }
-    ensures statement { (p : ProgramTree) (n depth : ℕ) (env : Env) (s : Stmt) (flow : Flow) (w later : World) → HasWords p
+    ensures statement { (p : ProgramTree) (n depth : ℕ) (env : Env) (s : Stmt) (flow : Flow) (w later : World) → ProgramHasWords p
         → StartsWithWords env.function.locals → StatementUsesWords s → HoldsWords w
         → exec (call_within p n depth) n s env w ≡ Gives flow later → HoldsWords later × FlowHasBits flow }
     ensures block { (env inner : Env) (declared : List VarRef) (numbers : List ℕ) (w later : World)
@@ -120,5 +120,5 @@ pub fn runs_keep_words()
     ensures arguments { (env : Env) (parameters : List VarRef) (args : List Value) (w later : World) → HaveBits args → HoldsWords w
         → pass parameters args env w ≡ Gives tt later → HoldsWords later }
     // Whatever it comes to, its outputs are words, and so is what it returns.
-    ensures program { (p : ProgramTree) (input : Input) (n : ℕ) → HasWords p → IsInput input → IsOfWords (source_run p input n) }
+    ensures program { (p : ProgramTree) (input : Input) (n : ℕ) → ProgramHasWords p → IsInput input → IsOfWords (source_run p input n) }
 {}

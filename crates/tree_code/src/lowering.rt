@@ -6,7 +6,7 @@ ghost use Rattle.c_tree.specs.View.{object_of};
 ghost use Rattle.c_tree.specs.ProgramView.{program_of};
 ghost use Rattle.tree_code.specs.ProgramView.{tree_of};
 ghost use Rattle.tree_code.specs.Lowered.{HasFewScalars, lowered_function, lowered_program};
-ghost use Rattle.c_tree.specs.TypedOfWords.{StartsWithWords, FunctionHasWords, HasWords};
+ghost use Rattle.c_tree.specs.TypedOfWords.{StartsWithWords, FunctionHasWords, ProgramHasWords};
 ghost use Rattle.tree_code.specs.WordTree.{code};
 ghost use Rattle.tree_code.specs.WellFormedCode.{IsCode};
 ghost use Rattle.tree_code.specs.WordTemporaries.{word_statement_temporaries};
@@ -24,7 +24,7 @@ use word_base::{Items, NoMemory};
 /// The word tree of a program. It fails only where an allocation fails.
 pub fn lower(alloc: Global, program: &Program) -> Result<TreeProgram, NoMemory>
     ensures tree { IfOk result (λ t. tree_of t ≡ lowered_program (program_of program.now)) }
-    ensures words { IfOk result (λ _. HasWords (program_of program.now)) }
+    ensures words { IfOk result (λ _. ProgramHasWords (program_of program.now)) }
 {
     let functions = functions(alloc, program.functions.as_slice())?;
     let statics = copied_objects(alloc, program.statics.as_slice())?;

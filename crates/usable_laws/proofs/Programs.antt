@@ -7,7 +7,7 @@ use Rattle.c_tree.specs.WellFormedProgram.{IsProgram}
 use Rattle.c_tree.specs.declared.program.VarRef.{VarRef}
 use Rattle.c_tree.specs.declared.program.VarRef.TheVariants.{Scalar, Local, Static}
 use Rattle.tree_code.specs.Lowered.{lowered_function, lowered_program}
-use Rattle.c_tree.specs.TypedOfWords.{FunctionHasWords, HasWords}
+use Rattle.c_tree.specs.TypedOfWords.{FunctionHasWords, ProgramHasWords}
 use Rattle.tree_code.specs.WordTemporaries.{word_statement_temporaries}
 use Rattle.tree_code.specs.WordTree.{FunctionCode}
 use Rattle.acc_code.specs.AccTree.{ItemList, FunctionItems}
@@ -49,7 +49,7 @@ module _ (q : Places) (f : ℕ) (g : FunctionCode) (fits : IsFitStatement IsOfWo
   function_usable : Usable (selected_function g).body
   function_usable = either (is_main g.name) (closed_usable (body_items g) body_usable) body_usable
 
-module _ (p : ProgramTree) (is : IsProgram p) (words : HasWords p) where
+module _ (p : ProgramTree) (is : IsProgram p) (words : ProgramHasWords p) where
   from_slot : (f : ℕ) (slot : Option FunctionTree) (g : FunctionItems) → slice_get p.functions f ≡ slot → option_map selected_function (option_map lowered_function slot) ≡ Some g → Throughout IsUsableItem g.body
   from_slot f None g at e = absurd cc
   from_slot f (Some s) g at e =

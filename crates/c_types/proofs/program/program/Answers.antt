@@ -1,7 +1,7 @@
 use Rattle.std.proofs.Common.{map, ap, ◌∙◌}
 use Rattle.std.specs.Prelude.{All}
-use Rattle.c_tree.specs.Placed.{IsPlaced}
-use Rattle.c_tree.specs.TypedOfWords.{HasWords}
+use Rattle.c_tree.specs.Placed.{FunctionIsPlaced}
+use Rattle.c_tree.specs.TypedOfWords.{ProgramHasWords}
 use Rattle.c_tree.specs.View.{function_of, object_of}
 use Rattle.c_tree.specs.WellFormedProgram.{IsProgram}
 use Rattle.c_types.specs.View.{made_of}
@@ -15,6 +15,6 @@ invariant_of-result c =
     in let functions = ap (map function_of) c.new-2.ensures ∙ c.in_ok-functions.ensures
     in record {
       well_formed = ∣ of_parts IsProgram made objects functions c.requires.well_formed ∣₁;
-      placed = ∣ of_parts (λ p. All IsPlaced p.functions) made objects functions c.requires.placed ∣₁;
-      words = ∣ of_parts HasWords made objects functions c.requires.words ∣₁;
+      placed = ∣ of_parts (λ p. All FunctionIsPlaced p.functions) made objects functions c.requires.placed ∣₁;
+      words = ∣ of_parts ProgramHasWords made objects functions c.requires.words ∣₁;
     }

@@ -5,7 +5,7 @@ use Rattle.c_tree.specs.SourceRun.{source_run}
 use Rattle.c_tree.specs.TypedTree.{ProgramTree}
 use Rattle.c_tree.specs.WellFormedProgram.{IsProgram}
 use Rattle.tree_code.specs.Lowered.{lowered_program}
-use Rattle.c_tree.specs.TypedOfWords.{HasWords}
+use Rattle.c_tree.specs.TypedOfWords.{ProgramHasWords}
 use Rattle.acc_select.specs.IsSelected.{IsEmittable}
 use Rattle.acc_select.specs.Selected.{selected}
 use Rattle.mem_plan.specs.declared.data_plan.DataPlan.{DataPlan}
@@ -23,7 +23,7 @@ use Rattle.image_laws.proofs.laws.images_agree.Goals as goal
 pub returns : goal.returns
 returns c =
     let laws = c.translation_keeps_runs.ensures in
-    let emission : (t : ProgramTree) (plan : DataPlan) (arrangements : List (List (List ℕ))) (step : ℕ) → IsProgram t → HasWords t → AreArranged (lowered_program t).functions arrangements → IsPlan (lowered_program t) arrangements plan
+    let emission : (t : ProgramTree) (plan : DataPlan) (arrangements : List (List (List ℕ))) (step : ℕ) → IsProgram t → ProgramHasWords t → AreArranged (lowered_program t).functions arrangements → IsPlan (lowered_program t) arrangements plan
     → IsEmittable (lowered_program t) (selected (lowered_program t)) → step < 256 → IsEmission (emission_of t plan arrangements step) =
     λ t plan arrangements step is words arranged planned emittable low.
     record {
@@ -33,7 +33,7 @@ returns c =
       planned = planned;
       step = low;
     } in
-    let usable : (t : ProgramTree) (plan : DataPlan) (arrangements : List (List (List ℕ))) (step : ℕ) → IsProgram t → HasWords t → AreUsable (emission_of t plan arrangements step) =
+    let usable : (t : ProgramTree) (plan : DataPlan) (arrangements : List (List (List ℕ))) (step : ℕ) → IsProgram t → ProgramHasWords t → AreUsable (emission_of t plan arrangements step) =
     λ t plan arrangements step is words. record { by = λ k g there. c.selected_is_usable.ensures.usable t k g is words there } in
     record {
       agree = λ t plan arrangements step image is words arranged planned emittable low linked ranges small.

@@ -1,6 +1,6 @@
 use Rattle.std.proofs.Common.{rules, ◌≡◌, ◌∷◌, ◌++◌, [], length, ap, sym, subst, arith, length-append}
 use Rattle.std.proofs.lemmas.Result.{err_from_is_err_and}
-use Rattle.lay_cert.specs.FrameReading.{HasRead}
+use Rattle.lay_cert.specs.FrameReading.{HasReadFrames}
 use Rattle.lay_cert.proofs.Readers.{read_few}
 use Rattle.lay_cert.proofs.reading.read_frames.Goals as goal
 
@@ -12,7 +12,7 @@ returns-in_err-reader c =
 pub loop-frames-init : goal.loop-frames-init
 loop-frames-init c =
     let none : c.new-frames.result.items ≡ [] = c.new-frames.ensures.items in
-    subst (λ fs. HasRead c.args.bytes.now fs c.in_ok-reader.reader) (sym none) c.in_ok-reader.ensures
+    subst (λ fs. HasReadFrames c.args.bytes.now fs c.in_ok-reader.reader) (sym none) c.in_ok-reader.ensures
 
 pub returns-in_err-frame : goal.returns-in_err-frame
 returns-in_err-frame c =
@@ -30,7 +30,7 @@ pub loop-frames-preserved : goal.loop-frames-preserved
 loop-frames-preserved c =
     let read = rw c.in-Some.is at c.in_ok-frame.ensures.read c.args.bytes.now c.loop-frames.frames.items c.loop-frames.invariant in
     let pushed : c.push.new.self.items ≡ c.loop-frames.frames.items ++ c.in-Some.frame ∷ [] = search rules in
-    subst (λ fs. HasRead c.args.bytes.now fs c.next.new.self) (sym pushed) read
+    subst (λ fs. HasReadFrames c.args.bytes.now fs c.next.new.self) (sym pushed) read
 
 pub returns : goal.returns
 returns c = rw c.in_default.is at c.in_ok-frame.ensures.read c.args.bytes.now c.loop-frames.frames.items c.loop-frames.invariant

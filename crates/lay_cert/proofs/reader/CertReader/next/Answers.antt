@@ -1,8 +1,6 @@
 use Rattle.std.proofs.Common.{◌+◌, ◌∷◌, ◌++◌, [], refl, ap, subst, sym, arith}
 use Rattle.std.proofs.lemmas.Result.{err_from_is_err_and}
-use Rattle.lay_cert.specs.CertReading.{Inside, Between}
-use Rattle.lay_cert.specs.FrameReading.{Reading, HasRead}
-use Rattle.lay_cert.specs.LineReading.{Stands}
+use Rattle.lay_cert.specs.FrameReading.{Reading, HasReadFrames}
 use Rattle.lay_cert.proofs.Readers.{read_few, stands_at, one_read, some_read, last_whole}
 use Rattle.lay_cert.proofs.reader.CertReader.next.Goals as goal
 
@@ -24,7 +22,7 @@ returns-in_err-frame-clause-read c = λ bytes fs h.
     let p = err_from_is_err_and c.from_residual-in_err-frame.result c.from_residual-in_err-frame.ensures.1 in
     let start = stands_at bytes fs _ _ c.duplicate-lines.result c.self.view_is c.duplicate-lines.ensures h in
     let named = rw c.in-Some.is at c.in_ok-name.ensures.read bytes c.self.inside.steps fs start in
-    let inside = subst (HasRead bytes fs) (sym c.self.view_is) h in
+    let inside = subst (HasReadFrames bytes fs) (sym c.self.view_is) h in
     rw (p.1, p.2) (c.in_err-frame.ensures bytes fs inside.counted named)
 
 pub overflow_add-self : goal.overflow_add-self
@@ -44,7 +42,7 @@ pub returns-clause-read : goal.returns-clause-read
 returns-clause-read c = λ bytes fs h.
     let start = stands_at bytes fs _ _ c.duplicate-lines.result c.self.view_is c.duplicate-lines.ensures h in
     let named = rw c.in-Some.is at c.in_ok-name.ensures.read bytes c.self.inside.steps fs start in
-    let inside = subst (HasRead bytes fs) (sym c.self.view_is) h in
+    let inside = subst (HasReadFrames bytes fs) (sym c.self.view_is) h in
     let more = c.in_ok-frame.ensures bytes fs inside.counted named in
     one_read bytes fs c.in_ok-frame.frame _ c.read_frame.new.lines inside more
 
