@@ -3,11 +3,10 @@
 #
 #     bench/threads.sh [PROGRAM]
 #
-# Sources whose function accesses many scalars are built with a budget of 1,000,000 nodes, all of which their searches use. Told are the seconds on one
-# processor while nothing else is done, those on one while builds keep three others at work, and those on four; the middle one of eight tries each. Where
-# processors are threads that share a core, one alone is faster than any of four at work, so the second number is the one that a build on four is compared
-# with. Told besides is what four would take that nothing else uses, by the processor time of each thread: what the command does besides, and of each round
-# of four pieces the one that takes longest.
+# Sources whose function accesses many scalars are built with a budget of 1,000,000 nodes, all of which their searches use: on one processor and on four in
+# turn, twelve times each, since the speed of a machine that is shared with others changes from one moment to the next. Told are how many times as fast four
+# are, by all seconds together, by the middle pair, and of how many pairs it is three times; and besides what four would take that nothing else uses, by the
+# processor time of each thread: what the command does besides, and of each round of four pieces the one that takes longest.
 set -eu
 top=$(cd "$(dirname "${BASH_SOURCE[0]}")/.." && pwd)
 program=${1:-$top/c25cc}
@@ -53,39 +52,28 @@ gcc -O1 -shared -fPIC -o threads.so threads.c -ldl
 
 . "$top/bench/sources.sh"
 
-# seconds COMMAND..: how long that takes.
-seconds() {
+# on PROCESSORS: the seconds of a build on these.
+on() {
     local started
     started=$(date +%s%N)
-    "$@" > answer
+    taskset -c "$1" "$program" build a.c a.img -r "$registers" --budget 1000000 > answer
     echo "$started $(date +%s%N)" | awk '{ printf "%.3f\n", ($2 - $1) / 1000000000 }'
 }
 
-# The middle one of eight lines.
-middle() { sort -n | sed -n 4p; }
-
-# on PROCESSOR..: a build on these alone.
-on() { taskset -c "$1" "$program" build a.c a.img -r "$registers" --budget 1000000; }
-
-# Builds on three processors, again and again as long as there is a file `busy`, and meanwhile one on the other.
-beside_others() {
-    local processor
-    touch busy
-    for processor in 0 1 2 3; do
-        [ "$processor" = "$1" ] || while [ -e busy ]; do
-            taskset -c "$processor" "$program" build a.c "$processor.img" -r "$registers" --budget 1000000
-        done > "$processor.answer" &
+# Twelve pairs: one processor, each in its turn, and all four.
+pairs() {
+    local try
+    for try in 0 1 2 3 4 5 6 7 8 9 10 11; do
+        echo "$(on $((try % 4))) $(on 0-3)"
     done
-    sleep 0.1
-    seconds on "$1"
-    rm busy
-    wait
 }
 
-# Eight tries, on each processor twice.
-alone() { for processor in 0 1 2 3 0 1 2 3; do seconds on "$processor"; done | middle; }
-beside() { for processor in 0 1 2 3 0 1 2 3; do beside_others "$processor"; done | middle; }
-on_four() { for try in 1 2 3 4 5 6 7 8; do seconds on 0-3; done | middle; }
+# What is told of pairs, with the middle one of their quotients.
+told() {
+    awk '{ print $1 / $2, $1, $2 }' | sort -n | awk '
+        { one += $2; four += $3; at[NR] = $1; least += $1 >= 3 }
+        END { printf "%.3f s on one, %.3f s on four, %.2f times; the middle pair %.2f times, %d of %d at least 3", one / NR, four / NR, one / four, (at[6] + at[7]) / 2, least, NR }'
+}
 
 # times BUDGET: the processor time of each thread of a build, in the order in which they begin.
 times() { LD_PRELOAD=$room/threads.so "$program" build a.c a.img -r "$registers" --budget "$1" 2>&1 > answer | sort -n | awk '{ print $2 }'; }
@@ -93,18 +81,13 @@ times() { LD_PRELOAD=$room/threads.so "$program" build a.c a.img -r "$registers"
 for scalars in 16 24 32; do
     for registers in 2 3 4; do
         source_of "$scalars" 200 > a.c
-        alone=$(alone)
-        beside=$(beside)
-        four=$(on_four)
+        clock=$(pairs | told)
         besides=$(times 1 | head -n 1)
-        times 1000000 | awk -v besides="$besides" -v rounds=$((scalars / 4)) -v alone="$alone" -v beside="$beside" -v four="$four" -v what="$scalars scalars, $registers registers" '
+        times 1000000 | awk -v besides="$besides" -v rounds=$((scalars / 4)) -v clock="$clock" -v what="$scalars scalars, $registers registers" '
             { all += $1 }
             NR == 1 { own = ($1 - besides) / rounds; chain = besides }
             NR > 1 { longest = $1 > longest ? $1 : longest }
             NR > 1 && NR % 3 == 1 { chain += longest > own ? longest : own; longest = 0 }
-            END {
-                printf "%s: on one processor %s s, or %s s beside three at work; on four %s s, %.2f or %.2f times as fast; by processor time %.3f of %.3f s, %.1f times\n",
-                    what, alone, beside, four, alone / four, beside / four, chain, all, all / chain
-            }'
+            END { printf "%s: %s; by processor time %.3f of %.3f s, %.1f times\n", what, clock, chain, all, all / chain }'
     done
 done
