@@ -5,8 +5,9 @@
 #
 # Sources whose function accesses many scalars are built with a budget of 1,000,000 nodes, all of which their searches use: on one processor and on four in
 # turn, twelve times each, since the speed of a machine that is shared with others changes from one moment to the next. Told are how many times as fast four
-# are, by all seconds together, by the middle pair, and of how many pairs it is three times; and besides what four would take that nothing else uses, by the
-# processor time of each thread: what the command does besides, and of each round of four pieces the one that takes longest.
+# are, by all seconds together, by the middle pair, and of how many pairs it is three times. Where valgrind is installed, the instructions of each thread are
+# counted besides, which no other work on the machine changes: so many times fewer than on one processor are done one behind another on four, namely what
+# the command does besides, and of each round of four pieces the one that takes most.
 set -eu
 top=$(cd "$(dirname "${BASH_SOURCE[0]}")/.." && pwd)
 program=${1:-$top/c25cc}
@@ -14,41 +15,48 @@ room=$(mktemp -d)
 trap 'rm -rf "$room"' EXIT
 cd "$room"
 
-# A library that tells the processor time of each thread where that ends, in the order in which they begin. The first is the command's own.
+# A library that has the instructions of each thread told: of the one that begins the others where a round begins and where its own piece is done, and of
+# each other one where it ends. The first thread of all is the one that begins the others.
 cat > threads.c <<'END'
 #define _GNU_SOURCE
 #include <dlfcn.h>
 #include <pthread.h>
-#include <stdio.h>
 #include <stdlib.h>
-#include <time.h>
+#include <valgrind/callgrind.h>
 
-struct call { void *(*body)(void *); void *argument; int number; };
+struct call { void *(*body)(void *); void *argument; };
 
-static int begun;
+static int begun, own_piece_runs;
 
-static void *timed(void *given) {
+static void *counted(void *given) {
     struct call call = *(struct call *)given;
-    struct timespec took;
     void *result;
     free(given);
     result = call.body(call.argument);
-    clock_gettime(CLOCK_THREAD_CPUTIME_ID, &took);
-    fprintf(stderr, "%d %ld.%06ld\n", call.number, (long)took.tv_sec, took.tv_nsec / 1000);
+    CALLGRIND_DUMP_STATS;
     return result;
 }
 
 int pthread_create(pthread_t *thread, const pthread_attr_t *how, void *(*body)(void *), void *argument) {
     static int (*real)(pthread_t *, const pthread_attr_t *, void *(*)(void *), void *);
     struct call *call = malloc(sizeof *call);
+    int number = begun++;
     if (!real) real = (int (*)(pthread_t *, const pthread_attr_t *, void *(*)(void *), void *))dlsym(RTLD_NEXT, "pthread_create");
+    if (number % 3 == 1) { own_piece_runs = 1; CALLGRIND_DUMP_STATS; }
     call->body = body;
     call->argument = argument;
-    call->number = __sync_add_and_fetch(&begun, 1);
-    return real(thread, how, timed, call);
+    return real(thread, how, counted, call);
+}
+
+int pthread_join(pthread_t thread, void **result) {
+    static int (*real)(pthread_t, void **);
+    if (!real) real = (int (*)(pthread_t, void **))dlsym(RTLD_NEXT, "pthread_join");
+    if (own_piece_runs) { own_piece_runs = 0; CALLGRIND_DUMP_STATS; }
+    return real(thread, result);
 }
 END
-gcc -O1 -shared -fPIC -o threads.so threads.c -ldl
+counts=
+if command -v valgrind > none && gcc -O1 -shared -fPIC -o threads.so threads.c -ldl 2> none; then counts=yes; fi
 
 . "$top/bench/sources.sh"
 
@@ -75,19 +83,23 @@ told() {
         END { printf "%.3f s on one, %.3f s on four, %.2f times; the middle pair %.2f times, %d of %d at least 3", one / NR, four / NR, one / four, (at[6] + at[7]) / 2, least, NR }'
 }
 
-# times BUDGET: the processor time of each thread of a build, in the order in which they begin.
-times() { LD_PRELOAD=$room/threads.so "$program" build a.c a.img -r "$registers" --budget "$1" 2>&1 > answer | sort -n | awk '{ print $2 }'; }
+# instructions: how many times fewer instructions are done one behind another on four processors, by what each thread tells as it goes.
+instructions() {
+    rm -f told.*
+    LD_PRELOAD=$room/threads.so valgrind --tool=callgrind --separate-threads=yes --callgrind-out-file=told "$program" build a.c a.img -r "$registers" --budget 1000000 > answer 2>&1
+    grep '^totals' told.*-* | sed 's/^told\.\([0-9]*\)-\([0-9]*\):totals: /\1 \2 /' | sort -n | awk '
+        { all += $3 }
+        $2 == "02" { own++ }
+        $2 == "02" && own % 2 == 1 { chain += longest + $3; longest = 0 }
+        $2 != "02" || own % 2 == 0 { longest = $3 > longest ? $3 : longest }
+        END { chain += longest; printf "; %.0f million instructions, %.2f times fewer one behind another", all / 1000000, all / chain }'
+}
 
 for scalars in 16 24 32; do
     for registers in 2 3 4; do
         source_of "$scalars" 200 > a.c
-        clock=$(pairs | told)
-        besides=$(times 1 | head -n 1)
-        times 1000000 | awk -v besides="$besides" -v rounds=$((scalars / 4)) -v clock="$clock" -v what="$scalars scalars, $registers registers" '
-            { all += $1 }
-            NR == 1 { own = ($1 - besides) / rounds; chain = besides }
-            NR > 1 { longest = $1 > longest ? $1 : longest }
-            NR > 1 && NR % 3 == 1 { chain += longest > own ? longest : own; longest = 0 }
-            END { printf "%s: %s; by processor time %.3f of %.3f s, %.1f times\n", what, clock, chain, all, all / chain }'
+        printf '%s scalars, %s registers: %s' "$scalars" "$registers" "$(pairs | told)"
+        [ -z "$counts" ] || instructions
+        echo
     done
 done

@@ -15,21 +15,20 @@ use std::alloc::Global;
 use std::thread::{Threads, join};
 use word_base::{Gate, NoMemory};
 
-/// With so few scalars all pieces of a round end sooner than a thread begins.
-const FEW_SCALARS: u8 = 6;
-
-/// Pieces of a round, from the first up to before the end, each with the same number of marks that it may write.
+/// Pieces of a round, from the first up to before the end, each with the same number of marks that it may write, and how many of them may run at once.
 #[derive(Clone, Copy)]
 pub(crate) struct Pieces {
     pub(crate) quota: u32,
     pub(crate) first: u8,
     pub(crate) end: u8,
+    pub(crate) threads: u8,
 }
 
-/// The ends of the pieces of a round, each with the same best arrangement at first. Of pieces that are long each has a thread of its own, but for the
-/// last, which this thread runs; of others the first has. This thread begins them all, one behind another: threads that two threads begin at once may be
-/// put on one processor, and wait there for one another while another processor has nothing to do.
-pub(crate) fn run_round<R: Threads + Sync, G: Gate + Sync>(
+/// The ends of the pieces, each with the same best arrangement at first. The first piece is one half of a join, and those behind it are the other one. The
+/// second half runs in this thread, so that one thread begins all others, one behind another: threads that two threads begin at once may be put on one
+/// processor, and wait there for one another while another processor has nothing to do.
+#[cycle(pieces)]
+pub(crate) fn run_pieces<R: Threads + Sync, G: Gate + Sync>(
     rt: &R,
     alloc: Global,
     gate: &G,
@@ -44,97 +43,7 @@ pub(crate) fn run_round<R: Threads + Sync, G: Gate + Sync>(
     requires best { IsBest seq.now best.now }
     ensures { IfOk result (λ ends. Ran root.now.position.registers seq.now pieces.quota best.now.arrangement pieces.first (pieces.end - pieces.first) ends.items) }
 {
-    if pieces.end - pieces.first <= 2 || seq.scalars() <= FEW_SCALARS {
-        return run_halves(rt, alloc, gate, seq, root, pieces, best);
-    }
-    let second = pieces.first + 1;
-    let lower = Pieces {
-        end: second,
-        ..pieces
-    };
-    let upper = Pieces {
-        first: second,
-        ..pieces
-    };
-    let (first, others) = join(
-        rt,
-        move || -> Result<Vec<PieceEnd>, NoMemory>
-            requires { IsRoot seq.now root.now × (lower.first ≤ lower.end) × (lower.end ≤ seq.now.scalars) × IsBest seq.now best.now }
-            ensures { IfOk result (λ ends. Ran root.entry.now.position.registers seq.entry.now lower.quota best.entry.now.arrangement lower.first (lower.end - lower.first) ends.items) }
-        { run_in_turn(alloc, gate, seq, root, lower, best) },
-        move || -> Result<Vec<PieceEnd>, NoMemory>
-            requires { IsSync R.row × IsSync G.row × IsRoot seq.now root.now × (upper.first ≤ upper.end) × (upper.end ≤ seq.now.scalars) × IsBest seq.now best.now }
-            ensures { IfOk result (λ ends. Ran root.entry.now.position.registers seq.entry.now upper.quota best.entry.now.arrangement upper.first (upper.end - upper.first) ends.items) }
-        { run_others(rt, alloc, gate, seq, root, upper, best) },
-    );
-    let mut ends = first?;
-    let mut more = others?;
-    ends.append(&mut more)?;
-    Ok(ends)
-}
-
-// The pieces of a round behind its first.
-fn run_others<R: Threads + Sync, G: Gate + Sync>(
-    rt: &R,
-    alloc: Global,
-    gate: &G,
-    seq: &Sequence,
-    root: &Root,
-    pieces: Pieces,
-    best: &Best,
-) -> Result<Vec<PieceEnd>, NoMemory>
-    requires root { IsRoot seq.now root.now }
-    requires order { pieces.first ≤ pieces.end }
-    requires end { pieces.end ≤ seq.now.scalars }
-    requires best { IsBest seq.now best.now }
-    ensures { IfOk result (λ ends. Ran root.now.position.registers seq.now pieces.quota best.now.arrangement pieces.first (pieces.end - pieces.first) ends.items) }
-{
-    if pieces.end - pieces.first <= 2 {
-        return run_halves(rt, alloc, gate, seq, root, pieces, best);
-    }
-    let third = pieces.first + 1;
-    let lower = Pieces {
-        end: third,
-        ..pieces
-    };
-    let upper = Pieces {
-        first: third,
-        ..pieces
-    };
-    let (second, others) = join(
-        rt,
-        move || -> Result<Vec<PieceEnd>, NoMemory>
-            requires { IsRoot seq.now root.now × (lower.first ≤ lower.end) × (lower.end ≤ seq.now.scalars) × IsBest seq.now best.now }
-            ensures { IfOk result (λ ends. Ran root.entry.now.position.registers seq.entry.now lower.quota best.entry.now.arrangement lower.first (lower.end - lower.first) ends.items) }
-        { run_in_turn(alloc, gate, seq, root, lower, best) },
-        move || -> Result<Vec<PieceEnd>, NoMemory>
-            requires { IsSync R.row × IsSync G.row × IsRoot seq.now root.now × (upper.first ≤ upper.end) × (upper.end ≤ seq.now.scalars) × IsBest seq.now best.now }
-            ensures { IfOk result (λ ends. Ran root.entry.now.position.registers seq.entry.now upper.quota best.entry.now.arrangement upper.first (upper.end - upper.first) ends.items) }
-        { run_halves(rt, alloc, gate, seq, root, upper, best) },
-    );
-    let mut ends = second?;
-    let mut more = others?;
-    ends.append(&mut more)?;
-    Ok(ends)
-}
-
-// The first piece is one half of a join, and those behind it are the other one. A piece alone needs no join.
-fn run_halves<R: Threads + Sync, G: Gate + Sync>(
-    rt: &R,
-    alloc: Global,
-    gate: &G,
-    seq: &Sequence,
-    root: &Root,
-    pieces: Pieces,
-    best: &Best,
-) -> Result<Vec<PieceEnd>, NoMemory>
-    requires root { IsRoot seq.now root.now }
-    requires order { pieces.first ≤ pieces.end }
-    requires end { pieces.end ≤ seq.now.scalars }
-    requires best { IsBest seq.now best.now }
-    ensures { IfOk result (λ ends. Ran root.now.position.registers seq.now pieces.quota best.now.arrangement pieces.first (pieces.end - pieces.first) ends.items) }
-{
-    if pieces.end - pieces.first < 2 {
+    if pieces.threads < 2 || pieces.end - pieces.first < 2 {
         return run_in_turn(alloc, gate, seq, root, pieces, best);
     }
     let second = pieces.first + 1;
@@ -144,6 +53,7 @@ fn run_halves<R: Threads + Sync, G: Gate + Sync>(
     };
     let upper = Pieces {
         first: second,
+        threads: pieces.threads - 1,
         ..pieces
     };
     let (first, others) = join(
@@ -153,9 +63,9 @@ fn run_halves<R: Threads + Sync, G: Gate + Sync>(
             ensures { IfOk result (λ ends. Ran root.entry.now.position.registers seq.entry.now lower.quota best.entry.now.arrangement lower.first (lower.end - lower.first) ends.items) }
         { run_in_turn(alloc, gate, seq, root, lower, best) },
         move || -> Result<Vec<PieceEnd>, NoMemory>
-            requires { IsRoot seq.now root.now × (upper.first ≤ upper.end) × (upper.end ≤ seq.now.scalars) × IsBest seq.now best.now }
+            requires { IsSync R.row × IsSync G.row × IsRoot seq.now root.now × (upper.first ≤ upper.end) × (upper.end ≤ seq.now.scalars) × IsBest seq.now best.now }
             ensures { IfOk result (λ ends. Ran root.entry.now.position.registers seq.entry.now upper.quota best.entry.now.arrangement upper.first (upper.end - upper.first) ends.items) }
-        { run_in_turn(alloc, gate, seq, root, upper, best) },
+        { run_pieces(rt, alloc, gate, seq, root, upper, best) },
     );
     let mut ends = first?;
     let mut more = others?;

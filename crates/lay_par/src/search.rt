@@ -4,13 +4,16 @@ ghost use Rattle.lay_tree.specs.Search as tree;
 ghost use Rattle.lay_search.specs.Rounds.{IsBest};
 
 use crate::job::Job;
-use crate::pieces::{Pieces, run_round};
+use crate::pieces::{Pieces, run_pieces};
 use lay_model::Sequence;
 use lay_search::{Best, Opening, Root, close_search, open_search, round_end};
 use lay_tree::Answer;
 use std::alloc::Global;
 use std::thread::Threads;
 use word_base::{Gate, NoMemory};
+
+/// With so few scalars the pieces of a round end sooner than a thread for each of them begins.
+const FEW_SCALARS: u8 = 6;
 
 /// What each job's search answers, in the order of the jobs. The pieces of a round run in threads of their own where those can be made,
 /// and the gate sees each piece begin and end. The answers, logs included, are those of `search`, whatever the threads do.
@@ -94,6 +97,7 @@ fn search_pieces<R: Threads + Sync, G: Gate + Sync>(
 {
     let root = Root::new(alloc, seq, registers)?;
     let pieces = seq.scalars();
+    let threads = if pieces <= FEW_SCALARS { 2 } else { 4 };
     let mut best = start;
     let mut ends = Vec::new(alloc);
     for turn in 0..pieces.div_ceil(4) {
@@ -102,8 +106,9 @@ fn search_pieces<R: Threads + Sync, G: Gate + Sync>(
             quota,
             first,
             end: round_end(first, pieces),
+            threads,
         };
-        let mut more = run_round(rt, alloc, gate, seq, &root, round, &best)?;
+        let mut more = run_pieces(rt, alloc, gate, seq, &root, round, &best)?;
         best.take(alloc, &more)?;
         ends.append(&mut more)?;
     }

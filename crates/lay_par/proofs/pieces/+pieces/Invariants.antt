@@ -1,0 +1,9 @@
+-- Each join has one thread fewer left.
+use Rattle.std.proofs.Common.{◌+◌, ◌*◌}
+use Rattle.lay_par.proofs.pieces.+pieces.Given as goal
+
+abbrev pub decreases-run_pieces : goal.decreases-run_pieces
+decreases-run_pieces g l = 2 * l.pieces.threads
+
+abbrev pub decreases-join+arg3 : goal.decreases-join+arg3
+decreases-join+arg3 g l = 2 * l.upper.threads + 1
