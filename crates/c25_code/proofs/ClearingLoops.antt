@@ -23,8 +23,6 @@ use Rattle.c25_code.specs.CodeRuns.{CodeRuns}
 use Rattle.c25_code.specs.Items.{no_change, plain_items}
 use Rattle.c25_code.specs.ItemRuns.{ItemsRun}
 use Rattle.c25_code.specs.ClearingLoops.{zeroed, behind_clearing, turn_at_one, turn_at_any, loop_items, clears_at_one, clears_at_any}
-use Rattle.c25_code.specs.Links.{OwnMarks}
-use Rattle.c25_code.proofs.Links.{own_plain, own-append}
 use Rattle.c25_code.proofs.Writes.{write_same, write_other, write_twice, write_back}
 use Rattle.c25_code.proofs.CodeRuns.{runs_on, runs_lead}
 use Rattle.c25_code.proofs.Items.{items_size-append, plain_items-size, items_front, items_back, code_of_items, jump_taken, jump_passed}
@@ -172,12 +170,3 @@ clears_at_one-runs mark n w count some arp low high = loop_runs turn_at_one Bnz 
 
 pub clears_at_any-runs : (mark n : ℕ) (w : Work) → w.acc ≡ n → 1 ≤ n → 0x300 ≤ w.ar 1 → w.ar 1 + n ≤ 65536 → ItemsRun (clears_at_any mark) (4 * n) w (behind_clearing n w) []
 clears_at_any-runs mark n w count some low high = loop_runs turn_at_any Bgz (λ w. Unit {0}) turns_at_any mark n w count some tt low high
-
--- its mark is its own
-pub loop_owns : (turn : List Instr) (op : JumpOp) (mark : ℕ) → OwnMarks mark (suc mark) (loop_items turn op mark)
-loop_owns turn op mark =
-    let rest = own-append (suc mark) (suc mark) (suc mark) (suc mark) (plain_items turn) (Jump op mark no_change ∷ []) (omega arith) (omega arith) (omega arith) (omega arith) (own_plain (suc mark) (suc mark) turn) (record { apart = tt; between = λ m h. absurd h }) in
-    record {
-      apart = (λ h. let b = rest.between mark h in absurd (omega (arith, b.0, b.1)), rest.apart);
-      between = λ m h. ⊎_elim (λ e. let same : mark ≡ m = e in (omega arith, omega arith)) (λ later. let b = rest.between m later in absurd (omega (arith, b.0, b.1))) h;
-    }

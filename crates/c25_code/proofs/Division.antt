@@ -1,7 +1,7 @@
 -- Sixteen steps of a division: RPTK 15 and SUBC give the quotient and the remainder.
-use Rattle.std.proofs.Common.{◌≡◌, ◌≢◌, ℕ, zero, suc, false, cond, ◌+◌, ◌-◌, ◌*◌, ◌/◌, ◌%◌, ◌^◌, ◌<◌, ◌≤◌, [], ◌∷◌, refl, sym, ap, ◌∙◌, subst, arith, leb-true, leb-false, ⊎_elim}
-use Rattle.std.specs.Prelude.{nat_le, ◌==◌}
-use Rattle.std.proofs.lemmas.Bool.{cond_both, ne_eqb, cases_lt}
+use Rattle.std.proofs.Common.{◌≡◌, ℕ, zero, suc, false, cond, ◌+◌, ◌-◌, ◌*◌, ◌/◌, ◌%◌, ◌^◌, ◌<◌, ◌≤◌, [], ◌∷◌, refl, sym, ap, ◌∙◌, subst, arith, leb-true, leb-false, ⊎_elim}
+use Rattle.std.specs.Prelude.{nat_le}
+use Rattle.std.proofs.lemmas.Bool.{cond_both, cases_lt}
 use Rattle.std.proofs.Math.Nat.{mod-eq-sub-div-mul, mul_assoc, pow-suc}
 use Rattle.std.proofs.lemmas.Nat.{div-mul-add, mul-le}
 use Rattle.c25_isa.specs.declared.operand.Operand.TheVariants.{Direct}
@@ -12,9 +12,6 @@ use Rattle.c25_isa.specs.CodeAt.{CodeAt}
 use Rattle.c25_isa.specs.Leads.{Leads}
 use Rattle.c25_code.specs.Work.{Work, calm}
 use Rattle.c25_code.specs.Straight.{behind_repeats, RepeatsReady}
-use Rattle.word_base.specs.Words.{Good, Bad}
-use Rattle.word_base.specs.declared.outcome.UndefinedKind.TheVariants.{DivideByZero}
-use Rattle.c25_code.specs.Routines.{division_code, DividesWord}
 use Rattle.c25_code.proofs.Repeats.{repeat_leads, may_repeat}
 
 -- behind some steps, where p is the power of two of their count: ACC is q + p s, where q is the quotient so far, and s has the remainder so far and
@@ -161,16 +158,3 @@ division_leads program pc offset w at ram positive lt fits behind = by 15 refl
           q.0,
           q.1,
         )
-
--- the same in C's terms
-pub divides_word : (offset : ℕ) → DividesWord (division_code offset) offset
-divides_word offset = record {
-  by = λ program pc w divisor at ram is positive lt fits behind.
-      let there = division_leads program pc offset w at ram (subst (λ m. 1 ≤ m) (sym is) positive) (subst (λ m. m < 32768) (sym is) lt) fits behind in
-      let not_zero : (divisor == 0) ≡ false = let ne : divisor ≢ 0 = omega arith in ne_eqb divisor 0 ne in (
-        there.0,
-        there.1,
-        ap (λ b. cond b (Bad DivideByZero) (Good (w.acc / divisor))) not_zero ∙ ap Good (ap (λ m. w.acc / m) (sym is) ∙ sym there.2),
-        ap (λ b. cond b (Bad DivideByZero) (Good (w.acc % divisor))) not_zero ∙ ap Good (ap (λ m. w.acc % m) (sym is) ∙ sym there.3),
-      );
-}

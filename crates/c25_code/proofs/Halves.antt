@@ -11,8 +11,3 @@ low_half true c lt =
     (λ small. ap (λ t. wrap16 (wrap32 (cond t c (c + 4294901760) * 2 ^ 0))) (lt-ltb c 32768 small) ∙ (omega arith))
     (λ large. ap (λ t. wrap16 (wrap32 (cond t c (c + 4294901760) * 2 ^ 0))) (le-ltb c 32768 large) ∙ (omega arith))
     (cases_lt c 32768)
-
--- the same, behind a store
-pub low_half_stored : (b : Bool) (c : ℕ) → c < 65536 → wrap16 (wrap32 (extended b c * 2 ^ 0) * 2 ^ 0) ≡ c
-low_half_stored b c lt =
-    ap wrap16 (let e : wrap32 (extended b c * 2 ^ 0) * 2 ^ 0 ≡ wrap32 (extended b c * 2 ^ 0) = omega arith in e) ∙ low_half b c lt

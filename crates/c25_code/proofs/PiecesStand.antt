@@ -1,12 +1,8 @@
 -- Pieces that stand one behind another stand each at its address.
-use Rattle.std.proofs.Common.{◌≡◌, ℕ, zero, suc, ◌+◌, ◌<◌, ◌≤◌, Bool, true, false, List, [], ◌∷◌, ◌++◌, length, Option, Some, refl, ap, ◌∙◌, subst, cond, arith}
+use Rattle.std.proofs.Common.{◌≡◌, ℕ, ◌+◌, ◌<◌, ◌≤◌, Bool, true, false, List, [], ◌∷◌, length, Some, refl, ap, ◌∙◌, subst, cond, arith}
 use Rattle.std.specs.Str.{bytes_eq}
 use Rattle.std.specs.List.{AllByRecursion}
-use Rattle.std.specs.Prelude.{Decides}
-use Rattle.std.proofs.lemmas.Slice.Eq.{bytes_eq-Decides}
 use Rattle.c25_isa.specs.declared.instruction.Instr.{Instr}
-use Rattle.c25_isa.specs.declared.instruction.Instr.TheVariants.{Idle}
-use Rattle.c25_isa.specs.declared.piece.PieceItem.TheVariants.{Do, CallTo}
 use Rattle.c25_isa.specs.State.{Memory, Start, BeginsWith}
 use Rattle.c25_isa.specs.Table.{code_words}
 use Rattle.c25_isa.specs.Image.{Contents}
@@ -16,13 +12,9 @@ use Rattle.c25_isa.specs.CodeAt.{CodeAt}
 use Rattle.c25_isa.specs.Pieces.{Piece, items_size, mark_address, items_code, ItemsAt, piece_address, pieces_code, Linked, PiecesFit}
 use Rattle.c25_isa.proofs.PieceLemmas.{wraps_low, pieces_fit}
 use Rattle.c25_code.specs.Straight.{code_size}
-use Rattle.c25_code.specs.Items.{no_change, plain_items}
-use Rattle.c25_code.specs.Structured.{Structured, Emission, function_items}
-use Rattle.c25_code.specs.Programs.{startup_items}
-use Rattle.c25_code.specs.Arrivals.{FunctionsStand}
-use Rattle.c25_code.specs.Links.{MarksDiffer, MarksAtWords, StepsOwnMarks, numbered_functions, body_of, first_piece, address_of, marks_of, pieces_size, MarksAreFit, PieceIsFit, AllStand, HoldsFunctions}
+use Rattle.c25_code.specs.Links.{first_piece, address_of, marks_of, pieces_size, PieceIsFit, AllStand}
 use Rattle.c25_code.proofs.Pieces.{code_front, code_back, code_size-append, code_words-size}
-use Rattle.c25_code.proofs.Links.{items_stand, items_code-size, function_marks}
+use Rattle.c25_code.proofs.Links.{items_stand, items_code-size}
 
 -- these items stand at an address, with these marks
 record Stands (program : Memory) (names : List ℕ → ℕ) (marks : ℕ → ℕ) (address : ℕ) (p : Piece) : Type 0 where
@@ -73,55 +65,3 @@ image_stands b all image linked begins ranges fit small =
     let code : List Instr = pieces_code (address_of all) 0 all in
     let size_is : length (code_words code) ≡ pieces_size all = code_words-size code ∙ pieces_code-size (address_of all) all 0 in
     all_stand b.program all fit small (code_at_reset b code instrs (subst (λ words. BeginsWith words b) linked.words begins) (omega (arith, size_is)))
-
--- so functions among them stand
-pub functions_stand : (S T : Type 0) (e : Emission S T) (program : Memory) (all : List Piece) (bodies : ℕ → Option (Structured S T)) → AllStand program all → HoldsFunctions e bodies all → FunctionsStand S T e program (address_of all) bodies (λ name. marks_of 0 all (e.name name))
-functions_stand S T e program all bodies stand holds name body is =
-    let there = holds name body is in
-    let at = stand (e.name name) there.0 there.1 in (
-      subst (ItemsAt program (marks_of 0 all (e.name name)) (address_of all) (address_of all (e.name name))) there.2 at.0,
-      subst (λ items. address_of all (e.name name) + items_size items ≤ 65536) there.2 at.1,
-    )
-
--- a startup's marks are fit
-pub startup_fit : (init : List Instr) (main : List ℕ) → MarksAreFit (startup_items (plain_items init) main)
-startup_fit init main = (
-  differ init,
-  words init,
-  omega arith,
-)
-  where
-    differ : (code : List Instr) → MarksDiffer (plain_items code ++ CallTo main no_change ∷ Do Idle ∷ [])
-    differ [] = tt
-    differ (i ∷ is) = differ is
-
-    words : (code : List Instr) → MarksAtWords (plain_items code ++ CallTo main no_change ∷ Do Idle ∷ [])
-    words [] = tt
-    words (i ∷ is) = words is
-
--- functions by their numbers: their marks are fit, and the first of a function's name is that function
-pub numbered_fit : (S T : Type 0) (e : Emission S T) → StepsOwnMarks e → (bodies : List (Structured S T)) (from : ℕ) → AllByRecursion PieceIsFit (numbered_functions e from bodies)
-numbered_fit S T e owns [] from = tt
-numbered_fit S T e owns (b ∷ bodies) from = (function_marks S T e owns from b, numbered_fit S T e owns bodies (suc from))
-
-refused : (b : Bool) (x y : List ℕ) → Decides b (x ≡ y) → (x ≡ y → ⊥) → b ≡ false
-refused true x y d differs = absurd (differs (d.0 refl))
-refused false x y d differs = refl
-
-pub numbered_held : (S T : Type 0) (e : Emission S T) → ((f g : ℕ) → e.name f ≡ e.name g → f ≡ g) → (bodies : List (Structured S T)) (from k name : ℕ) (body : Structured S T) → name ≡ from + k → body_of bodies k ≡ Some body → (p : Piece) × (first_piece (numbered_functions e from bodies) (e.name name) ≡ Some p) × (p.items ≡ function_items e name body)
-numbered_held S T e apart [] from k name body is f = absurd cc
-numbered_held S T e apart (b ∷ bodies) from zero name body is f =
-    let here : from ≡ name = omega arith in
-    let same : b ≡ body = cc in
-    let p : Piece = record { name = e.name from; listed = true; items = function_items e from b } in (
-      p,
-      ap (λ x. cond x (Some p) (first_piece (numbered_functions e (suc from) bodies) (e.name name))) ((bytes_eq-Decides (e.name from) (e.name name)).1 (ap e.name here)),
-      ap (λ n. function_items e n b) here ∙ ap (function_items e name) same,
-    )
-numbered_held S T e apart (b ∷ bodies) from (suc k) name body is f =
-    let other : e.name from ≡ e.name name → ⊥ = λ same. let same' : from ≡ name = apart from name same in absurd (omega arith) in
-    let more = numbered_held S T e apart bodies (suc from) k name body (omega arith) f in (
-      more.0,
-      ap (λ x. cond x (Some (record { name = e.name from; listed = true; items = function_items e from b })) (first_piece (numbered_functions e (suc from) bodies) (e.name name))) (refused _ _ _ (bytes_eq-Decides (e.name from) (e.name name)) other) ∙ more.1,
-      more.2,
-    )

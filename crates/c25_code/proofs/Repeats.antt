@@ -16,7 +16,6 @@ use Rattle.c25_isa.specs.Leads.{Leads}
 use Rattle.c25_isa.proofs.Leads.{leads_on, ran_leads, runs, onward_pc}
 use Rattle.c25_code.specs.Work.{Work, calm}
 use Rattle.c25_code.specs.Straight.{InRam, behind_instr, operand_word, InstrReady, behind_repeats, RepeatsReady}
-use Rattle.c25_code.specs.Repeats.{RepeatLeads}
 use Rattle.c25_code.proofs.Rows.{both_below}
 
 -- the word at PC still runs so often
@@ -143,6 +142,3 @@ repeat_leads program pc n i w at may ready behind =
     subst (λ m. Leads m (calm program pc w) (calm program (pc + 2) (behind_repeats (suc n) i w)) []) e (
     subst (λ a. Leads (1 + (n + 1)) (calm program pc w) (calm program a (behind_repeats (suc n) i w)) []) f (
     leads_on 1 (n + 1) _ _ _ _ _ first rest))
-
-pub each_repeat_leads : RepeatLeads
-each_repeat_leads program pc n i w at may ready behind = repeat_leads program pc n i w at (may_repeat i may) ready behind

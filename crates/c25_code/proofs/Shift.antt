@@ -1,28 +1,17 @@
 -- The routine that shifts a signed word to the right does so.
-use Rattle.std.proofs.Common.{◌≡◌, ℕ, ◌+◌, ◌-◌, ◌*◌, ◌/◌, ◌%◌, ◌^◌, ◌<◌, ◌≤◌, true, List, [], ◌∷◌, refl, sym, ap, ◌∙◌, cond, arith, ⊎_elim}
+use Rattle.std.proofs.Common.{◌≡◌, ℕ, ◌+◌, ◌-◌, ◌*◌, ◌/◌, ◌%◌, ◌^◌, ◌<◌, ◌≤◌, true, [], sym, ap, ◌∙◌, cond, arith, ⊎_elim}
 use Rattle.std.specs.Prelude.{nat_lt}
 use Rattle.std.proofs.lemmas.Bool.{lt-ltb, le-ltb, cases_lt}
 use Rattle.std.proofs.Math.Nat.{div-le_self}
 use Rattle.word_base.specs.Words.{Good, Bad, int_shift_right}
 use Rattle.word_base.specs.declared.outcome.UndefinedKind.TheVariants.{ShiftCount}
-use Rattle.c25_isa.specs.State.{Memory}
-use Rattle.c25_isa.specs.CodeAt.{CodeAt}
-use Rattle.c25_isa.specs.Leads.{Leads}
-use Rattle.c25_isa.proofs.CodeAt.{stands_below}
-use Rattle.c25_isa.proofs.Leads.{leads_on}
 use Rattle.c25_code.proofs.Ranges.{cond_lt}
-use Rattle.c25_code.proofs.Straight.{code_leads}
-use Rattle.c25_code.proofs.Pieces.{code_front, code_back}
-use Rattle.c25_code.proofs.Jumps.{return_leads}
-use Rattle.c25_code.proofs.Writes.{write_other}
-use Rattle.c25_isa.specs.declared.instruction.Instr.TheVariants.{Sub, Lt, Lact, Sacl, Ldpk, Lack, Ssxm, Ret}
-use Rattle.c25_isa.specs.declared.operand.Operand.TheVariants.{Direct}
 use Rattle.c25_isa.specs.Step.{wrap16, wrap32, extended, minus}
 use Rattle.c25_isa.proofs.Cases.{at_below}
 use Rattle.c25_code.proofs.Halves.{low_half}
-use Rattle.c25_code.specs.Work.{Work, calm}
-use Rattle.c25_code.specs.Straight.{behind_code, CodeReady, NonEmpty, first_of, rest_of}
-use Rattle.c25_code.specs.Routines.{shift_body, shift_routine, signed_shift, ShiftKeeps}
+use Rattle.c25_code.specs.Work.{Work}
+use Rattle.c25_code.specs.Straight.{behind_code, CodeReady, rest_of}
+use Rattle.c25_code.specs.Routines.{shift_body, signed_shift}
 
 -- the count's distance from 15
 distance : (count : ℕ) → count < 16 → wrap16 (minus 15 (wrap32 (extended true count * 2 ^ 0)) * 2 ^ 0) % 16 ≡ 15 - count
@@ -107,34 +96,6 @@ shift_is w v c =
 
 abbrev pub behind_shift : Work → Work
 behind_shift w = record (behind_code shift_body w) { stack = rest_of w.stack }
-
--- the count's distance in ACC, and the word moved up by it
-abbrev measured : Work → Work
-measured w = behind_code (Ldpk 6 ∷ Ssxm ∷ Lack 15 ∷ Sub 0 (Direct 1) ∷ []) w
-
-abbrev moved : Work → Work
-moved w = behind_code (Sacl 0 (Direct 2) ∷ Lt (Direct 2) ∷ Lact (Direct 0) ∷ []) (measured w)
-
--- what it leaves as it was, whatever the hardware stack
-pub shift_keeps : (w : Work) (stack : List ℕ) → ShiftKeeps w (behind_shift (record w { stack = stack }))
-shift_keeps w stack =
-    let v : Work = record w { stack = stack } in
-    record {
-      p = refl;
-      ar = refl;
-      arp = refl;
-      dp = refl;
-      sxm = refl;
-      ram = λ a other. write_other (moved v).ram 0x302 (wrap32 ((moved v).acc * 2 ^ 1) / 65536) a other ∙ write_other w.ram 0x302 (wrap16 ((measured v).acc * 2 ^ 0)) a other;
-      input = refl;
-    }
-
--- from its first word back to the caller, in ten steps
-pub shift_leads : (program : Memory) (pc : ℕ) (w : Work) → CodeAt program pc shift_routine → NonEmpty w.stack → Leads 10 (calm program pc w) (calm program (first_of w.stack) (behind_shift w)) []
-shift_leads program pc w at has =
-    let back = code_back program shift_body (Ret ∷ []) pc at in
-    let body = code_leads program shift_body pc w (code_front program shift_body (Ret ∷ []) pc at) (shift_ready w) (stands_below program _ Ret back.0) in
-    leads_on 9 1 _ _ _ _ _ body (return_leads program (pc + 9) (behind_code shift_body w) back.0 has)
 
 -- it gives what C's shift of a signed word gives
 pub shift_means : (w : Work) → w.ram 0x300 < 65536 → w.ram 0x301 < 16 → int_shift_right (w.ram 0x300) (w.ram 0x301) ≡ Good (wrap16 (behind_shift w).acc)

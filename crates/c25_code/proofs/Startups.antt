@@ -14,7 +14,7 @@ use Rattle.c25_code.specs.Work.{Work, work_of}
 use Rattle.c25_code.specs.Items.{no_change}
 use Rattle.c25_code.specs.ItemRuns.{ItemsRun}
 use Rattle.c25_code.specs.Links.{MarksDiffer, MarksAreFit, first_piece, address_of, marks_of, AllStand}
-use Rattle.c25_code.specs.Programs.{startup_items}
+use Rattle.c25_code.specs.Startups.{startup_items}
 use Rattle.c25_code.specs.Startups.{StartupArrives}
 use Rattle.c25_code.proofs.Items.{items_size-append, items_front, items_back}
 use Rattle.c25_code.proofs.Links.{differ-append, at_words_before}

@@ -98,9 +98,5 @@ module _ (modes : Modes) (program : Memory) where
       let rest = code_goes (j ∷ is) (pc + length_of (second_word i)) (behind_instr i w) (fits_rest modes i (j ∷ is) fits) at.1 ready.1 in
       (rest.0, instr_then pc (length (j ∷ is)) i (j ∷ is) w rest.0 (fits_first modes i (j ∷ is) fits) at.0 ready.0 (stands_below program _ j at.1.0) rest.1)
 
--- from calm states
-pub instr_leads : (program : Memory) (pc : ℕ) (i : Instr) (w : Work) → StandsAt program pc i → InstrReady i w → pc + length_of (second_word i) < 65536 → Leads 1 (calm program pc w) (calm program (pc + length_of (second_word i)) (behind_instr i w)) (as_outputs (output_of i w))
-instr_leads program pc i w at ready behind = instr_leads_at calm_modes program pc i w (inr refl) at ready behind
-
 pub code_leads : (program : Memory) (code : List Instr) (pc : ℕ) (w : Work) → CodeAt program pc code → CodeReady code w → pc + code_size code < 65536 → Leads (length code) (calm program pc w) (calm program (pc + code_size code) (behind_code code w)) (outputs_of_code code w)
 code_leads program code pc w at ready behind = code_leads_at calm_modes program code pc w (inr refl) at ready behind

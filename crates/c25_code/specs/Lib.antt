@@ -4,14 +4,9 @@ pub mod CodeRuns
 pub mod Items
 pub mod ItemRuns
 pub mod Routines
-pub mod Repeats
+pub mod Returns
 pub mod Structured
-pub mod Arrivals
 pub mod Links
 pub mod Naming
-pub mod Programs
 pub mod Startups
-pub mod Accesses
-pub mod Clears
 pub mod ClearingLoops
-pub mod AccessPrograms

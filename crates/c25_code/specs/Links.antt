@@ -1,12 +1,12 @@
 -- Pieces that stand one behind another: the first of a name, its marks, and what is asked of the marks of a piece.
-use Rattle.std.specs.Prelude.{◌⊎◌, ◌≡◌, ℕ, ◌+◌, ◌<◌, ◌≤◌, if◌then◌else◌, List, [], ◌∷◌, zero, suc, true, Option, Some, None}
+use Rattle.std.specs.Prelude.{◌⊎◌, ◌≡◌, ℕ, ◌+◌, ◌<◌, ◌≤◌, if◌then◌else◌, List, [], ◌∷◌, Option, Some, None}
 use Rattle.std.specs.Str.{bytes_eq}
 use Rattle.c25_isa.specs.declared.piece.PieceItem.{PieceItem}
 use Rattle.c25_isa.specs.declared.piece.PieceItem.TheVariants.{Do, Mark, Jump, CallTo}
 use Rattle.c25_isa.specs.Step.{wrap16}
 use Rattle.c25_isa.specs.State.{Memory}
 use Rattle.c25_isa.specs.Pieces.{Piece, items_size, mark_address, ItemsAt, piece_address}
-use Rattle.c25_code.specs.Structured.{Structured, Emission, function_items}
+use Rattle.c25_code.specs.Structured.{Emission}
 
 abbrev pub IsMarkOf : ℕ → List PieceItem → Type 0
 IsMarkOf m [] = ⊥
@@ -67,18 +67,3 @@ MarksAreFit items = MarksDiffer items × MarksAtWords items × (1 ≤ items_size
 
 abbrev pub PieceIsFit : Piece → Type 0
 PieceIsFit p = MarksAreFit p.items
-
--- functions by their numbers, and with their names from a number on
-abbrev pub numbered_functions : {S T : Type 0} → Emission S T → ℕ → List (Structured S T) → List Piece
-numbered_functions e function [] = []
-numbered_functions e function (body ∷ bodies) =
-    record { name = e.name function; listed = true; items = function_items e function body } ∷ numbered_functions e (suc function) bodies
-
-abbrev pub body_of : {I : Type 0} → List I → ℕ → Option I
-body_of [] function = None
-body_of (f ∷ fs) zero = Some f
-body_of (f ∷ fs) (suc function) = body_of fs function
-
--- the first piece of each function's name has the function's items
-abbrev pub HoldsFunctions : {S T : Type 0} → Emission S T → (ℕ → Option (Structured S T)) → List Piece → Type 0
-HoldsFunctions {S = S} {T = T} e bodies all = (function : ℕ) (body : Structured S T) → bodies function ≡ Some body → (p : Piece) × (first_piece all (e.name function) ≡ Some p) × (p.items ≡ function_items e function body)

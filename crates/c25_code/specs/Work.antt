@@ -1,6 +1,6 @@
 -- Work: the part of the machine's state (docs/MACHINE.md, "State") that straight code reads and changes, and the states in which it runs: at any
 -- modes where it doesn't mind them, else the calm ones. PC, the modes, a pending repeat (none here) and program memory are no part of work.
-use Rattle.std.specs.Prelude.{ℕ, ◌<◌, ◌≤◌, ◌^◌, Bool, false, List, length, All, None}
+use Rattle.std.specs.Prelude.{◌≡◌, ℕ, ◌<◌, ◌≤◌, ◌^◌, Bool, false, List, length, All, Option, Some, None}
 use Rattle.word_base.specs.Ports.{Input, IsInput}
 use Rattle.c25_isa.specs.State.{State, Memory}
 
@@ -77,3 +77,8 @@ pub record InRange (w : Work) : Type 0 where
   pub room : length w.stack ≤ 8
   pub ram : (a : ℕ) → w.ram a < 2 ^ 16
   pub input : IsInput w.input
+
+-- the accumulator is what is known of it
+abbrev pub HoldsAcc : Option ℕ → ℕ → Type 0
+HoldsAcc None acc = Unit {0}
+HoldsAcc (Some a) acc = acc ≡ a

@@ -1,9 +1,8 @@
 //! What emitted code does, as laws: each call does nothing, its clauses are what crates above cite.
-ghost use Rattle.std.specs.Prelude.{◌≡◌, false, ℕ, ◌+◌, ◌*◌, ◌<◌, ◌≤◌, Bool, List, [], ◌∷◌, length, Option, None};
+ghost use Rattle.std.specs.Prelude.{◌≡◌, false, ℕ, ◌+◌, ◌<◌, ◌≤◌, List, [], ◌∷◌, length, None};
 ghost use Rattle.std.specs.List.{AllByRecursion};
 ghost use Rattle.word_base.specs.declared.outcome.Ending.{Ending};
 ghost use Rattle.word_base.specs.declared.outcome.Ending.TheVariants.{Returned};
-ghost use Rattle.word_base.specs.declared.outcome.Outcome.{Outcome};
 ghost use Rattle.word_base.specs.Ports.{Input, IsInput, Outputs};
 ghost use Rattle.word_base.specs.declared.outcome.Outcome.TheVariants as source;
 ghost use Rattle.word_base.specs.Keeps.{Outcomes, Keeps};
@@ -15,7 +14,7 @@ ghost use Rattle.c25_isa.specs.declared.operand.Operand.TheVariants.{Indirect as
 ghost use Rattle.c25_isa.specs.Agrees.{SourceRuns, Steps, any_number, at_most, EndsAlike, PutsBefore, GoesOnAlike, AgreesAt, Agrees};
 ghost use Rattle.c25_isa.specs.Image.{Contents};
 ghost use Rattle.c25_isa.specs.Pieces.{Piece, pieces_code, Linked, PiecesFit};
-ghost use Rattle.c25_isa.specs.State.{State, Memory, Start, IsStart, BeginsWith};
+ghost use Rattle.c25_isa.specs.State.{State, Memory, Start, BeginsWith};
 ghost use Rattle.c25_isa.specs.Step.{Over, wrap16, step};
 ghost use Rattle.c25_isa.specs.MachineRun.{HasStopped, machine_run};
 ghost use Rattle.c25_isa.specs.Table.{IsInstr};
@@ -24,12 +23,7 @@ ghost use Rattle.c25_isa.specs.Leads.{Leads};
 ghost use Rattle.c25_code.specs.Work.{Work, Modes, at_modes, calm, modes_of, work_of, InRange};
 ghost use Rattle.c25_code.specs.Straight.{behind_operand, first_of, rest_of, NonEmpty, behind_instr, InstrReady, code_size, code_minds_modes, FitModes, is_taken, branch_target};
 ghost use Rattle.c25_code.specs.CodeRuns.{CodeRuns, EndsAtInput, RunsInPart};
-ghost use Rattle.c25_code.specs.Repeats.{RepeatLeads};
-ghost use Rattle.c25_code.specs.Routines.{division_code, DividesWord};
-ghost use Rattle.c25_code.specs.Structured.{Structured, Meaning, Emission, Result, call_function, function_items};
-ghost use Rattle.c25_code.specs.Arrivals.{Related, HasCallers, by_rank, StepEmitsRight, StepsEmitRight, EmitsRight, CanReturn, CallArrives, CodeArrives, FunctionsStand, CallsFit};
-ghost use Rattle.c25_code.specs.Links.{StepsOwnMarks, address_of, marks_of, pieces_size, MarksAreFit, PieceIsFit, AllStand, HoldsFunctions};
-ghost use Rattle.c25_code.specs.Programs.{ProgramStands, MeetsFromReset, IsOutcomeOf, effort_of};
+ghost use Rattle.c25_code.specs.Links.{address_of, pieces_size, PieceIsFit, AllStand};
 
 /// Straight code that stands in program memory leads from a calm state to a calm state, in one step an instruction.
 pub fn straight_code_leads()
@@ -78,47 +72,12 @@ pub fn jumps_lead()
     ensures calms { (s : State) → s.repeats ≡ None → CodeAt s.program s.pc (Rovm ∷ Spm ∷ []) → s.pc + 2 < 65536 → Leads 2 s (calm s.program (s.pc + 1 + 1) (work_of s)) [] }
 {}
 
-/// A word that may be repeated is done so often behind RPTK.
-pub fn repeats_lead()
-    ensures repeats { RepeatLeads }
-{}
-
-/// RPTK 15 and SUBC are C's division of a word in ACC, without a sign, by a word of RAM from 1 to 7FFFh.
-pub fn divides_words()
-    ensures divides { (offset : ℕ) → DividesWord (division_code offset) offset }
-{}
-
-/// Structured code does what it means, for steps and tests of any kind that are emitted right.
-pub fn structured_code_arrives<S, T, A, R>()
-    ensures arrives { (m : Meaning S T A) (e : Emission S T) (pairs : R → A × Work) (limit : ℕ) (program : Memory) (names : List ℕ → ℕ) (callers : ℕ → ℕ → Bool) (marks : ℕ → ℕ) (n function : ℕ) (begin : Work) (call : ℕ → A → Result A)
-        → EmitsRight S T A m e (Related pairs) limit callers → CanReturn limit (e.word function) begin.stack
-        → CodeArrives S T A m e (Related pairs) limit program names callers marks n function begin call }
-    // Calls of functions that stand at the addresses of their names come back with what the functions mean, where the hardware stack has room.
-    ensures calls { (m : Meaning S T A) (e : Emission S T) (pairs : R → A × Work) (limit : ℕ) (program : Memory) (names : List ℕ → ℕ) (callers : ℕ → ℕ → Bool) (bodies : ℕ → Option (Structured S T)) (marks : ℕ → ℕ → ℕ) (rank room : ℕ → ℕ) (n levels : ℕ) (stack : List ℕ) (function : ℕ)
-        → EmitsRight S T A m e (Related pairs) limit callers → StepsEmitRight S T A m e (Related pairs) limit program names callers bodies → HasCallers S T callers bodies → FunctionsStand S T e program names bodies marks → CallsFit S T e.word bodies rank room → rank function < levels → length stack + room function ≤ limit
-        → CallArrives A (Related pairs) program e.word callers n stack function (names (e.name function)) (call_function m bodies n levels function) }
-    // Where calls go to lower ranks a table may take all functions of higher ranks for callers.
-    ensures ranked { (word : ℕ → Option ℕ) (bodies : ℕ → Option (Structured S T)) (rank room : ℕ → ℕ) → CallsFit S T word bodies rank room → HasCallers S T (by_rank rank) bodies }
-    // Steps that are emitted right in each function are so in all bodies.
-    ensures steps { (m : Meaning S T A) (e : Emission S T) (pairs : R → A × Work) (limit : ℕ) (program : Memory) (names : List ℕ → ℕ) (callers : ℕ → ℕ → Bool) (bodies : ℕ → Option (Structured S T))
-        → ((function : ℕ) (s : S) → StepEmitsRight S T A m e (Related pairs) limit program names callers function s)
-        → StepsEmitRight S T A m e (Related pairs) limit program names callers bodies }
-    // Levels of calls that are enough give what any more give.
-    ensures levels { (m : Meaning S T A) (word : ℕ → Option ℕ) (bodies : ℕ → Option (Structured S T)) (rank room : ℕ → ℕ) (n few more function : ℕ) (a : A) → CallsFit S T word bodies rank room → rank function < few → rank function < more
-        → call_function m bodies n more function a ≡ call_function m bodies n few function a }
-{}
-
 /// Pieces whose instructions stand in program memory one behind another stand each at its address, with their marks at their addresses.
-pub fn linked_pieces_stand<S, T>()
+pub fn linked_pieces_stand()
     ensures pieces { (program : Memory) (all : List Piece) → AllByRecursion PieceIsFit all → pieces_size all ≤ 65536 → CodeAt program 0 (pieces_code (address_of all) 0 all) → AllStand program all }
     // So do those of an image at a reset.
     ensures image { (b : Start) (all : List Piece) (image : Contents) → Linked all image → BeginsWith image.words b
         → PiecesFit all → AllByRecursion PieceIsFit all → pieces_size all ≤ 65536 → AllStand b.program all }
-    // The marks of a function are fit where those of its steps are their own.
-    ensures marks { (e : Emission S T) (function : ℕ) (body : Structured S T) → StepsOwnMarks e → MarksAreFit (function_items e function body) }
-    // So functions among such pieces stand.
-    ensures functions { (e : Emission S T) (program : Memory) (all : List Piece) (bodies : ℕ → Option (Structured S T)) → AllStand program all → HoldsFunctions e bodies all
-        → FunctionsStand S T e program (address_of all) bodies (λ function. marks_of 0 all (e.name function)) }
 {}
 
 /// A run agrees where another one does that keeps it, part by part; a limit of steps may be widened.
@@ -136,25 +95,4 @@ pub fn agreement_composes()
 /// What ended, or what a trap stopped, is so at every greater number of steps.
 pub fn stopped_runs_stay()
     ensures stays { (b : Start) (input : Input) (fewer more : ℕ) → fewer ≤ more → HasStopped (machine_run b input fewer) → machine_run b input more ≡ machine_run b input fewer }
-{}
-
-/// A whole program does from a reset what it means, so it agrees with each source whose outcomes are its results.
-pub fn programs_agree<S, T, A, R>()
-    ensures meets { (m : Meaning S T A) (e : Emission S T) (pairs : R → A × Work) (limit levels steps : ℕ) (value : A → ℕ) (b : Start) (input : Input) (bodies : ℕ → Option (Structured S T)) (main : ℕ) (first : A) (n : ℕ)
-        → ProgramStands S T A m e (Related pairs) limit levels steps value b input bodies main first
-        → MeetsFromReset value b input (steps + 3) n (call_function m bodies n levels main first) }
-    ensures agrees { (m : Meaning S T A) (e : Emission S T) (pairs : R → A × Work) (limit levels steps : ℕ) (value : A → ℕ) (b : Start) (input : Input) (bodies : ℕ → Option (Structured S T)) (main : ℕ) (first : A) (run : ℕ → Outcome)
-        → ProgramStands S T A m e (Related pairs) limit levels steps value b input bodies main first
-        → ((n : ℕ) → IsOutcomeOf value (call_function m bodies n levels main first) (run n))
-        → AgreesAt run (machine_run b input) }
-    // From every start at once.
-    ensures everywhere { (m : Meaning S T A) (e : Emission S T) (pairs : R → A × Work) (limit levels steps : ℕ) (value : A → ℕ) (bodies : ℕ → Option (Structured S T)) (main : ℕ) (first : Start → Input → A) (run : SourceRuns) (words : List ℕ)
-        → ((b : Start) (input : Input) → IsStart b → BeginsWith words b → IsInput input → ProgramStands S T A m e (Related pairs) limit levels steps value b input bodies main (first b input))
-        → ((b : Start) (input : Input) (n : ℕ) → IsStart b → BeginsWith words b → IsInput input → IsOutcomeOf value (call_function m bodies n levels main (first b input)) (run input n))
-        → Agrees run words }
-    // It ends within 64 steps for each effort, and the startup's.
-    ensures within { (m : Meaning S T A) (e : Emission S T) (pairs : R → A × Work) (limit levels steps : ℕ) (value : A → ℕ) (b : Start) (input : Input) (bodies : ℕ → Option (Structured S T)) (main : ℕ) (first : A) (run : ℕ → Outcome)
-        → ProgramStands S T A m e (Related pairs) limit levels steps value b input bodies main first
-        → ((n : ℕ) → IsOutcomeOf value (call_function m bodies n levels main first) (run n))
-        → EndsAlike (at_most (λ n. 64 * effort_of (call_function m bodies n levels main first) + (steps + 3))) run (machine_run b input) }
 {}

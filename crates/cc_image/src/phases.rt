@@ -28,9 +28,7 @@ use c25_link::{counted_words, link};
 use cc_frames::{Layouts, Options, certificate_of, lay_out};
 use frame_emit::emit;
 use lay_cert::Certificate;
-use lower_laws::lower;
 use mem_plan::{DataPlan, plan};
-use select_laws::select;
 use std::alloc::Global;
 use std::thread::Threads;
 use tree_code::TreeProgram;
@@ -63,8 +61,8 @@ fn choose(alloc: Global, program: &Program) -> Result<Chosen, NoMemory>
     ensures code { IfOk result (λ c. functions_of c.code ≡ selected (tree_of c.tree)) }
     ensures emittable { IfOk result (λ c. IsEmittable (tree_of c.tree) (functions_of c.code)) }
 {
-    let tree = lower(alloc, program)?;
-    let code = select(alloc, &tree)?;
+    let tree = tree_code::lower(alloc, program)?;
+    let code = acc_select::select(alloc, &tree)?;
     Ok(Chosen { tree, code })
 }
 

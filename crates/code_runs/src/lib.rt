@@ -1,6 +1,2 @@
 //! What word trees and accumulator code do, as definitions, and laws of them. It has no code of its own.
 #![tactic(auto)]
-
-mod laws;
-
-pub use laws::keeping_composes;

@@ -1,6 +1,2 @@
 //! Words of data memory beside runs of accumulator code, as definitions and laws. It has no code of its own.
 #![tactic(auto)]
-
-mod laws;
-
-pub use laws::operands_stand;

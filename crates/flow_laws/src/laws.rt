@@ -9,11 +9,6 @@ ghost use Rattle.frame_flow.specs.Cuts.{function_items};
 ghost use Rattle.frame_flow.specs.Settings.{Setting};
 ghost use Rattle.flow_laws.specs.Calls.{IsJumpTo, CallsAre, IsNameOf, StandsIn};
 
-/// Each function's piece has at least one word, whatever its body.
-pub fn pieces_have_words()
-    ensures word { (m : Setting) (body : ItemList) → 1 ≤ items_size (function_items m body) }
-{}
-
 /// The marks of a function's piece are the labels that its jumps name, each stands once, and its calls are those of its body.
 pub fn marks_are_right()
     ensures once { (m : Setting) (body : ItemList) → IsPlaced false false false body → MarksDiffer (function_items m body) }

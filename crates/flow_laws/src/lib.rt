@@ -3,4 +3,4 @@
 
 mod laws;
 
-pub use laws::{marks_are_right, pieces_have_words};
+pub use laws::marks_are_right;

@@ -15,7 +15,7 @@ use Rattle.c25_isa.specs.Pieces.{Piece}
 use Rattle.c25_isa.specs.Step.{wrap16}
 use Rattle.c25_code.specs.Items.{plain_items}
 use Rattle.c25_code.specs.ClearingLoops.{clears_at_one}
-use Rattle.c25_code.specs.Programs.{startup_items}
+use Rattle.c25_code.specs.Startups.{startup_items}
 use Rattle.frame_runs.specs.Places.{address_in}
 
 -- no function of a program has this name

@@ -19,7 +19,7 @@ use Rattle.c25_isa.specs.CodeAt.{StandsAt}
 use Rattle.c25_isa.specs.Leads.{Leads}
 use Rattle.c25_isa.specs.Pieces.{items_size, ItemsAt}
 use Rattle.c25_isa.proofs.Leads.{leads_on}
-use Rattle.c25_code.specs.Arrivals as entries
+use Rattle.c25_code.specs.Returns as entries
 use Rattle.c25_code.specs.Work.{Work, calm}
 use Rattle.c25_code.specs.Straight.{code_size}
 use Rattle.c25_code.specs.Items.{no_change, plain_items, entry_code}

@@ -17,7 +17,7 @@ use Rattle.c25_isa.specs.declared.instruction.Instr.TheVariants.{Ssxm}
 use Rattle.c25_isa.specs.Pieces.{Piece, items_size}
 use Rattle.c25_code.specs.Items.{plain_items}
 use Rattle.c25_code.specs.Links.{IsMarkOf, MarksDiffer, MarksAtWords, MarksAreFit, PieceIsFit}
-use Rattle.c25_code.specs.Programs.{startup_items}
+use Rattle.c25_code.specs.Startups.{startup_items}
 use Rattle.c25_helper.specs.Routines.{routine_items, routine_piece, helper_pieces}
 use Rattle.c25_helper.specs.declared.routine.Routine.{Routine}
 use Rattle.c25_helper.specs.declared.routine.Routine.TheVariants.{DivInt, DivUnsigned, RemInt, RemUnsigned, ShrInt, ShrUnsigned}

@@ -1,2 +1,1 @@
 -- What laws of labels say.
-pub mod Standing

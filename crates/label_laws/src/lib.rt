@@ -1,6 +1,2 @@
 //! Labels of emitted code, as laws: where they are, and what a dispatch and a clearing loop do there. It has no code of its own.
 #![tactic(auto)]
-
-mod laws;
-
-pub use laws::{clears_meet, dispatches_meet, labels_stand};

@@ -1,10 +1,10 @@
 -- How a typed program's run and its word tree's go side by side: the relation between what two parts of runs came to, and the rules that compose it.
-use Rattle.std.proofs.Common.{◌≡◌, Bool, true, false}
+use Rattle.std.proofs.Common.{◌≡◌}
 use Rattle.word_base.specs.Ports.{Prefix}
 use Rattle.c_tree.specs.Store as source
 use Rattle.c_tree.specs.Store.{World}
 use Rattle.c_tree.specs.Eval as evaluation
-use Rattle.code_runs.specs.Parts.{Res, Gives, Finished, TooMany, Fails, Does, after, ◌>>=◌, give, choose}
+use Rattle.code_runs.specs.Parts.{Res, Gives, Finished, TooMany, Fails, Does, after}
 use Rattle.code_runs.specs.TreeRun.{Tree}
 use Rattle.lower_laws.proofs.Growing.{outs_of, behind, Grows}
 
@@ -58,30 +58,3 @@ rel_weaker k (source.TooMany o) (Finished p o2 m) e = absurd e
 rel_weaker k (source.TooMany o) (TooMany o2) e = e
 rel_weaker k (source.TooMany o) (Fails o2) e = absurd e
 rel_weaker k (source.Fails kind at o) y e = e
-
--- what is so before two parts of runs
-abbrev pub Pre : Type 1
-Pre = World → Tree → Type 0
-
--- what a part of a typed program does and what a part of its word tree does, from states side by side
-pub record Keeps {A B : Type 0} (p : Pre) (f : source.Does A) (g : Does Tree B) (q : Post A B) : Type 0 where
-  pub by : (w : World) (t : Tree) → p w t → Rel q (f w) (g t)
-
--- one part behind another, on both sides
-pub seq : {A B C D : Type 0} {p : Pre} {f : source.Does A} {g : Does Tree B} {h : A → source.Does C} {k : B → Does Tree D} {q : Post A B} {r : Post C D}
-    → Keeps p f g q → ((b : B) → Grows (k b)) → ((a : A) (b : B) → Keeps (q a b) (h a) (k b) r) → Keeps p (source.◌>>=◌ f h) (g >>= k) r
-seq {f = f} {g = g} {h = h} {k = k} {q = q} {r = r} x grow y = record { by = λ w t e. rel_after q r (f w) (g t) h k (x.by w t e) grow (λ a b w t e. (y a b).by w t e) }
-
-pub weaker : {A B : Type 0} {p : Pre} {f : source.Does A} {g : Does Tree B} {q r : Post A B} → ((a : A) (b : B) (w : World) (t : Tree) → q a b w t → r a b w t) → Keeps p f g q → Keeps p f g r
-weaker {f = f} {g = g} k x = record { by = λ w t e. rel_weaker k (f w) (g t) (x.by w t e) }
-
-pub from_weaker : {A B : Type 0} {p s : Pre} {f : source.Does A} {g : Does Tree B} {q : Post A B} → ((w : World) (t : Tree) → s w t → p w t) → Keeps p f g q → Keeps s f g q
-from_weaker k x = record { by = λ w t e. x.by w t (k w t e) }
-
-pub gives : {A B : Type 0} {p : Pre} {q : Post A B} (a : A) (b : B) → ((w : World) (t : Tree) → p w t → q a b w t) → Keeps p (source.give a) (give b) q
-gives a b k = record { by = λ w t e. k w t e }
-
--- one of two parts, by truths that are the same
-pub choices : {A B : Type 0} {p : Pre} {f g : source.Does A} {h k : Does Tree B} {q : Post A B} (b : Bool) → Keeps p f h q → Keeps p g k q → Keeps p (evaluation.choose b f g) (choose b h k) q
-choices true x y = x
-choices false x y = y

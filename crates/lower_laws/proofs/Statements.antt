@@ -54,10 +54,6 @@ opened_objects objects declared names h = record {
     static_among n s true e = e
     static_among n s false e = h.statics n s e
 
--- no value is given where none is returned
-no_value : (k : Kind) → k ≡ None → points k ≡ false
-no_value k e = ap points e
-
 integer_points : (k : Kind) → IsInteger k → points k ≡ false
 integer_points None h = absurd h
 integer_points (Some kind) h = h

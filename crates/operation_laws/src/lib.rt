@@ -1,6 +1,2 @@
 //! The law that the instructions of a run of operations do what these do. It has no code of its own.
 #![tactic(auto)]
-
-mod laws;
-
-pub use laws::operations_meet;

@@ -23,5 +23,4 @@ pub mod DirectRuns
 pub mod DirectOperations
 pub mod RunsFit
 pub mod DirectBodies
-pub mod EmittableWalks
 mod Examples

@@ -1,5 +1,5 @@
 //! Laws of the walks of pieces. The calls do nothing: their clauses are what crates above cite.
-ghost use Rattle.std.specs.Prelude.{◌≡◌, ℕ, Bool, true, List, [], length, map, sum_by, Option, None};
+ghost use Rattle.std.specs.Prelude.{◌≡◌, ℕ, Bool, true, List, map, sum_by, Option, None};
 ghost use Rattle.c_tree.specs.declared.program.VarRef.{VarRef};
 ghost use Rattle.c25_isa.specs.Image.{Contents};
 ghost use Rattle.c25_isa.specs.Pieces.{Piece, mark_address, piece_address, items_code};
@@ -7,18 +7,15 @@ ghost use Rattle.c25_isa.specs.Step.{wrap16};
 ghost use Rattle.c25_isa.specs.Walk.{Blocks, code_of, walk};
 ghost use Rattle.c25_isa.specs.AddressCount.{address_count};
 ghost use Rattle.c25_isa.specs.Direct.{Words, Done, is_direct_from, Direct};
-ghost use Rattle.lay_cost.specs.Cost.{cost_of};
-ghost use Rattle.lay_cost.specs.Placements.{Placement};
 ghost use Rattle.acc_code.specs.AccTree.{ItemList};
-ghost use Rattle.acc_code.specs.AccSequence.{once, blocks_of};
+ghost use Rattle.acc_code.specs.AccSequence.{blocks_of};
 ghost use Rattle.acc_code.specs.Emittable.{IsEmittableBody, Throughout};
 ghost use Rattle.frame_runs.specs.Places.{Places};
 ghost use Rattle.frame_runs.specs.Steps.{Operation, steps_of};
 ghost use Rattle.frame_runs.specs.Runs.{run_code};
 ghost use Rattle.frame_flow.specs.Flow.{body_entries};
 ghost use Rattle.frame_flow.specs.Settings.{Setting};
-ghost use Rattle.run_walks.specs.RunWalks.{address_of, placed_from, AreOverScalars};
-ghost use Rattle.run_walks.specs.Agreeing.{AgreesWith};
+ghost use Rattle.run_walks.specs.RunWalks.{address_of, placed_from};
 ghost use Rattle.piece_walks.specs.DirectPieces.{words, KeepsReturn, RunsAreDirect, ScratchIsApart, ItemNames};
 ghost use Rattle.piece_walks.specs.DirectRuns.{StepsName};
 ghost use Rattle.piece_walks.specs.PieceWalks.{RunsWalk, IsFunctionIn, range_first, range_last};
@@ -46,16 +43,4 @@ pub fn runs_are_direct()
     // So it is in each run of an emittable body whose operands name the function's places.
     ensures bodies { (w : Words) (m : Setting) (scalars : ℕ) (cells : VarRef → Option ℕ) (parameters : ℕ → Option ℕ) (helps : Bool) (body : ItemList) → ScratchIsApart w → IsEmittableBody scalars cells parameters helps body
         → Throughout (ItemNames w m.places) body → RunsAreDirect w m (body_entries body) }
-{}
-
-/// What a walk of an emittable function finds, where one of AR2 to AR5 goes over each list of scalars: the blocks of its body, each scalar at its
-/// address, and as many address instructions as its access sequence costs at the step.
-pub fn functions_walk()
-    ensures blocks { (pieces : List Piece) (image : Contents) (name : List ℕ) (p : Piece) (m : Setting) (body : ItemList) (cells : VarRef → Option ℕ) (parameters : ℕ → Option ℕ) (helps : Bool) (placement : Placement)
-        → IsFunctionIn pieces image name p m body → IsEmittableBody (length m.places.scalars) cells parameters helps body → AreOverScalars m.places.scalars → AgreesWith m.places placement
-        → walk image.words (range_first pieces name) (range_last pieces name p) ≡ Blocks (map (map (address_of m.places)) (blocks_of body)) }
-    ensures cost { (pieces : List Piece) (image : Contents) (name : List ℕ) (p : Piece) (m : Setting) (body : ItemList) (cells : VarRef → Option ℕ) (parameters : ℕ → Option ℕ) (helps : Bool) (placement : Placement)
-        → IsFunctionIn pieces image name p m body → IsEmittableBody (length m.places.scalars) cells parameters helps body → AreOverScalars m.places.scalars → AgreesWith m.places placement
-        → address_count image.words (range_first pieces name) (range_last pieces name p)
-        ≡ cost_of (record { scalars = length m.places.scalars; step = m.places.step; blocks = map once (blocks_of body) }) placement }
 {}

@@ -4,4 +4,4 @@
 
 mod laws;
 
-pub use laws::{functions_walk, pieces_walk, runs_are_direct};
+pub use laws::{pieces_walk, runs_are_direct};

@@ -116,7 +116,3 @@ input_ends_soon d front port r rest w v same can word list low none =
       },
       omega (arith, one, two, few, both, all),
     )
-
-pub input_ends : (d : ℕ) (front : List Step) (port : ℕ) (r : Reach) (rest : List Step) (w v : Work) → AlikeOutside w v → CanRun front (step (row.In port) r ∷ rest) v → is_word r ≡ true → IsOverList r → 0x300 ≤ reach_address (behind_steps front v) r → (behind_steps front v).input port ≡ []
-    → EndsAtInput (all_steps_code d (front ++ step (row.In port) r ∷ rest)) w (outputs_of_steps front v) (InputEnded port)
-input_ends d front port r rest w v same can word list low none = (input_ends_soon d front port r rest w v same can word list low none).0

@@ -4,7 +4,7 @@ use Rattle.std.specs.Prelude.{◌==◌}
 use Rattle.c25_isa.specs.declared.operand.Operand.{Operand}
 use Rattle.c25_isa.specs.Step.{wrap16, wrap32}
 use Rattle.c25_code.specs.Work.{Work}
-use Rattle.c25_code.specs.Straight.{operand_word, behind_operand, ram_becomes, first_of, rest_of, behind_instr, output_of}
+use Rattle.c25_code.specs.Straight.{operand_word, ram_becomes, first_of, rest_of, behind_instr, output_of}
 use Rattle.acc_code.specs.declared.operation.AccOp.TheVariants as row
 use Rattle.code_runs.specs.AccRows.{Acc, Gone, Low, Whole, Registers, low_half, whole_of, low_stored, high_stored}
 use Rattle.frame_runs.specs.Instructions.{word_instr}
@@ -32,12 +32,6 @@ high_is_stored shift m x r w h e = ap (λ i. ram_becomes m i w) (high_word r.acc
 -- the first word of a port
 pub is_taken_in : (port : ℕ) (m : Operand) (x : ℕ) (xs : List ℕ) (w : Work) → w.input port ≡ x ∷ xs → behind_instr (word_instr (row.In port) m) w ≡ ram_becomes m x (record w { input = λ p. cond (p == port) xs (w.input p) })
 is_taken_in port m x xs w e = ap (λ l. ram_becomes m (first_of l) (record w { input = λ p. cond (p == port) (rest_of l) (w.input p) })) e
-
-pub stays_as_stored : (m : Operand) (x : ℕ) (r : Registers) (w : Work) → RegistersAlike r w → RegistersAlike r (ram_becomes m x w)
-stays_as_stored m x r w h = record { acc = h.acc; t = h.t; p = h.p; sxm = h.sxm }
-
-pub stays_behind : (m : Operand) (r : Registers) (w : Work) → RegistersAlike r w → RegistersAlike r (behind_operand m w)
-stays_behind m r w h = record { acc = h.acc; t = h.t; p = h.p; sxm = h.sxm }
 
 -- the word that is put
 pub is_put : (port : ℕ) (m : Operand) (x : ℕ) (w : Work) → operand_word w m ≡ x → output_of (word_instr (row.Out port) m) w ≡ Some (port, x)

@@ -4,4 +4,4 @@
 
 mod laws;
 
-pub use laws::{rows_do_operations, rows_store_words, tests_are_jumps};
+pub use laws::rows_do_operations;

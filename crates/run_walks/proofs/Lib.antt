@@ -1,6 +1,5 @@
 -- What a walk finds, part by part.
 pub mod Parts
-pub mod Outside
 pub mod Rows
 pub mod Moving
 pub mod Changing

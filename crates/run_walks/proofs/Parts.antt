@@ -84,9 +84,3 @@ walks_as code xs n gives = record {
   known_so = λ k at. (gives k).known_so at;
   counted_so = λ k at. (gives k).counted_so at;
 }
-
-gives_as : (k : Known) (code : List Instr) (xs : List ℕ) (n : ℕ) → WalksAs code xs n → Gives k code xs n
-gives_as k code xs n walks = record { addresses_so = walks.addresses_so k; known_so = walks.known_so k; counted_so = walks.counted_so k }
-
-pub walks_behind : (a b : List Instr) (xs ys : List ℕ) (n m : ℕ) → WalksAs a xs n → WalksAs b ys m → WalksAs (a ++ b) (xs ++ ys) (n + m)
-walks_behind a b xs ys n m front back = walks_as (a ++ b) (xs ++ ys) (n + m) (λ k. gives_both k a b xs ys n m (gives_as k a xs n front) (gives_as (known_after k a) b ys m back))

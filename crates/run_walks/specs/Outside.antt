@@ -1,5 +1,5 @@
 -- Instructions in which a walk finds nothing, whatever it knows before them.
-use Rattle.std.specs.Prelude.{◌≡◌, ⊤, Bool, true, false, not, ◌&&◌, List, [], ◌∷◌, Option, Some, None}
+use Rattle.std.specs.Prelude.{Bool, true, false, not, ◌&&◌, [], Option, Some, None}
 use Rattle.c25_isa.specs.declared.operand.Indirect.{Indirect}
 use Rattle.c25_isa.specs.declared.instruction.Instr.{Instr}
 use Rattle.c25_isa.specs.Walk.{nothing_known, access_operand}
@@ -12,7 +12,3 @@ is_no_operand (Some i) = false
 -- nothing is accessed through an address register, and none of AR0 and AR2 to AR5 is moved, whichever is current
 abbrev pub is_outside : Instr → Bool
 is_outside i = is_no_operand (access_operand i) && not (is_address_instruction nothing_known i)
-
-abbrev pub AreOutside : List Instr → Type 0
-AreOutside [] = ⊤
-AreOutside (i ∷ is) = (is_outside i ≡ true) × AreOutside is

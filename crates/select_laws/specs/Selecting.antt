@@ -23,7 +23,3 @@ pub record IsWordProgram (q : Places) (p : ProgramCode) : Type 0 where
   pub statics : StartsWithWords p.statics
   pub bodies : (f : ℕ) (g : FunctionCode) → slice_get p.functions f ≡ Some g → IsFitStatement IsOfWords (address_of q f) q g.locals g.body
   pub main : (f : ℕ) (g : FunctionCode) → slice_get p.functions f ≡ Some g → is_main g.name ≡ true → ReturnsValues g.body
-
--- accumulator code keeps the runs of a word tree, with objects at any places that they may have, on any input and with any number of turns
-abbrev pub KeepsEverywhere : ProgramCode → List FunctionItems → Type 0
-KeepsEverywhere p code = (q : Places) (input : Input) (n : ℕ) → IsWordProgram q p → IsInput input → Keeps (tree_run q p input n) (acc_run q p code input n)

@@ -5,7 +5,7 @@ use Rattle.std.proofs.lemmas.Option.{none-some, same_Some}
 use Rattle.c_tree.specs.declared.program.VarRef.{VarRef}
 use Rattle.c_tree.specs.declared.program.VarRef.TheVariants.{Scalar, Local, Static}
 use Rattle.c25_code.specs.Work.{Work}
-use Rattle.c25_code.specs.Arrivals as machine
+use Rattle.c25_code.specs.Returns as machine
 use Rattle.code_runs.specs.Outside as words
 use Rattle.code_runs.specs.Outside.{Nowhere, Unwritten, Holds, address_of, with_objects, no_words}
 use Rattle.code_runs.specs.AccRows.{Acc}

@@ -5,7 +5,7 @@ use Rattle.std.proofs.lemmas.List.Elements.{All-cons}
 use Rattle.std.proofs.lemmas.Option.{none-some, same_Some}
 use Rattle.c25_isa.specs.Step.{wrap16}
 use Rattle.c25_code.specs.Work.{Work, InRange}
-use Rattle.c25_code.specs.Arrivals.{entered}
+use Rattle.c25_code.specs.Returns.{entered}
 use Rattle.c25_code.proofs.Writes.{write_same, write_other}
 use Rattle.code_runs.specs.AccRows.{Acc, Gone, Low, Whole, Registers, low_half}
 use Rattle.code_runs.specs.AccRun.{at_most_low}

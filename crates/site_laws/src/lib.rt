@@ -3,4 +3,4 @@
 
 mod laws;
 
-pub use laws::{calls_are_few, calls_stand, sites_stand, startups_stand};
+pub use laws::calls_stand;

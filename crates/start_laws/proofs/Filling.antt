@@ -7,7 +7,7 @@ use Rattle.c25_isa.specs.declared.instruction.Instr.TheVariants.{Lrlk, Lack, Lal
 use Rattle.c25_isa.specs.State.{write}
 use Rattle.c25_isa.specs.Step.{wrap16, wrap32, extended}
 use Rattle.c25_code.specs.Work.{Work, InRange}
-use Rattle.c25_code.specs.Accesses.{HoldsAcc}
+use Rattle.c25_code.specs.Work.{HoldsAcc}
 use Rattle.c25_code.specs.CodeRuns.{CodeRuns}
 use Rattle.c25_code.proofs.CodeRuns.{runs_on}
 use Rattle.c25_code.proofs.Ranges.{behind_instr-fits}

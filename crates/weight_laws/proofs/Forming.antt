@@ -51,16 +51,6 @@ of_branch_weighs b n h number nothing =
 pub with_effect : (c : Code) (n : ℕ) (xs : ItemList) → CodeWeighs c n → Weighs xs n → CodeWeighs (record c { effect = xs }) n
 with_effect c n xs h effect = record { word = h.word; branch = h.branch; effect = effect; into = h.into; point = h.point }
 
--- what weighs less will do
-pub lighter : (c : Code) (n k : ℕ) → CodeWeighs c n → n ≤ k → CodeWeighs c k
-lighter c n k h le = record {
-  word = let e = h.word in omega (arith, e, le);
-  branch = λ sense hit miss. let e = h.branch sense hit miss in omega (arith, e, le);
-  effect = let e = h.effect in omega (arith, e, le);
-  into = λ m. let e = h.into m in omega (arith, e, le);
-  point = let e = h.point in omega (arith, e, le);
-}
-
 pub behind_weighs : (xs : ItemList) (w : Word) (n m : ℕ) → Weighs xs n → WordWeighs w m → WordWeighs (behind xs w) (n + m)
 behind_weighs xs w n m h k = let e = weight_of xs w.items in omega (arith, e, h, k)
 

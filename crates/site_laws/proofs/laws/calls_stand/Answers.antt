@@ -3,7 +3,7 @@ use Rattle.std.proofs.Common.{◌≡◌, ℕ, List, ◌∷◌, Option, Some, Non
 use Rattle.std.specs.Prelude.{slice_get}
 use Rattle.std.proofs.lemmas.Option.{same_Some}
 use Rattle.tree_code.specs.WordTree.{FunctionCode}
-use Rattle.c25_code.specs.Arrivals as entries
+use Rattle.c25_code.specs.Returns as entries
 use Rattle.c25_code.specs.Work.{Work}
 use Rattle.code_runs.specs.AccRows.{Acc, Gone, low_half}
 use Rattle.code_runs.specs.AccRun.{Machine, at_most_low, entered, left}
