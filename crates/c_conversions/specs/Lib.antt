@@ -1,1 +1,2 @@
 pub mod OperandView
+pub mod ConstantWords

@@ -2,10 +2,10 @@
 use Rattle.std.proofs.Common.{◌≡◌, ◌≤◌, ◌<◌, ◌∙◌, sym, ap, subst, ℕ, suc, ◌+◌, ◌*◌, max, List, [], ◌∷◌, map, get_or, length, Option, Some, None, arith}
 use Rattle.std.specs.Prelude.{slice_get, option_map}
 use Rattle.std.proofs.lemmas.Option.{slice_get-map}
-use Rattle.pass_laws.proofs.Members.{member_got}
-use Rattle.pass_laws.proofs.Arguments.{argument_within}
-use Rattle.pass_laws.proofs.Statements.{statement_within}
-use Rattle.pass_laws.proofs.Choices.{choice_within}
+use Rattle.c_tree.proofs.Members.{member_got}
+use Rattle.c_tree.proofs.Arguments.{argument_within}
+use Rattle.c_tree.proofs.Statements.{statement_within}
+use Rattle.c_tree.proofs.Choices.{choice_within}
 use Rattle.c_tree.specs.declared.program.Program.{Program}
 use Rattle.c_tree.specs.declared.program.Function.{Function}
 use Rattle.c_tree.specs.declared.typed_expression.TypedExpr.{TypedExpr}

@@ -11,8 +11,7 @@ ghost use Rattle.c_scopes.specs.ArgumentView.{arguments_of};
 
 use crate::names::called;
 use crate::scopes::{Scopes, is_in};
-use c_constants::constant;
-use c_conversions::Operand;
+use c_conversions::{Operand, constant};
 use c_operands::{input, output, wrong_count};
 use c_rules::{Class, Refusal, Rule};
 use c_syntax::Expr;

@@ -10,8 +10,7 @@ ghost use Rattle.c_objects.specs.InitialiserView.{entry_of, initialiser_of};
 
 use crate::expressions::{constant_tree, expression, operand};
 use crate::scopes::Scopes;
-use c_constants::constant;
-use c_conversions::Operand;
+use c_conversions::{Operand, constant};
 use c_objects::{Entry, Initialiser, add, initial_word, is_null};
 use c_rules::{Meaning, ObjectType, Refusal, Rule};
 use c_syntax::{BinaryOp, Expr, ExprKind, Init, ItemKind, PrefixOp};

@@ -9,7 +9,7 @@ use Rattle.c_syntax.specs.SyntaxView.{unit_of}
 use Rattle.c_tree.specs.TypedTree.{ObjectTree, FunctionTree, ProgramTree}
 use Rattle.c_rules.specs.declared.fault.TypeFault.{TypeFault}
 use Rattle.c_rules.specs.declared.fault.TypeFault.TheVariants as faults
-use Rattle.c_frames.specs.declared.functions.TypedFunction as memory
+use Rattle.c_limits.specs.declared.functions.TypedFunction as memory
 use Rattle.c_types.specs.declared.units.File as files
 use Rattle.c_types.specs.declared.units.Contents.{Contents}
 use Rattle.c_rules.specs.declared.fault.Rule.{Rule}
@@ -24,7 +24,7 @@ use Rattle.c_rules.proofs.Walked.SourceWalked.{walk_finds}
 use Rattle.c_rules.specs.Outcome.{Is}
 use Rattle.c_rules.specs.Programs.{frame, function_tree, functions_with, program_tree, object_tree}
 use Rattle.c_rules.specs.Units.{TypedFunction, File, typed_unit}
-use Rattle.c_frames.specs.FunctionView.{frame_lists, typed_function_of}
+use Rattle.c_limits.specs.FunctionView.{frame_lists, typed_function_of}
 use Rattle.c_types.specs.View.{static_tree_of, file_of, made_of}
 use Rattle.word_base.specs.Name.{IsName}
 use Rattle.c_syntax.specs.Counts.{IsWithinLimits}

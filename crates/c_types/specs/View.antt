@@ -10,7 +10,7 @@ use Rattle.c_types.specs.declared.units.TypedBody as bodies
 use Rattle.c_tree.specs.View.{stmt_of}
 use Rattle.c_rules.specs.LocalView.{local_tree_of}
 use Rattle.c_rules.specs.Statements.{Typed}
-use Rattle.c_frames.specs.FunctionView.{frame_lists, typed_function_of}
+use Rattle.c_limits.specs.FunctionView.{frame_lists, typed_function_of}
 use Rattle.c_scopes.specs.Tables.{scope_of}
 use Rattle.c_rules.specs.Programs.{object_tree, functions_with}
 use Rattle.c_rules.specs.Units.{StaticTree, File}

@@ -13,11 +13,11 @@ ghost use Rattle.c_tree.specs.WellFormedProgram.{IsProgram};
 ghost use Rattle.c_rules.specs.Checked.{IsTyped};
 ghost use Rattle.c_rules.specs.Faults.{Says};
 ghost use Rattle.c_rules.specs.Programs.{functions_with, object_tree};
-ghost use Rattle.c_frames.specs.FunctionView.{frame_lists, typed_function_of};
+ghost use Rattle.c_limits.specs.FunctionView.{frame_lists, typed_function_of};
 ghost use Rattle.c_types.specs.View.{static_tree_of, made_of};
 
 use crate::units::{Contents, File, Static};
-use c_frames::{TypedFunction, frames_of, function_of};
+use c_limits::{TypedFunction, frames_of, function_of};
 use c_rules::{ObjectType, TypeFault};
 use c_syntax::Unit;
 use c_tree::{Function, Object, Program, VarRef};
@@ -34,8 +34,8 @@ pub fn check(alloc: Global, unit: &Unit) -> Result<Program, TypeFault>
     ensures typed { IfOk result (λ p. IsTyped (unit_of unit.now) (program_of p)) }
     ensures refused { IfErr result (Says (unit_of unit.now)) }
 {
-    shape_laws::typed_programs_are_placed();
-    shape_laws::typed_programs_are_of_words();
+    c_types_proof::typed_programs_are_placed();
+    c_types_proof::typed_programs_are_of_words();
     let file = File::of(alloc, unit.externals())?;
     let frames = frames_of(alloc, &file.functions)?;
     Ok(program(alloc, file.contents(), frames)?)

@@ -15,7 +15,7 @@ ghost use Rattle.c_rules.specs.Declarations.{parameters};
 
 use c_bodies::Body;
 use c_conversions::starred;
-use c_frames::TypedFunction;
+use c_limits::TypedFunction;
 use c_objects::{Starts, boxed, redeclared, spelled, static_list};
 use c_rules::{Declared, FunctionType, Local, ObjectType, Refusal, mismatch};
 use c_scopes::{

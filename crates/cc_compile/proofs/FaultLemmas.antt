@@ -2,14 +2,14 @@
 use Rattle.std.proofs.Common.{◌≡◌, ◌≢◌, ℕ, List, Ok, Err, refl, sym, subst}
 use Rattle.std.specs.Prelude.{Result, IfErr, IsErrAnd}
 use Rattle.c_tree.specs.TypedTree.{ProgramTree}
-use Rattle.cc_frames.specs.declared.options.Options.{Options}
+use Rattle.frame_layouts.specs.declared.options.Options.{Options}
 use Rattle.cc_image.specs.Faults.{Says}
 use Rattle.cc_image.specs.declared.fault.TranslationFault.{TranslationFault}
 use Rattle.cc_image.specs.declared.fault.TranslationFault.TheVariants as translation
-use Rattle.cc_fault.specs.PartFaults.{of_translation_fault}
-use Rattle.cc_fault.specs.SourceFaults.{HasProgram, HasFault}
-use Rattle.cc_fault.specs.declared.fault.BuildFault.{BuildFault}
-use Rattle.cc_fault.specs.declared.fault.BuildFault.TheVariants as faults
+use Rattle.cc_compile.specs.PartFaults.{of_translation_fault}
+use Rattle.cc_compile.specs.SourceFaults.{HasProgram, HasFault}
+use Rattle.cc_compile.specs.declared.fault.BuildFault.{BuildFault}
+use Rattle.cc_compile.specs.declared.fault.BuildFault.TheVariants as faults
 
 -- a fault that is passed on as another
 pub passed_on : {A : Type 0} (r : Result A BuildFault) (given : BuildFault) (P : BuildFault → Type 0) → IsErrAnd r (λ e. e ≡ given) → P given → IfErr r P

@@ -1,1 +1,2 @@
+pub mod OneFault
 pub mod FaultLemmas

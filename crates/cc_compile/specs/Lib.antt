@@ -1,1 +1,3 @@
+pub mod PartFaults
+pub mod SourceFaults
 pub mod Compiles

@@ -1,14 +1,14 @@
 //! The typed program of a source.
 ghost use Rattle.std.specs.Prelude.{◌<◌, ◌^◌, ◌≢◌, length, IfOk, IfErr};
 ghost use Rattle.c_tree.specs.ProgramView.{program_of};
-ghost use Rattle.cc_fault.specs.declared.fault.BuildFault.TheVariants as faults;
-ghost use Rattle.cc_fault.specs.SourceFaults.{HasProgram, HasNoProgramFor};
+ghost use Rattle.cc_compile.specs.declared.fault.BuildFault.TheVariants as faults;
+ghost use Rattle.cc_compile.specs.SourceFaults.{HasProgram, HasNoProgramFor};
 
+use crate::BuildFault;
 use c_lexer::lex;
 use c_parser::parse;
 use c_tree::Program;
 use c_types::check;
-use cc_fault::BuildFault;
 use std::alloc::Global;
 
 /// The typed program of a source of less than 2^32 bytes, or the first fault of its tokens, its syntax or its types, in this

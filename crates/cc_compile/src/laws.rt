@@ -2,9 +2,9 @@
 ghost use Rattle.std.specs.Prelude.{◌≤◌, ◌<◌, ℕ, ◌+◌, ◌*◌, List};
 ghost use Rattle.c_syntax.specs.Counts.{unit_count};
 ghost use Rattle.c25_link.specs.declared.fault.LinkFault.TheVariants.{CodeFull};
-ghost use Rattle.cc_frames.specs.declared.options.Options.{Options};
-ghost use Rattle.cc_fault.specs.declared.fault.BuildFault.TheVariants.{Link};
-ghost use Rattle.cc_fault.specs.SourceFaults.{HasFault, HasTree};
+ghost use Rattle.frame_layouts.specs.declared.options.Options.{Options};
+ghost use Rattle.cc_compile.specs.declared.fault.BuildFault.TheVariants.{Link};
+ghost use Rattle.cc_compile.specs.SourceFaults.{HasFault, HasTree};
 
 /// The code of a source finds no room only where the source is large: the words that it needs are more than 65,536, and at most 1,000 and 64 for each of
 /// its expressions, statements and declared items. It does nothing: its clause is what callers cite.
@@ -15,5 +15,5 @@ pub fn full_code_is_large()
     c_syntax::trees_are_small();
     c_types::typed_is_well_formed();
     cc_image::code_is_bounded();
-    node_laws::programs_weigh_by_nodes();
+    size_proof::programs_weigh_by_nodes();
 }

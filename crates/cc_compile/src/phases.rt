@@ -1,17 +1,17 @@
 //! The compilation of one source.
 ghost use Rattle.std.specs.Prelude.{◌≡◌, ◌≢◌, ◌<◌, ◌^◌, length, map, All, IfOk, IfErr};
-ghost use Rattle.cc_fault.specs.declared.fault.BuildFault.TheVariants as faults;
-ghost use Rattle.cc_fault.specs.SourceFaults.{HasFault};
+ghost use Rattle.cc_compile.specs.declared.fault.BuildFault.TheVariants as faults;
+ghost use Rattle.cc_compile.specs.SourceFaults.{HasFault};
 ghost use Rattle.cc_compile.specs.Compiles.{IsBuilt};
-ghost use Rattle.cc_frames.specs.Frames.{AreOptions, ClaimsHold};
-ghost use Rattle.cc_frames.specs.Rows.{row_of};
+ghost use Rattle.frame_layouts.specs.Frames.{AreOptions, ClaimsHold};
+ghost use Rattle.frame_layouts.specs.Rows.{row_of};
 
+use crate::BuildFault;
 use crate::front::typed_program;
 use c25_isa::Image;
-use cc_fault::BuildFault;
-use cc_frames::{Options, report_rows};
 use cc_image::{Translated, translate};
 use cc_report::ReportRow;
+use frame_layouts::{Options, report_rows};
 use lay_cert::Certificate;
 use std::alloc::Global;
 use std::thread::Threads;
@@ -64,7 +64,7 @@ pub fn compile<R: Threads + Sync, G: Gate + Sync>(
     ensures refused { IfErr result (λ why. why ≢ faults.NoMemory → HasFault options source.now why) }
 {
     cc_image::code_is_bounded();
-    node_laws::programs_weigh_by_nodes();
+    size_proof::programs_weigh_by_nodes();
     let program = typed_program(alloc, source)?;
     let translated = translate(rt, alloc, gate, options, &program)?;
     Ok(with_rows(alloc, translated)?)

@@ -1,7 +1,6 @@
 //! What a source is compiled to.
-use cc_compile::compile;
-use cc_fault::BuildFault;
-use cc_frames::Options;
+use cc_compile::{BuildFault, compile};
+use frame_layouts::Options;
 use cc_report::ReportRow;
 use meeting_gate::Meeting;
 use std::alloc::Global;

@@ -3,8 +3,8 @@ use Rattle.std.specs.Prelude.{◌≡◌, ℕ, List}
 use Rattle.c25_isa.specs.Image.{Contents}
 use Rattle.c25_image.specs.PortText.{PortText}
 use Rattle.lay_cert.specs.Frames.{Frame}
-use Rattle.cc_fault.specs.declared.fault.BuildFault.{BuildFault}
-use Rattle.cc_fault.specs.SourceFaults.{HasFault}
+use Rattle.cc_compile.specs.declared.fault.BuildFault.{BuildFault}
+use Rattle.cc_compile.specs.SourceFaults.{HasFault}
 use Rattle.cc_compile.specs.Compiles.{IsBuilt}
 use Rattle.cc_text.specs.Answers.{Answered}
 use Rattle.cc_text.specs.Refusals.{Why, OfSource}

@@ -8,11 +8,11 @@ use Rattle.c_tree.specs.TypedTree.{ProgramTree}
 use Rattle.tree_code.specs.Lowered.{lowered_program}
 use Rattle.c25_isa.specs.declared.event.Stop.{Stop}
 use Rattle.c25_isa.specs.declared.event.Stop.TheVariants as stop
-use Rattle.code_runs.specs.Keeps.{Ended, tree_run}
+use Rattle.ir_semantics.specs.Keeps.{Ended, tree_run}
 use Rattle.mem_plan.specs.declared.data_plan.DataPlan.{DataPlan}
 use Rattle.frame_emit.specs.Startup.{static_words}
-use Rattle.run_laws.specs.PlanPlaces.{places_of}
-use Rattle.exec_laws.specs.Telling.{EndsSo, IsUndefined}
+use Rattle.image_proof.specs.PlanPlaces.{places_of}
+use Rattle.image_proof.specs.Telling.{EndsSo, IsUndefined}
 
 -- so many steps are within the bound for a program that ends so: 1,000, 16 for each word of static objects and their spare words, and 64 for each unit of
 -- work, which is that of the program's word tree

@@ -14,11 +14,11 @@ use Rattle.mem_plan.specs.Plan.{AreArranged, IsPlan}
 use Rattle.c25_isa.specs.Image.{Contents}
 use Rattle.c25_isa.specs.Pieces.{Linked, PiecesFit}
 use Rattle.c25_code.specs.Links.{pieces_size}
-use Rattle.image_laws.specs.Agreeing.{emission_of}
-use Rattle.image_laws.specs.Keeping.{all_pieces as emission_pieces}
-use Rattle.direct_laws.specs.Directs.{AreDirect}
-use Rattle.cc_frames.specs.declared.options.Options.{Options}
-use Rattle.cc_frames.specs.Frames.{AreOptions}
+use Rattle.image_proof.specs.Agreeing.{emission_of}
+use Rattle.image_proof.specs.Keeping.{all_pieces as emission_pieces}
+use Rattle.walk_proof.specs.Directs.{AreDirect}
+use Rattle.frame_layouts.specs.declared.options.Options.{Options}
+use Rattle.frame_layouts.specs.Frames.{AreOptions}
 use Rattle.cc_image.specs.Images.{HasImage, IsDirect, all_pieces, layouts}
 use Rattle.cc_image.proofs.AgreementLemmas.{size_same}
 use Rattle.cc_image.proofs.OneImage.{one_plan}

@@ -19,8 +19,8 @@ use Rattle.lay_cost.specs.Cost as costs
 use Rattle.mem_plan.specs.declared.data_plan.DataPlan.{DataPlan}
 use Rattle.mem_plan.specs.declared.data_plan.FramePlan.{FramePlan}
 use Rattle.mem_plan.specs.Plan.{AreArranged, IsArranged, IsPlan, list_bases, frames_from, frames_start}
-use Rattle.cc_frames.specs.declared.options.Options.{Options}
-use Rattle.cc_frames.specs.Frames.{AreOptions, AreBased, accesses_of, layout_of}
+use Rattle.frame_layouts.specs.declared.options.Options.{Options}
+use Rattle.frame_layouts.specs.Frames.{AreOptions, AreBased, accesses_of, layout_of}
 use Rattle.cc_image.specs.Images.{layouts}
 use Rattle.cc_image.proofs.PieceLemmas.{known_names}
 

@@ -33,16 +33,16 @@ use Rattle.c25_helper.specs.Calls.{pieces_call, called_helper_pieces}
 use Rattle.c25_helper.specs.Names.{CallsNone}
 use Rattle.c25_helper.specs.Routines.{helper_pieces}
 use Rattle.c25_link.specs.Linking.{AreLinkable}
-use Rattle.frame_flow.specs.Cuts.{function_items}
-use Rattle.frame_flow.specs.Settings.{Setting, helper_name, name_or_none}
-use Rattle.flow_laws.specs.Calls.{IsNameOf}
-use Rattle.flow_laws.proofs.Pieces.{piece_calls}
+use Rattle.emit_control.specs.Cuts.{function_items}
+use Rattle.emit_control.specs.Settings.{Setting, helper_name, name_or_none}
+use Rattle.emit_proof.specs.Calls.{IsNameOf}
+use Rattle.emit_proof.proofs.Pieces.{piece_calls}
 use Rattle.frame_emit.specs.Emitted.{function_piece, function_pieces, setting_of, behind_startup}
 use Rattle.frame_emit.specs.Frames.{all_parameters}
 use Rattle.frame_emit.specs.Startup.{startup_name, startup_piece, fillings_code}
 use Rattle.frame_emit.proofs.Naming.{their_names, no_name}
-use Rattle.cc_frames.specs.declared.options.Options.{Options}
-use Rattle.cc_frames.specs.Frames.{layout_of}
+use Rattle.frame_layouts.specs.declared.options.Options.{Options}
+use Rattle.frame_layouts.specs.Frames.{layout_of}
 use Rattle.cc_image.specs.Images.{own_pieces, all_pieces, layouts}
 use Rattle.cc_image.proofs.NameLemmas.{known_either, same}
 use Rattle.cc_image.proofs.LayoutLemmas.{all_based}

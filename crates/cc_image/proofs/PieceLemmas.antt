@@ -13,13 +13,13 @@ use Rattle.std.specs.Prelude.{slice_index_or}
 use Rattle.c25_helper.specs.Calls.{pieces_call}
 use Rattle.c25_helper.specs.Routines.{all_routines, helper_pieces, routine_piece}
 use Rattle.c25_link.specs.Linking.{IsLinkable}
-use Rattle.flow_laws.proofs.Words.{piece_has_word}
+use Rattle.emit_proof.proofs.Words.{piece_has_word}
 use Rattle.frame_emit.specs.Frames.{all_parameters}
 use Rattle.frame_emit.specs.Startup.{startup_piece}
 use Rattle.frame_emit.specs.Emitted.{function_piece, function_pieces, setting_of}
 use Rattle.std.proofs.Math.Logic.{∥∥₁_map}
 use Rattle.cc_image.proofs.NameLemmas.{known_either, names_either}
-use Rattle.cc_frames.specs.declared.options.Options.{Options}
+use Rattle.frame_layouts.specs.declared.options.Options.{Options}
 use Rattle.cc_image.specs.Images.{own_pieces, all_pieces, layouts}
 
 first_of : {A : Type 0} (P : A → Type 0) (x : A) (xs : List A) → All P (x ∷ xs) → P x

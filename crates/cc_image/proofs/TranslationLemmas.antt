@@ -8,12 +8,12 @@ use Rattle.c_tree.specs.TypedTree.{ProgramTree}
 use Rattle.c_tree.specs.WellFormedProgram.{IsProgram}
 use Rattle.c_tree.specs.TypedOfWords.{ProgramHasWords}
 use Rattle.acc_select.specs.Selected.{selected}
-use Rattle.code_runs.specs.Keeps.{acc_run, tree_run}
-use Rattle.code_runs.specs.Outside.{Places}
-use Rattle.lower_laws.specs.Lowering.{KeepsSource}
-use Rattle.lower_laws.specs.Surroundings.{ArePlaces}
+use Rattle.ir_semantics.specs.Keeps.{acc_run, tree_run}
+use Rattle.ir_semantics.specs.Outside.{Places}
+use Rattle.tree_code_proof.specs.Lowering.{KeepsSource}
+use Rattle.tree_code_proof.specs.Surroundings.{ArePlaces}
 use Rattle.mem_plan.specs.Plan.{AreArranged, IsPlan}
-use Rattle.run_laws.specs.PlanPlaces.{places_of}
+use Rattle.image_proof.specs.PlanPlaces.{places_of}
 use Rattle.tree_code.specs.WordTree.{ProgramCode}
 use Rattle.tree_code.specs.Lowered.{lowered_program}
 use Rattle.acc_code.specs.AccTree.{FunctionItems}
@@ -23,12 +23,12 @@ use Rattle.tree_code.specs.WordHelpers.{uses_helper}
 use Rattle.mem_plan.specs.declared.data_plan.DataPlan.{DataPlan}
 use Rattle.mem_plan.specs.declared.data_plan.PlanFault.TheVariants as plan_faults
 use Rattle.c25_link.specs.declared.fault.LinkFault.TheVariants as link_faults
-use Rattle.frame_flow.specs.Emits.{IsRightItem}
+use Rattle.emit_control.specs.Emits.{IsRightItem}
 use Rattle.frame_emit.proofs.Naming.{all_right}
 use Rattle.cc_image.specs.declared.fault.TranslationFault.{TranslationFault}
 use Rattle.cc_image.specs.declared.fault.TranslationFault.TheVariants.{Plan, Link, NoMemory}
 use Rattle.cc_image.specs.Faults.{Says, SaysOfTree, SaysOfPieces}
-use Rattle.cc_frames.specs.declared.options.Options.{Options}
+use Rattle.frame_layouts.specs.declared.options.Options.{Options}
 use Rattle.cc_image.specs.Images.{IsPlanOf, KeepsRuns, TreeKeepsRuns, all_pieces, layouts}
 
 pub element_at : {A : Type 0} (xs : List A) (k : ℕ) (d : A) → k < length xs → slice_get xs k ≡ Some (slice_index_or xs k d)

@@ -11,7 +11,7 @@ use Rattle.tree_code.specs.WordTree.{ProgramCode}
 use Rattle.mem_plan.specs.Plan.{IsTooLarge}
 use Rattle.c25_isa.specs.Pieces.{Piece}
 use Rattle.c25_link.specs.Linking.{pieces_words}
-use Rattle.cc_frames.specs.declared.options.Options.{Options}
+use Rattle.frame_layouts.specs.declared.options.Options.{Options}
 use Rattle.cc_image.specs.Images.{HasPlanFault, HasLinkFault}
 
 abbrev pub of_plan_fault : PlanFault → TranslationFault

@@ -12,16 +12,16 @@ use Rattle.mem_plan.specs.declared.data_plan.PlanFault.{PlanFault}
 use Rattle.mem_plan.specs.declared.data_plan.PlanFault.TheVariants as plan_faults
 use Rattle.mem_plan.specs.Plan.{IsPlan, IsTooLarge}
 use Rattle.frame_emit.specs.Emitted.{emitted}
-use Rattle.access_laws.specs.SourceSequences.{source_sequence}
-use Rattle.code_runs.specs.Keeps.{acc_run, tree_run}
-use Rattle.lower_laws.specs.Lowering.{KeepsSource}
-use Rattle.run_laws.specs.PlanPlaces.{places_of}
-use Rattle.image_laws.specs.Agreeing.{EndsInTime, emission_of}
-use Rattle.direct_laws.specs.Directs.{AreDirect}
-use Rattle.image_walks.specs.FunctionWalks.{place_of}
+use Rattle.acc_select_proof.specs.SourceSequences.{source_sequence}
+use Rattle.ir_semantics.specs.Keeps.{acc_run, tree_run}
+use Rattle.tree_code_proof.specs.Lowering.{KeepsSource}
+use Rattle.image_proof.specs.PlanPlaces.{places_of}
+use Rattle.image_proof.specs.Agreeing.{EndsInTime, emission_of}
+use Rattle.walk_proof.specs.Directs.{AreDirect}
+use Rattle.walk_proof.specs.FunctionWalks.{place_of}
 use Rattle.lay_cert.specs.Frames.{Frame}
-use Rattle.cc_frames.specs.declared.options.Options.{Options}
-use Rattle.cc_frames.specs.Frames.{layout_of, frames_of}
+use Rattle.frame_layouts.specs.declared.options.Options.{Options}
+use Rattle.frame_layouts.specs.Frames.{layout_of, frames_of}
 use Rattle.c25_isa.specs.declared.image.FunctionRange.{FunctionRange}
 use Rattle.c25_isa.specs.AddressCount.{address_count}
 use Rattle.c25_isa.specs.Image.{Contents}

@@ -3,8 +3,8 @@ ghost use Rattle.std.specs.Prelude.{◌≡◌, ◌≤◌, ℕ, ◌+◌, List, le
 ghost use Rattle.c_tree.specs.TypedTree.{ProgramTree};
 ghost use Rattle.c_tree.specs.WellFormedProgram.{IsProgram};
 ghost use Rattle.c25_isa.specs.Image.{Contents};
-ghost use Rattle.code_runs.specs.SourceWeights.{source_weight};
-ghost use Rattle.cc_frames.specs.declared.options.Options.{Options};
+ghost use Rattle.ir_semantics.specs.SourceWeights.{source_weight};
+ghost use Rattle.frame_layouts.specs.declared.options.Options.{Options};
 ghost use Rattle.lay_cert.specs.Frames.{Frame};
 ghost use Rattle.cc_image.specs.Images.{HasFrames, HasImage, HasTooMuchData, HasTooMuchCode};
 
@@ -27,5 +27,5 @@ pub fn code_is_bounded()
     ensures image { (o : Options) (t : ProgramTree) (a : Contents) → ∥ IsProgram t ∥₁ → HasImage o t a → length a.words ≤ 1000 + source_weight t }
     ensures full { (o : Options) (t : ProgramTree) (n : ℕ) → ∥ IsProgram t ∥₁ → HasTooMuchCode o t n → n ≤ 1000 + source_weight t }
 {
-    size_laws::code_fits_its_weight();
+    size_proof::code_fits_its_weight();
 }

@@ -6,7 +6,7 @@ mod laws;
 mod phases;
 
 pub use c25_link::LinkFault;
-pub use cc_frames::Options;
+pub use frame_layouts::Options;
 pub use fault::TranslationFault;
 pub use laws::{code_is_bounded, one_image};
 pub use mem_plan::PlanFault;

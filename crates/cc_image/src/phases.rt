@@ -10,7 +10,7 @@ ghost use Rattle.c25_link.specs.Linking.{AreLinkable, linked_image, pieces_words
 ghost use Rattle.c_tree.specs.ProgramView.{program_of};
 ghost use Rattle.c_tree.specs.SourceRun.{source_run};
 ghost use Rattle.c_tree.specs.TypedTree.{ProgramTree};
-ghost use Rattle.cc_frames.specs.Frames.{AreOptions, AreLayouts, ClaimsHold, accesses_of, frames_of};
+ghost use Rattle.frame_layouts.specs.Frames.{AreOptions, AreLayouts, ClaimsHold, accesses_of, frames_of};
 ghost use Rattle.cc_image.specs.Faults.{Says, SaysOfPieces, SaysOfTree};
 ghost use Rattle.cc_image.specs.Images.{AccessAs, AreWalked, EndsWithin, HasFrames, HasImage, IsDirect, KeepsRuns, TreeKeepsRuns, all_pieces, layouts as laid_out, with_helpers as with_called};
 ghost use Rattle.lay_cert.specs.Frames.{Frame};
@@ -25,7 +25,7 @@ use c_tree::Program;
 use c25_helper::called_helpers;
 use c25_isa::{Image, Piece};
 use c25_link::{counted_words, link};
-use cc_frames::{Layouts, Options, certificate_of, lay_out};
+use frame_layouts::{Layouts, Options, certificate_of, lay_out};
 use frame_emit::emit;
 use lay_cert::Certificate;
 use mem_plan::{DataPlan, plan};
@@ -91,7 +91,7 @@ fn with_plan<R: Threads + Sync, G: Gate + Sync>(
     ensures arranged { IfOk result (λ _. AreArranged (tree_of chosen.now.tree).functions (laid_out options (tree_of chosen.now.tree))) }
     ensures refused { IfErr result (SaysOfTree (tree_of chosen.now.tree)) }
 {
-    cc_frames::layouts_are_arranged();
+    frame_layouts::layouts_are_arranged();
     let layouts = lay_out(rt, alloc, gate, options, functions(chosen))?;
     let plan = plan(alloc, &chosen.tree, &layouts.arrangements)?;
     Ok(Planned { layouts, plan })
@@ -120,7 +120,7 @@ fn pieces(
     requires plan { IsPlan (tree_of chosen.now.tree) (laid_out options (tree_of chosen.now.tree)) planned.now.plan }
     ensures { IfOk result (λ all. map piece_of all.items ≡ all_pieces options (tree_of chosen.now.tree) planned.now.plan) }
 {
-    cc_frames::layouts_are_arranged();
+    frame_layouts::layouts_are_arranged();
     let own = emit(
         alloc,
         &chosen.code,
@@ -158,7 +158,7 @@ fn certified(
     requires plan { IsPlan (tree_of tree.now) (laid_out options (tree_of tree.now)) planned.plan }
     ensures { IfOk result (λ cert. cert ≡ frames_of options (selected (tree_of tree.now)) planned.plan.frames) }
 {
-    cc_frames::frames_are_arranged();
+    frame_layouts::frames_are_arranged();
     certificate_of(
         alloc,
         options.registers,
@@ -208,8 +208,8 @@ fn finished<R: Threads + Sync, G: Gate + Sync>(
     ensures claims { IfOk result (λ made. All ClaimsHold made.certificate) }
     ensures refused { (t : ProgramTree) → tree_of chosen.now.tree ≡ lowered_program t → IfErr result (Says options t) }
 {
-    cc_frames::claims_hold();
-    cc_frames::frames_are_arranged();
+    frame_layouts::claims_hold();
+    frame_layouts::frames_are_arranged();
     let planned = with_plan(rt, alloc, gate, options, chosen)?;
     let image = image_of(alloc, options, chosen, &planned)?;
     let certificate = certified(alloc, options, &chosen.tree, planned)?;
@@ -246,12 +246,12 @@ pub fn translate<R: Threads + Sync, G: Gate + Sync>(
     ensures claims { IfOk result (λ made. All ClaimsHold made.certificate) }
     ensures refused { IfErr result (Says options (program_of program.now)) }
 {
-    access_laws::accesses_are_kept();
-    run_laws::translation_keeps_runs();
-    lower_laws::lowering_keeps_runs();
-    image_laws::images_agree();
-    image_walks::programs_walk();
-    direct_laws::programs_are_direct();
+    acc_select_proof::accesses_are_kept();
+    image_proof::translation_keeps_runs();
+    tree_code_proof::lowering_keeps_runs();
+    image_proof::images_agree();
+    walk_proof::programs_walk();
+    walk_proof::programs_are_direct();
     let chosen = choose(alloc, program)?;
     finished(rt, alloc, gate, options, &chosen)
 }

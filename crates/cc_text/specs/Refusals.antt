@@ -10,8 +10,8 @@ use Rattle.lay_text.specs.declared.fault.SeqFault.{SeqFault}
 use Rattle.lay_text.specs.declared.fault.SeqFault.TheVariants as sequence_faults
 use Rattle.lay_cert.specs.declared.fault.CertFault.{CertFault}
 use Rattle.lay_cert.specs.declared.fault.CertFault.TheVariants as certificate_faults
-use Rattle.cc_fault.specs.declared.fault.BuildFault.{BuildFault}
-use Rattle.cc_fault.specs.declared.fault.BuildFault.TheVariants as build_faults
+use Rattle.cc_compile.specs.declared.fault.BuildFault.{BuildFault}
+use Rattle.cc_compile.specs.declared.fault.BuildFault.TheVariants as build_faults
 use Rattle.cc_text.specs.declared.refusal.FileFault.{FileFault}
 use Rattle.cc_text.specs.declared.refusal.FileFault.TheVariants.{Read, TooLong, Image, Ports, Sequence, Certificate, Assembly}
 use Rattle.cc_text.specs.declared.refusal.Refusal.{Refusal}

@@ -12,8 +12,8 @@ use Rattle.mem_plan.specs.declared.data_plan.PlanFault.{PlanFault}
 use Rattle.mem_plan.specs.declared.data_plan.PlanFault.TheVariants as plan_faults
 use Rattle.c25_link.specs.declared.fault.LinkFault.{LinkFault}
 use Rattle.c25_link.specs.declared.fault.LinkFault.TheVariants as link_faults
-use Rattle.cc_fault.specs.declared.fault.BuildFault.{BuildFault}
-use Rattle.cc_fault.specs.declared.fault.BuildFault.TheVariants.{Lex, Parse, Types, Plan, Link, NoMemory}
+use Rattle.cc_compile.specs.declared.fault.BuildFault.{BuildFault}
+use Rattle.cc_compile.specs.declared.fault.BuildFault.TheVariants.{Lex, Parse, Types, Plan, Link, NoMemory}
 
 -- the line of a fault at a place
 abbrev pub place_line : List ℕ → ℕ → List ℕ

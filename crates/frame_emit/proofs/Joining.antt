@@ -10,8 +10,8 @@ use Rattle.tree_code.specs.WordTree.{FunctionCode}
 use Rattle.tree_code.specs.WordView.{function_code_of}
 use Rattle.mem_plan.specs.declared.data_plan.DataPlan.{DataPlan}
 use Rattle.mem_plan.specs.declared.data_plan.FramePlan.{FramePlan}
-use Rattle.frame_runs.specs.declared.site.ScalarPlace.{ScalarPlace}
-use Rattle.frame_flow.specs.Settings.{Setting}
+use Rattle.emit_blocks.specs.declared.site.ScalarPlace.{ScalarPlace}
+use Rattle.emit_control.specs.Settings.{Setting}
 use Rattle.frame_emit.specs.Frames.{scalar_places, parameter_addresses, all_parameters}
 use Rattle.frame_emit.specs.Emitted.{setting_of, function_piece, function_pieces}
 

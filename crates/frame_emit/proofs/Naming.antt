@@ -12,7 +12,7 @@ use Rattle.mem_plan.specs.declared.data_plan.FramePlan.{FramePlan}
 use Rattle.mem_plan.specs.DataNeeds.{objects_words}
 use Rattle.mem_plan.specs.Plan.{AreArranged, IsPlan, frames_from}
 use Rattle.std.proofs.lemmas.List.Sums.{sum_by-cons}
-use Rattle.frame_flow.specs.Emits.{IsRightItem}
+use Rattle.emit_control.specs.Emits.{IsRightItem}
 use Rattle.frame_emit.specs.Emitted.{IsCounted, function_piece, function_pieces}
 use Rattle.frame_emit.specs.Startup.{startup_name, static_words}
 

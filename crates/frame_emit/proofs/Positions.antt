@@ -4,8 +4,8 @@ use Rattle.std.proofs.lemmas.List.Sums.{sum_by-cons}
 use Rattle.c_tree.specs.declared.program.Object.{Object}
 use Rattle.c_tree.specs.TypedTree.{ObjectTree}
 use Rattle.c_tree.specs.View.{object_of}
-use Rattle.frame_runs.specs.declared.site.ScalarPlace.{ScalarPlace}
-use Rattle.frame_runs.specs.Right.{HaveRegisters}
+use Rattle.emit_blocks.specs.declared.site.ScalarPlace.{ScalarPlace}
+use Rattle.emit_blocks.specs.Right.{HaveRegisters}
 use Rattle.frame_emit.specs.Frames.{FIRST_REGISTER, one_further, scalar_place, scalar_places}
 use Rattle.frame_emit.specs.Startup.{static_words}
 

@@ -5,8 +5,8 @@ use Rattle.acc_code.specs.AccTree.{FunctionItems}
 use Rattle.c25_isa.specs.Pieces.{Piece}
 use Rattle.mem_plan.specs.declared.data_plan.DataPlan.{DataPlan}
 use Rattle.mem_plan.specs.declared.data_plan.FramePlan.{FramePlan}
-use Rattle.frame_flow.specs.Settings.{Setting}
-use Rattle.frame_flow.specs.Cuts.{function_items}
+use Rattle.emit_control.specs.Settings.{Setting}
+use Rattle.emit_control.specs.Cuts.{function_items}
 use Rattle.frame_emit.specs.Frames.{places_in, all_parameters}
 use Rattle.frame_emit.specs.Startup.{startup_piece}
 

@@ -6,8 +6,8 @@ use Rattle.tree_code.specs.WordTree.{FunctionCode}
 use Rattle.c25_isa.specs.Step.{wrap16}
 use Rattle.mem_plan.specs.declared.data_plan.DataPlan.{DataPlan}
 use Rattle.mem_plan.specs.declared.data_plan.FramePlan.{FramePlan}
-use Rattle.frame_runs.specs.declared.site.ScalarPlace.{ScalarPlace}
-use Rattle.frame_runs.specs.Places.{Places, address_in}
+use Rattle.emit_blocks.specs.declared.site.ScalarPlace.{ScalarPlace}
+use Rattle.emit_blocks.specs.Places.{Places, address_in}
 
 -- the first address register that goes over a list
 abbrev pub FIRST_REGISTER : ℕ

@@ -16,7 +16,7 @@ use Rattle.c25_isa.specs.Step.{wrap16}
 use Rattle.c25_code.specs.Items.{plain_items}
 use Rattle.c25_code.specs.ClearingLoops.{clears_at_one}
 use Rattle.c25_code.specs.Startups.{startup_items}
-use Rattle.frame_runs.specs.Places.{address_in}
+use Rattle.emit_blocks.specs.Places.{address_in}
 
 -- no function of a program has this name
 abbrev pub startup_name : List ℕ

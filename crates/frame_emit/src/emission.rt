@@ -5,7 +5,7 @@ ghost use Rattle.acc_code.specs.Emittable.{Throughout};
 ghost use Rattle.c25_isa.specs.Pieces.{piece_of};
 ghost use Rattle.frame_emit.specs.Emitted.{emitted, function_pieces};
 ghost use Rattle.frame_emit.specs.Startup.{static_words};
-ghost use Rattle.frame_flow.specs.Emits.{IsRightItem};
+ghost use Rattle.emit_control.specs.Emits.{IsRightItem};
 ghost use Rattle.tree_code.specs.ProgramView.{tree_of};
 ghost use Rattle.tree_code.specs.WordView.{function_code_of};
 

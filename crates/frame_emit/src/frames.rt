@@ -1,13 +1,13 @@
 //! Where the words of frames are.
 ghost use Rattle.std.specs.Prelude.{◌≡◌, ◌<◌, ◌≤◌, length, map, All, IfOk, IfSome, vec_items};
 ghost use Rattle.c_tree.specs.View.{object_of};
-ghost use Rattle.frame_runs.specs.Places.{address_in};
-ghost use Rattle.frame_runs.specs.Right.{HaveRegisters};
+ghost use Rattle.emit_blocks.specs.Places.{address_in};
+ghost use Rattle.emit_blocks.specs.Right.{HaveRegisters};
 ghost use Rattle.frame_emit.specs.Frames as spec;
 ghost use Rattle.tree_code.specs.WordView.{function_code_of};
 
 use c_tree::{Object, VarRef};
-use frame_flow::ScalarPlace;
+use emit_control::ScalarPlace;
 use lay_model::{Arrangement, ScalarList};
 use mem_plan::FramePlan;
 use std::alloc::Global;

@@ -3,7 +3,7 @@
 
 ghost use Rattle.std.specs.Prelude.{◌≡◌, ◌++◌, ◌∷◌, [], map, None, OnOk};
 ghost use Rattle.c_tree.specs.View.{object_of};
-ghost use Rattle.frame_runs.specs.Appended.{Appends};
+ghost use Rattle.emit_blocks.specs.Appended.{Appends};
 ghost use Rattle.frame_emit.specs.Startup as spec;
 
 use crate::code::Code;

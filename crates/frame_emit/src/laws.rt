@@ -8,7 +8,7 @@ ghost use Rattle.acc_code.specs.AccTree.{FunctionItems, ItemList};
 ghost use Rattle.acc_code.specs.Emittable.{Throughout, RefersRight};
 ghost use Rattle.mem_plan.specs.declared.data_plan.DataPlan.{DataPlan};
 ghost use Rattle.mem_plan.specs.Plan.{AreArranged, IsPlan};
-ghost use Rattle.frame_flow.specs.Emits.{IsRightItem};
+ghost use Rattle.emit_control.specs.Emits.{IsRightItem};
 ghost use Rattle.frame_emit.specs.Emitted.{IsCounted, behind_startup, emitted};
 ghost use Rattle.frame_emit.specs.Startup.{startup_name, startup_piece, static_words};
 

@@ -5,7 +5,7 @@ use Rattle.c_rules.specs.Answers.{Refuses}
 use Rattle.c_rules.specs.Faults.{Says, fault_of}
 use Rattle.c_rules.specs.Units.{typed_unit}
 use Rattle.c_types.proofs.ProgramLemmas.{refusal_says, says_source, typed_source}
-use Rattle.c_frames.proofs.WholeLemmas.{fault_says}
+use Rattle.c_limits.proofs.WholeLemmas.{fault_says}
 use Rattle.c_types.proofs.ProgramLemmas.{made_is_formed, made_is_typed}
 use Rattle.c_types.proofs.program.check.Goals as goal
 

@@ -1,7 +1,7 @@
 use Rattle.std.proofs.Common.{arith}
 use Rattle.std.proofs.lemmas.List.{nil_from_length}
 use Rattle.std.specs.Vec.Iter.{into_iter_items}
-use Rattle.c_frames.specs.FunctionView.{frame_lists}
+use Rattle.c_limits.specs.FunctionView.{frame_lists}
 use Rattle.c_types.proofs.ProgramLemmas.{all_functions}
 use Rattle.c_types.proofs.program.functions.Goals as goal
 

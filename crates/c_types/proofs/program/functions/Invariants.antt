@@ -2,8 +2,8 @@ use Rattle.std.proofs.Common.{◌≡◌, ◌++◌, map}
 use Rattle.std.specs.Vec.Iter.{into_iter_items}
 use Rattle.c_tree.specs.View.{function_of}
 use Rattle.c_rules.specs.Programs.{functions_with}
-use Rattle.c_frames.specs.FunctionView.{typed_function_of}
-use Rattle.c_frames.specs.FunctionView.{frame_lists}
+use Rattle.c_limits.specs.FunctionView.{typed_function_of}
+use Rattle.c_limits.specs.FunctionView.{frame_lists}
 use Rattle.c_types.proofs.program.functions.Given as goal
 
 abbrev pub invariant-loop-f : goal.invariant-loop-f

@@ -1,7 +1,7 @@
 use Rattle.std.proofs.Common.{subst}
 use Rattle.c_syntax.specs.Source.{IsSource}
 use Rattle.c_syntax.specs.SyntaxView.{unit_of}
-use Rattle.shape_laws.proofs.Texts.{of_text}
+use Rattle.c_types_proof.proofs.Texts.{of_text}
 use Rattle.cc_compile.proofs.front.typed_program.Goals as goal
 
 pub check-requires : goal.check-requires

@@ -5,12 +5,12 @@ use Rattle.c_tree.specs.SourceRun.{source_run}
 use Rattle.c25_isa.specs.Agrees.{Agrees}
 use Rattle.c25_isa.specs.Image.{Contents}
 use Rattle.lay_cert.specs.Frames.{Frame}
-use Rattle.cc_frames.specs.Frames.{ClaimsHold}
+use Rattle.frame_layouts.specs.Frames.{ClaimsHold}
 use Rattle.cc_image.specs.Images.{AccessAs, AreWalked, EndsWithin, HasFrames, HasImage, IsDirect}
-use Rattle.cc_fault.specs.PartFaults.{of_translation_fault}
-use Rattle.cc_fault.specs.SourceFaults.{HasFault}
-use Rattle.cc_fault.specs.declared.fault.BuildFault.{BuildFault}
-use Rattle.cc_fault.specs.declared.fault.BuildFault.TheVariants as faults
+use Rattle.cc_compile.specs.PartFaults.{of_translation_fault}
+use Rattle.cc_compile.specs.SourceFaults.{HasFault}
+use Rattle.cc_compile.specs.declared.fault.BuildFault.{BuildFault}
+use Rattle.cc_compile.specs.declared.fault.BuildFault.TheVariants as faults
 use Rattle.cc_compile.proofs.FaultLemmas.{no_image, passed_on}
 use Rattle.cc_compile.proofs.phases.compile.Goals as goal
 

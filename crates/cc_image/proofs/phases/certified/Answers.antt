@@ -4,7 +4,7 @@ use Rattle.acc_select.specs.Selected.{selected}
 use Rattle.lay_cert.specs.Frames.{Frame, IsFrame}
 use Rattle.mem_plan.specs.declared.data_plan.FramePlan.{FramePlan}
 use Rattle.tree_code.specs.ProgramView.{tree_of}
-use Rattle.cc_frames.specs.Frames.{AreBased, frames_with}
+use Rattle.frame_layouts.specs.Frames.{AreBased, frames_with}
 use Rattle.cc_image.proofs.LayoutLemmas.{all_based, all_named}
 use Rattle.cc_image.proofs.phases.certified.Goals as goal
 

@@ -7,7 +7,7 @@ use Rattle.lay_cert.specs.Frames.{Frame}
 use Rattle.mem_plan.specs.Plan.{IsPlan}
 use Rattle.tree_code.specs.ProgramView.{tree_of}
 use Rattle.tree_code.specs.WordTree.{ProgramCode}
-use Rattle.cc_frames.specs.Frames.{ClaimsHold, frames_of}
+use Rattle.frame_layouts.specs.Frames.{ClaimsHold, frames_of}
 use Rattle.cc_image.specs.Faults.{SaysOfPieces}
 use Rattle.cc_image.specs.Images.{all_pieces, layouts}
 use Rattle.cc_image.proofs.LayoutLemmas.{all_based}

@@ -1,6 +1,6 @@
 use Rattle.std.proofs.Common.{◌≡◌, ◌∙◌, ap, subst, List, map}
 use Rattle.std.specs.Prelude.{IfOk}
-use Rattle.access_laws.specs.SourceSequences.{source_sequence}
+use Rattle.acc_select_proof.specs.SourceSequences.{source_sequence}
 use Rattle.acc_code.specs.AccView.{functions_of}
 use Rattle.acc_select.specs.Selected.{selected}
 use Rattle.lay_cert.specs.Frames.{Frame}
@@ -8,7 +8,7 @@ use Rattle.lay_model.specs.Sequences.{Sequence}
 use Rattle.tree_code.specs.Lowered.{lowered_program}
 use Rattle.tree_code.specs.ProgramView.{tree_of}
 use Rattle.tree_code.specs.WordTree.{ProgramCode}
-use Rattle.cc_frames.specs.Frames.{accesses_of}
+use Rattle.frame_layouts.specs.Frames.{accesses_of}
 use Rattle.c_tree.specs.ProgramView.{program_of}
 use Rattle.cc_image.proofs.AgreementLemmas.{image_agrees, image_in_time, ok_of_both, ok_of_four}
 use Rattle.cc_image.proofs.DirectLemmas.{image_direct}

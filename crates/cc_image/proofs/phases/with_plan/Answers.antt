@@ -2,7 +2,7 @@ use Rattle.std.proofs.Common.{◌≡◌, ◌∙◌, map, ap, sym, subst}
 use Rattle.acc_code.specs.AccView.{function_items_of, functions_of}
 use Rattle.tree_code.specs.ProgramView.{tree_of}
 use Rattle.mem_plan.specs.Plan.{AreArranged, IsPlan}
-use Rattle.cc_frames.specs.Frames.{AreLayouts, layout_of}
+use Rattle.frame_layouts.specs.Frames.{AreLayouts, layout_of}
 use Rattle.cc_image.proofs.LayoutLemmas.{all_arranged}
 use Rattle.cc_image.proofs.phases.with_plan.Goals as goal
 

@@ -4,7 +4,7 @@ use Rattle.acc_code.specs.AccView.{function_items_of}
 use Rattle.acc_code.specs.Emittable.{Throughout}
 use Rattle.c25_isa.specs.Pieces.{piece_of}
 use Rattle.tree_code.specs.WordView.{function_code_of}
-use Rattle.frame_flow.specs.Emits.{IsRightItem}
+use Rattle.emit_control.specs.Emits.{IsRightItem}
 use Rattle.frame_emit.specs.Emitted.{function_piece, function_pieces}
 use Rattle.frame_emit.proofs.Joining.{one_more_piece, mapped_push, first_of, others_of}
 use Rattle.frame_emit.proofs.emission.push_functions.Goals as goal

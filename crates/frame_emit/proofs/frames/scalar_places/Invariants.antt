@@ -1,5 +1,5 @@
 use Rattle.std.proofs.Common.{◌≡◌}
-use Rattle.frame_runs.specs.Right.{HaveRegisters}
+use Rattle.emit_blocks.specs.Right.{HaveRegisters}
 use Rattle.frame_emit.specs.Frames.{scalar_places}
 use Rattle.frame_emit.proofs.frames.scalar_places.Given as goal
 

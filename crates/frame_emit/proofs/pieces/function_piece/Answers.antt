@@ -5,8 +5,8 @@ use Rattle.acc_code.specs.AccView.{function_items_of}
 use Rattle.c_tree.specs.TypedTree.{ObjectTree}
 use Rattle.c_tree.specs.View.{object_of}
 use Rattle.c25_isa.specs.Pieces.{piece_of}
-use Rattle.frame_flow.specs.Cuts.{function_items}
-use Rattle.frame_flow.specs.Settings.{Setting}
+use Rattle.emit_control.specs.Cuts.{function_items}
+use Rattle.emit_control.specs.Settings.{Setting}
 use Rattle.frame_emit.specs.Frames.{scalar_places}
 use Rattle.tree_code.specs.WordView.{function_code_of}
 use Rattle.frame_emit.proofs.Joining.{same_setting, same_names}

@@ -2,7 +2,7 @@ use Rattle.std.proofs.Common.{◌≡◌, ◌∙◌, ◌||◌, not, true, nat_lt,
 use Rattle.std.proofs.lemmas.Bool.{lt-ltb, le-ltb}
 use Rattle.std.proofs.lemmas.List.{length-map}
 use Rattle.c_syntax.specs.SyntaxView.{function_syntax_of, parameter_of}
-use Rattle.c_frames.specs.FunctionView.{typed_function_of}
+use Rattle.c_limits.specs.FunctionView.{typed_function_of}
 use Rattle.c_rules.specs.Answers.{Refuses}
 use Rattle.c_rules.specs.declared.local.Naming.TheVariants.{Needed}
 use Rattle.c_rules.specs.declared.meaning.FunctionType.{FunctionType}

@@ -2,7 +2,7 @@ use Rattle.std.proofs.Common.{◌∙◌, map, ap}
 use Rattle.c_syntax.specs.SyntaxView.{item_of}
 use Rattle.c_rules.specs.declared.meaning.Declared.TheVariants as declares
 use Rattle.c_rules.specs.Outcome.{Is}
-use Rattle.c_frames.specs.FunctionView.{typed_function_of}
+use Rattle.c_limits.specs.FunctionView.{typed_function_of}
 use Rattle.c_scopes.proofs.ScopesKept.{innermost}
 use Rattle.c_types.specs.View.{file_of, static_tree_of}
 use Rattle.c_types.proofs.UnitLemmas.{item_follows}

@@ -1,6 +1,0 @@
-use Rattle.std.proofs.Common.{take}
-use Rattle.c_frames.specs.Frames.{Marks}
-use Rattle.c_frames.proofs.frames.pointed_by.Given as goal
-
-abbrev pub invariant-loop-found : goal.invariant-loop-found
-invariant-loop-found l = Marks (take l.found-index l.uses) l.count l.marks.items

@@ -1,8 +1,0 @@
-use Rattle.c_frames.specs.Frames.{still}
-use Rattle.c_frames.proofs.FramesLemmas.{one_further}
-use Rattle.c_frames.proofs.frames.references.Goals as goal
-
-pub loop-n-preserved : goal.loop-n-preserved
-loop-n-preserved c =
-    one_further (still c.loop-n.numbering) (still c.add.new.self) c.args.pointed.now c.args.locals.now c.loop-n.n c.index-locals-n.result _ c.requires c.loop-n-test.true
-    c.index-locals-n.is c.in_ok-add.ensures c.loop-n.invariant

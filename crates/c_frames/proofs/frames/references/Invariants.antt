@@ -1,7 +1,0 @@
-use Rattle.std.proofs.Common.{◌≡◌, map, drop}
-use Rattle.c_frames.specs.Frames.{still, numbered_by}
-use Rattle.c_rules.specs.LocalView.{local_tree_of}
-use Rattle.c_frames.proofs.frames.references.Given as goal
-
-abbrev pub invariant-loop-n : goal.invariant-loop-n
-invariant-loop-n l = still l.numbering (drop l.n l.pointed) (map local_tree_of (drop l.n l.locals)) ≡ numbered_by l.pointed 0 0 (map local_tree_of l.locals)

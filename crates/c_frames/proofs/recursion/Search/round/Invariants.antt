@@ -1,6 +1,0 @@
-use Rattle.std.proofs.Common.{map, vec_items}
-use Rattle.c_frames.specs.Trails.{HasSearched}
-use Rattle.c_frames.proofs.recursion.Search.round.Given as goal
-
-abbrev pub invariant-loop-place : goal.invariant-loop-place
-invariant-loop-place l = HasSearched (map vec_items l.callees) l.first l.self l.place

@@ -1,7 +1,0 @@
-use Rattle.std.proofs.Common.{◌≡◌, map, drop}
-use Rattle.c_rules.specs.Programs.{has_main}
-use Rattle.c_frames.specs.FunctionView.{typed_function_of}
-use Rattle.c_frames.proofs.whole.has_main.Given as goal
-
-abbrev pub invariant-loop-f : goal.invariant-loop-f
-invariant-loop-f l = has_main (map typed_function_of (drop l.f-index l.functions)) ≡ has_main (map typed_function_of l.functions)

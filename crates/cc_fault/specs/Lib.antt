@@ -1,2 +1,0 @@
-pub mod PartFaults
-pub mod SourceFaults

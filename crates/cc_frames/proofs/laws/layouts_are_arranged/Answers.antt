@@ -1,5 +1,0 @@
-use Rattle.cc_frames.proofs.Framing.{layout_arranged}
-use Rattle.cc_frames.proofs.laws.layouts_are_arranged.Goals as goal
-
-pub returns : goal.returns
-returns c = λ o f options is. layout_arranged o f c.answers_arrange.ensures.answer options is

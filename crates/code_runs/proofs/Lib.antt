@@ -1,4 +1,0 @@
-mod RowExamples
-mod RunExamples
-mod AlikeExamples
-pub mod Keeping

@@ -1,2 +1,0 @@
--- What laws say of the bodies of functions.
-pub mod Bodies

@@ -1,2 +1,0 @@
--- What the law of direct operands says.
-pub mod Directs

@@ -1,2 +1,0 @@
--- What laws of emission say.
-pub mod Standing

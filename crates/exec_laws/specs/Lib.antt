@@ -1,2 +1,0 @@
--- What runs of images tell of sources.
-pub mod Telling

@@ -1,2 +1,0 @@
--- What laws say of the items of a function's piece.
-pub mod Calls

@@ -1,3 +1,0 @@
--- What laws of images say.
-pub mod Keeping
-pub mod Agreeing

@@ -1,0 +1,15 @@
+//! The laws that an image does what the source does that it was translated from: translation keeps runs, sites are what the plan of data memory
+//! gives, the startup calls `main` from a reset, and what the run of an image tells of the source. It has no code.
+#![tactic(auto)]
+
+mod exec_laws;
+mod image_laws;
+mod run_laws;
+mod site_laws;
+mod usable_laws;
+
+pub use exec_laws::runs_tell;
+pub use image_laws::{images_agree, images_keep_runs};
+pub use run_laws::translation_keeps_runs;
+pub use site_laws::calls_stand;
+pub use usable_laws::selected_is_usable;

@@ -1,2 +1,0 @@
--- What laws of the walks of images say.
-pub mod FunctionWalks

@@ -1,0 +1,3 @@
+mod RowExamples
+mod RunExamples
+pub mod Keeping

@@ -1,1 +1,0 @@
--- What the law of nodes says.

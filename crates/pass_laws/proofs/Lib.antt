@@ -1,7 +1,0 @@
-pub mod Joins
-pub mod Folds
-pub mod Replacing
-pub mod Members
-pub mod Arguments
-pub mod Statements
-pub mod Choices

@@ -1,2 +1,0 @@
-pub mod Monoids
-pub mod Replaced

@@ -1,3 +1,0 @@
--- What laws of rows say.
-pub mod Registers
-pub mod Rows

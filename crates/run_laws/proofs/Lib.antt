@@ -1,4 +1,0 @@
-pub mod Composing
-pub mod Addresses
-pub mod Placing
-pub mod Examples

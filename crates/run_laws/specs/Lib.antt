@@ -1,2 +1,0 @@
--- What the law of translation says.
-pub mod PlanPlaces

@@ -1,4 +1,0 @@
--- What a walk finds in a run of operations.
-pub mod RunWalks
-pub mod Agreeing
-pub mod Outside

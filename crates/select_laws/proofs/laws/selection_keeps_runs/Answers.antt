@@ -1,6 +1,0 @@
--- Function by function, and call by call.
-use Rattle.select_laws.proofs.Selection.{word_programs_keep}
-use Rattle.select_laws.proofs.laws.selection_keeps_runs.Goals as goal
-
-pub returns : goal.returns
-returns c = record { keeps = λ q p input n is words. word_programs_keep q p n is input words }

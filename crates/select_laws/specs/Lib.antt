@@ -1,4 +1,0 @@
--- What laws of selection say.
-pub mod OfWords
-pub mod FitStatements
-pub mod Selecting

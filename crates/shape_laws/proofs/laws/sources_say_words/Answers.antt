@@ -1,6 +1,0 @@
-use Rattle.shape_laws.proofs.CharacterTokens.{tokens_few}
-use Rattle.shape_laws.proofs.Spoken.{unit_says}
-use Rattle.shape_laws.proofs.laws.sources_say_words.Goals as goal
-
-pub returns : goal.returns
-returns c = λ bytes tokens unit lexes derives. unit_says tokens unit derives (tokens_few bytes tokens lexes)

@@ -1,2 +1,0 @@
--- What laws of the words of code say.
-pub mod Sizes

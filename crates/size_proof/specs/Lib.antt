@@ -1,0 +1,2 @@
+-- What code weighs, and how many words it has.
+pub mod Sizes

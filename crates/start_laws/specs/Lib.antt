@@ -1,2 +1,0 @@
--- What the law of startups says.
-pub mod Starts

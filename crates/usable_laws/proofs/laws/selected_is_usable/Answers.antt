@@ -1,6 +1,0 @@
--- Item by item.
-use Rattle.usable_laws.proofs.Programs.{program_usable}
-use Rattle.usable_laws.proofs.laws.selected_is_usable.Goals as goal
-
-pub returns : goal.returns
-returns c = record { usable = λ p f g is words at. program_usable p is words f g at }

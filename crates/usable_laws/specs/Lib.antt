@@ -1,2 +1,0 @@
--- What a law of selected items says.
-pub mod Usable

@@ -1,1 +1,0 @@
--- What laws of weights say.
