@@ -1,3 +1,4 @@
+pub use Rattle.acc_operations.proofs as acc_operations
 mod Examples
 mod EmittableUses
 mod SelectedExamples

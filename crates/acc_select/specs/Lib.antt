@@ -1,4 +1,5 @@
 -- The accumulator code of word trees.
+pub use Rattle.acc_operations.specs as acc_operations
 pub mod Conditions
 pub mod Forms
 pub mod Selected

@@ -5,9 +5,9 @@ use Rattle.acc_code.specs.AccSequence.{Rest, cut, accesses}
 use Rattle.acc_code.specs.AccTree.{If, ItemList, end, ◌▸◌}
 use Rattle.acc_code.specs.declared.operation.Test.{Test}
 use Rattle.acc_code.specs.declared.operation.Test.TheVariants.{Nz}
-use Rattle.acc_operations.specs.Comparisons.{Compared}
-use Rattle.acc_operations.specs.Kinds.{in_sense}
-use Rattle.acc_operations.specs.Words.{Word, load_clean}
+use Rattle.acc_select.specs.acc_operations.Comparisons.{Compared}
+use Rattle.acc_select.specs.acc_operations.Kinds.{in_sense}
+use Rattle.acc_select.specs.acc_operations.Words.{Word, load_clean}
 use Rattle.acc_select.specs.Conditions.{Part, Nothing, One, Null, Breaks, Continues, Runs, part_items, is_short, Branch, tested, by_comparison, clean_items, by_word, negated, truth_items, where_both, where_either, by_number, joined, needs_both, needs_either, and_branch, or_branch}
 use Rattle.acc_select_proof.specs.Listed.{Marks}
 use Rattle.acc_select_proof.proofs.Marking.{Has, in_turn, accesses_of, WordHas, load_clean_has}

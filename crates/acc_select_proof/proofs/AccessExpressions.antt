@@ -12,12 +12,12 @@ use Rattle.tree_code.specs.declared.operator.WordOp.TheVariants as word
 use Rattle.acc_code.specs.AccSequence.{Rest, access, cut, operand_accesses, accesses}
 use Rattle.acc_code.specs.AccTree.{end}
 use Rattle.acc_code.specs.declared.operand.AccOperand.TheVariants as operand
-use Rattle.acc_operations.specs.Constants.{place_of, shape_of}
-use Rattle.acc_operations.specs.Kinds.{operation_of}
-use Rattle.acc_operations.specs.Words.{fixed, held}
-use Rattle.acc_operations.specs.declared.constant.Constant.{Constant}
-use Rattle.acc_operations.specs.declared.constant.Shape.{Shape}
-use Rattle.acc_operations.specs.declared.constant.Shape.TheVariants as shape
+use Rattle.acc_select.specs.acc_operations.Constants.{place_of, shape_of}
+use Rattle.acc_select.specs.acc_operations.Kinds.{operation_of}
+use Rattle.acc_select.specs.acc_operations.Words.{fixed, held}
+use Rattle.acc_select.specs.acc_operations.declared.constant.Constant.{Constant}
+use Rattle.acc_select.specs.acc_operations.declared.constant.Shape.{Shape}
+use Rattle.acc_select.specs.acc_operations.declared.constant.Shape.TheVariants as shape
 use Rattle.acc_select.specs.Forms.{parameter_items}
 use Rattle.acc_select.specs.Selected.{is_last, waiting, code_of, arguments}
 use Rattle.acc_select_proof.specs.Listed.{Marks, of_value, name_accesses, cut_where, of_operands, assigned_through, updated_through}

@@ -7,18 +7,18 @@ use Rattle.acc_code.specs.AccSequence.{Rest, access, cut, operand_accesses, acce
 use Rattle.acc_code.specs.AccTree.{ItemList, end, ◌▸◌}
 use Rattle.acc_code.specs.declared.operand.AccOperand.{AccOperand}
 use Rattle.acc_code.specs.declared.operation.AccOp.TheVariants as row
-use Rattle.acc_operations.specs.Arithmetic.{with_place, with_constant, of_constant, of_place}
-use Rattle.acc_operations.specs.Comparisons.{Compared, compared_with_place, compared_with_constant, compared_of_constant, compared_of_place}
-use Rattle.acc_operations.specs.Words.{Word, behind, in_accumulator, fixed, next, load, loaded, sacl, bare}
-use Rattle.acc_operations.specs.declared.comparison.Comparison.{Comparison}
-use Rattle.acc_operations.specs.declared.constant.Constant.{Constant}
-use Rattle.acc_operations.specs.declared.constant.Shape.{Shape}
-use Rattle.acc_operations.specs.declared.constant.Shape.TheVariants as shape
-use Rattle.acc_operations.specs.declared.found.Found.{Found}
-use Rattle.acc_operations.specs.declared.high_half.HighHalf.TheVariants.{Small}
-use Rattle.acc_operations.specs.declared.operation.Arithmetic.{Arithmetic}
-use Rattle.acc_operations.specs.declared.operation.Operation.{Operation}
-use Rattle.acc_operations.specs.declared.operation.Operation.TheVariants as operation
+use Rattle.acc_select.specs.acc_operations.Arithmetic.{with_place, with_constant, of_constant, of_place}
+use Rattle.acc_select.specs.acc_operations.Comparisons.{Compared, compared_with_place, compared_with_constant, compared_of_constant, compared_of_place}
+use Rattle.acc_select.specs.acc_operations.Words.{Word, behind, in_accumulator, fixed, next, load, loaded, sacl, bare}
+use Rattle.acc_select.specs.acc_operations.declared.comparison.Comparison.{Comparison}
+use Rattle.acc_select.specs.acc_operations.declared.constant.Constant.{Constant}
+use Rattle.acc_select.specs.acc_operations.declared.constant.Shape.{Shape}
+use Rattle.acc_select.specs.acc_operations.declared.constant.Shape.TheVariants as shape
+use Rattle.acc_select.specs.acc_operations.declared.found.Found.{Found}
+use Rattle.acc_select.specs.acc_operations.declared.high_half.HighHalf.TheVariants.{Small}
+use Rattle.acc_select.specs.acc_operations.declared.operation.Arithmetic.{Arithmetic}
+use Rattle.acc_select.specs.acc_operations.declared.operation.Operation.{Operation}
+use Rattle.acc_select.specs.acc_operations.declared.operation.Operation.TheVariants as operation
 use Rattle.acc_select.specs.Conditions.{Nothing, Branch, by_comparison, truth_items}
 use Rattle.acc_select.specs.Forms as form
 use Rattle.acc_select.specs.Forms.{Code, Part_code, of_word, of_branch, unary_word, unary_code, temporary, computed, asked, compared, binary_code}

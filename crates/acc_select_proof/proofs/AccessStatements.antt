@@ -12,8 +12,8 @@ use Rattle.tree_code.specs.WordTemporaries.{word_statement_temporaries}
 use Rattle.tree_code.specs.WellFormedCode.{IsSoundStatement, AreSoundStatements, AreSoundChoices, IsThereForWords, length_of, cells_in, parameter_count}
 use Rattle.acc_code.specs.AccSequence.{Rest, cut, accesses, blocks_of}
 use Rattle.acc_code.specs.AccTree.{Loop, Switch, Break, Return, ItemList, end, ◌▸◌, ◌⧺◌}
-use Rattle.acc_operations.specs.Constants.{initial_constant}
-use Rattle.acc_operations.specs.Words.{loaded, clear_high, high}
+use Rattle.acc_select.specs.acc_operations.Constants.{initial_constant}
+use Rattle.acc_select.specs.acc_operations.Words.{loaded, clear_high, high}
 use Rattle.acc_select.specs.Conditions.{Nothing, Breaks, part_items, number}
 use Rattle.acc_select.specs.Selected.{code_of, optional_effect, test_items, optional_test, labels_of, cell_items, fill_items, part_of, statement_items, statements_items, choices_items, ends_with_return, closed_main, body_items, is_main, selected_function}
 use Rattle.acc_select_proof.specs.TreeAccesses.{word_value, word_condition, optional_word_value, optional_word_condition, word_statement_accesses, word_statements_accesses, word_choices_accesses, word_function_blocks}

@@ -4,14 +4,14 @@ use Rattle.c_tree.specs.declared.program.VarRef.{VarRef}
 use Rattle.acc_code.specs.declared.operand.AccOperand.{AccOperand}
 use Rattle.acc_code.specs.declared.operand.AccOperand.TheVariants as operand
 use Rattle.acc_code.specs.AccTree.{ItemList, end, ◌▸◌, ◌⧺◌}
-use Rattle.acc_operations.specs.Constants.{place_of}
-use Rattle.acc_operations.specs.Words.{Word, load, high, loaded, sacl, lac, scratch}
-use Rattle.acc_operations.specs.declared.constant.Shape.{Shape}
-use Rattle.acc_operations.specs.declared.constant.Shape.TheVariants as shape
-use Rattle.acc_operations.specs.declared.found.Found.{Found}
-use Rattle.acc_operations.specs.declared.found.Found.TheVariants.{Fixed, Held, Loaded}
-use Rattle.acc_operations.specs.declared.high_half.HighHalf.{HighHalf}
-use Rattle.acc_operations.specs.declared.high_half.HighHalf.TheVariants.{Sign}
+use Rattle.acc_select.specs.acc_operations.Constants.{place_of}
+use Rattle.acc_select.specs.acc_operations.Words.{Word, load, high, loaded, sacl, lac, scratch}
+use Rattle.acc_select.specs.acc_operations.declared.constant.Shape.{Shape}
+use Rattle.acc_select.specs.acc_operations.declared.constant.Shape.TheVariants as shape
+use Rattle.acc_select.specs.acc_operations.declared.found.Found.{Found}
+use Rattle.acc_select.specs.acc_operations.declared.found.Found.TheVariants.{Fixed, Held, Loaded}
+use Rattle.acc_select.specs.acc_operations.declared.high_half.HighHalf.{HighHalf}
+use Rattle.acc_select.specs.acc_operations.declared.high_half.HighHalf.TheVariants.{Sign}
 use Rattle.acc_select.specs.Forms as form
 use Rattle.acc_select.specs.Forms.{Code, stored, through, temporary, assign_name_code, assign_at_once, assign_through, assign_at_code}
 use Rattle.ir_semantics.specs.Parts.{Does, after, ◌>>=◌, give, in_order}

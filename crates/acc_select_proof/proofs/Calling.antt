@@ -3,8 +3,8 @@ use Rattle.std.proofs.Common.{◌≡◌, ℕ, ◌+◌, ◌*◌, ◌<◌, List, �
 use Rattle.tree_code.specs.WellFormedCode.{TakesSo, argument_count}
 use Rattle.tree_code.specs.WordTree.{ExprsCode}
 use Rattle.acc_code.specs.AccTree.{Call, end, ◌▸◌, ◌⧺◌}
-use Rattle.acc_operations.specs.Words.{in_accumulator}
-use Rattle.acc_operations.specs.declared.high_half.HighHalf.TheVariants.{Any}
+use Rattle.acc_select.specs.acc_operations.Words.{in_accumulator}
+use Rattle.acc_select.specs.acc_operations.declared.high_half.HighHalf.TheVariants.{Any}
 use Rattle.acc_select.specs.Forms.{call_code, parameter_items}
 use Rattle.acc_select.specs.Selected.{arguments, waiting}
 use Rattle.ir_semantics.specs.Parts.{Gives, Does, after, ◌>>=◌, Flow, Next, Broke, Continued, Returned, in_order}

@@ -7,7 +7,7 @@ use Rattle.tree_code.specs.WordTree as code
 use Rattle.tree_code.specs.WordTree.{ChoicesCode}
 use Rattle.acc_code.specs.AccTree.{Switch, Case, ItemList, end, item, ◌▸◌, ◌⧺◌}
 use Rattle.acc_code.specs.Emittable.{cases_in}
-use Rattle.acc_operations.specs.Words.{Word, loaded, high, clear_high}
+use Rattle.acc_select.specs.acc_operations.Words.{Word, loaded, high, clear_high}
 use Rattle.acc_select.specs.Selected.{labels_of, choices_items}
 use Rattle.ir_semantics.specs.Parts.{Res, Gives, Does, after, ◌>>=◌, choose, Flow, Next, Broke, Continued, Returned, behind_switch}
 use Rattle.ir_semantics.specs.Outside.{Places}

@@ -5,12 +5,12 @@ use Rattle.c_tree.specs.declared.program.VarRef.TheVariants.{Scalar, Local, Stat
 use Rattle.acc_code.specs.AccTree.{ItemList, end}
 use Rattle.acc_code.specs.declared.operand.AccOperand.{AccOperand}
 use Rattle.acc_code.specs.declared.operand.AccOperand.TheVariants as operand
-use Rattle.acc_operations.specs.Constants.{place_of}
-use Rattle.acc_operations.specs.Words as words
-use Rattle.acc_operations.specs.Words.{Word, fixed, in_accumulator}
-use Rattle.acc_operations.specs.declared.constant.Constant.TheVariants.{Number, Address}
-use Rattle.acc_operations.specs.declared.found.Found.TheVariants.{Fixed, Held}
-use Rattle.acc_operations.specs.declared.high_half.HighHalf.TheVariants.{Small}
+use Rattle.acc_select.specs.acc_operations.Constants.{place_of}
+use Rattle.acc_select.specs.acc_operations.Words as words
+use Rattle.acc_select.specs.acc_operations.Words.{Word, fixed, in_accumulator}
+use Rattle.acc_select.specs.acc_operations.declared.constant.Constant.TheVariants.{Number, Address}
+use Rattle.acc_select.specs.acc_operations.declared.found.Found.TheVariants.{Fixed, Held}
+use Rattle.acc_select.specs.acc_operations.declared.high_half.HighHalf.TheVariants.{Small}
 use Rattle.acc_select.specs.Conditions.{Branch, truth_items}
 use Rattle.acc_select.specs.Forms.{of_word, of_branch}
 use Rattle.ir_semantics.specs.Parts.{Gives, Does, after, give, Next}

@@ -7,18 +7,18 @@ use Rattle.acc_code.specs.declared.operand.AccOperand.TheVariants as operand
 use Rattle.acc_code.specs.declared.operation.AccOp.TheVariants as row
 use Rattle.acc_code.specs.declared.operation.Test.{Test}
 use Rattle.acc_code.specs.AccTree.{Op, ItemList, end, ◌▸◌, ◌⧺◌}
-use Rattle.acc_operations.specs.Comparisons.{subs, sub, exactly_less, exactly_less_constant, exact_with, less_unsigned, items_with_place, items_with_constant, items_of_place, test_with_constant, test_of_place, compared_with_place, compared_with_constant, compared_of_constant, compared_of_place}
-use Rattle.acc_operations.specs.Kinds.{swapped, swapped_comparison}
-use Rattle.acc_operations.specs.Sums.{minus}
-use Rattle.acc_operations.specs.Words.{scratch, lac, load, high, store, load_signed, load_unsigned, load_clean}
-use Rattle.acc_operations.specs.declared.comparison.Comparison.{Comparison}
-use Rattle.acc_operations.specs.declared.comparison.Order.{Order}
-use Rattle.acc_operations.specs.declared.comparison.Order.TheVariants.{Exact, Signed, Unsigned}
-use Rattle.acc_operations.specs.declared.constant.Constant.{Constant}
-use Rattle.acc_operations.specs.declared.constant.Constant.TheVariants.{Number, Address}
-use Rattle.acc_operations.specs.declared.found.Found.{Found}
-use Rattle.acc_operations.specs.declared.high_half.HighHalf.{HighHalf}
-use Rattle.acc_operations.specs.declared.high_half.HighHalf.TheVariants.{Any, Zero, Sign, Small}
+use Rattle.acc_select.specs.acc_operations.Comparisons.{subs, sub, exactly_less, exactly_less_constant, exact_with, less_unsigned, items_with_place, items_with_constant, items_of_place, test_with_constant, test_of_place, compared_with_place, compared_with_constant, compared_of_constant, compared_of_place}
+use Rattle.acc_select.specs.acc_operations.Kinds.{swapped, swapped_comparison}
+use Rattle.acc_select.specs.acc_operations.Sums.{minus}
+use Rattle.acc_select.specs.acc_operations.Words.{scratch, lac, load, high, store, load_signed, load_unsigned, load_clean}
+use Rattle.acc_select.specs.acc_operations.declared.comparison.Comparison.{Comparison}
+use Rattle.acc_select.specs.acc_operations.declared.comparison.Order.{Order}
+use Rattle.acc_select.specs.acc_operations.declared.comparison.Order.TheVariants.{Exact, Signed, Unsigned}
+use Rattle.acc_select.specs.acc_operations.declared.constant.Constant.{Constant}
+use Rattle.acc_select.specs.acc_operations.declared.constant.Constant.TheVariants.{Number, Address}
+use Rattle.acc_select.specs.acc_operations.declared.found.Found.{Found}
+use Rattle.acc_select.specs.acc_operations.declared.high_half.HighHalf.{HighHalf}
+use Rattle.acc_select.specs.acc_operations.declared.high_half.HighHalf.TheVariants.{Any, Zero, Sign, Small}
 use Rattle.c25_isa.specs.Step as step
 use Rattle.c25_isa.specs.Step.{extended, wrap32}
 use Rattle.ir_semantics.specs.AccRows.{Whole, low_half, combined, scaled, operand_weight}

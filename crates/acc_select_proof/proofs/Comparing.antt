@@ -9,18 +9,18 @@ use Rattle.acc_code.specs.declared.operation.AccOp.TheVariants as row
 use Rattle.acc_code.specs.declared.operation.Test.{Test}
 use Rattle.acc_code.specs.declared.operation.Test.TheVariants as test
 use Rattle.acc_code.specs.AccTree.{Op, ItemList, end, ◌▸◌, ◌⧺◌}
-use Rattle.acc_operations.specs.Comparisons.{subs, sub, exactly_less, exactly_less_number, exactly_less_constant}
-use Rattle.acc_operations.specs.Constants.{negative}
-use Rattle.acc_operations.specs.Kinds.{swapped}
-use Rattle.acc_operations.specs.Sums.{minus}
-use Rattle.acc_operations.specs.Words.{high, extend, clear_high, clean, load_signed, load_unsigned, load_clean}
-use Rattle.acc_operations.specs.declared.comparison.Order.{Order}
-use Rattle.acc_operations.specs.declared.comparison.Order.TheVariants.{Exact, Signed, Unsigned}
-use Rattle.acc_operations.specs.declared.constant.Constant.{Constant}
-use Rattle.acc_operations.specs.declared.constant.Constant.TheVariants.{Number, Address}
-use Rattle.acc_operations.specs.declared.found.Found.{Found}
-use Rattle.acc_operations.specs.declared.high_half.HighHalf.{HighHalf}
-use Rattle.acc_operations.specs.declared.high_half.HighHalf.TheVariants.{Any, Zero, Sign, Small}
+use Rattle.acc_select.specs.acc_operations.Comparisons.{subs, sub, exactly_less, exactly_less_number, exactly_less_constant}
+use Rattle.acc_select.specs.acc_operations.Constants.{negative}
+use Rattle.acc_select.specs.acc_operations.Kinds.{swapped}
+use Rattle.acc_select.specs.acc_operations.Sums.{minus}
+use Rattle.acc_select.specs.acc_operations.Words.{high, extend, clear_high, clean, load_signed, load_unsigned, load_clean}
+use Rattle.acc_select.specs.acc_operations.declared.comparison.Order.{Order}
+use Rattle.acc_select.specs.acc_operations.declared.comparison.Order.TheVariants.{Exact, Signed, Unsigned}
+use Rattle.acc_select.specs.acc_operations.declared.constant.Constant.{Constant}
+use Rattle.acc_select.specs.acc_operations.declared.constant.Constant.TheVariants.{Number, Address}
+use Rattle.acc_select.specs.acc_operations.declared.found.Found.{Found}
+use Rattle.acc_select.specs.acc_operations.declared.high_half.HighHalf.{HighHalf}
+use Rattle.acc_select.specs.acc_operations.declared.high_half.HighHalf.TheVariants.{Any, Zero, Sign, Small}
 use Rattle.c25_isa.specs.Step as step
 use Rattle.c25_isa.specs.Step.{extended}
 use Rattle.ir_semantics.specs.AccRows.{Acc, Whole, low_half, holds, combined, masked, scaled, operand_weight}

@@ -8,11 +8,11 @@ use Rattle.acc_code.specs.declared.operand.AccOperand.{AccOperand}
 use Rattle.acc_code.specs.declared.operand.AccOperand.TheVariants as operand
 use Rattle.acc_code.specs.declared.operation.AccOp.TheVariants as row
 use Rattle.acc_code.specs.AccTree.{Item, Op, end, ◌▸◌, ◌⧺◌}
-use Rattle.acc_operations.specs.Sums.{repeated, moved_right, moved_right_signed, shift_right_signed, shift_right_unsigned}
-use Rattle.acc_operations.specs.Words.{bare, lac, load_signed, load_unsigned, scratch}
-use Rattle.acc_operations.specs.declared.found.Found.{Found}
-use Rattle.acc_operations.specs.declared.found.Found.TheVariants.{Fixed, Held, Loaded}
-use Rattle.acc_operations.specs.declared.high_half.HighHalf.TheVariants.{Zero, Sign, Small}
+use Rattle.acc_select.specs.acc_operations.Sums.{repeated, moved_right, moved_right_signed, shift_right_signed, shift_right_unsigned}
+use Rattle.acc_select.specs.acc_operations.Words.{bare, lac, load_signed, load_unsigned, scratch}
+use Rattle.acc_select.specs.acc_operations.declared.found.Found.{Found}
+use Rattle.acc_select.specs.acc_operations.declared.found.Found.TheVariants.{Fixed, Held, Loaded}
+use Rattle.acc_select.specs.acc_operations.declared.high_half.HighHalf.TheVariants.{Zero, Sign, Small}
 use Rattle.c25_isa.specs.Step.{extended, wrap32, half}
 use Rattle.ir_semantics.specs.Parts.{after, Next, in_order, give}
 use Rattle.ir_semantics.specs.Outside.{with_scalar}

@@ -9,10 +9,10 @@ use Rattle.c_tree.specs.declared.program.Initial.TheVariants as initial
 use Rattle.c_tree.specs.declared.program.VarRef.TheVariants.{Local}
 use Rattle.acc_code.specs.declared.operand.AccOperand.TheVariants as operand
 use Rattle.acc_code.specs.AccTree.{ItemList, end, ◌▸◌}
-use Rattle.acc_operations.specs.Constants.{load_constant, constant_high, initial_constant}
-use Rattle.acc_operations.specs.Words.{sacl}
-use Rattle.acc_operations.specs.declared.constant.Constant.TheVariants.{Address}
-use Rattle.acc_operations.specs.declared.constant.Constant.{Constant}
+use Rattle.acc_select.specs.acc_operations.Constants.{load_constant, constant_high, initial_constant}
+use Rattle.acc_select.specs.acc_operations.Words.{sacl}
+use Rattle.acc_select.specs.acc_operations.declared.constant.Constant.TheVariants.{Address}
+use Rattle.acc_select.specs.acc_operations.declared.constant.Constant.{Constant}
 use Rattle.acc_select.specs.Forms.{point}
 use Rattle.acc_select.specs.Selected.{cell_items, fill_items}
 use Rattle.c25_isa.specs.Step.{wrap16}

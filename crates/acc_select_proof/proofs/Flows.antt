@@ -1,7 +1,7 @@
 -- How statements are left: the tree's flow is the machine's. What follows a flow, jumps, returns, and expressions as statements.
 use Rattle.std.proofs.Common.{◌≡◌, ℕ, ◌+◌, ◌<◌, ◌≤◌, Bool, true, [], length, Option, Some, None, refl, sym, subst, arith}
 use Rattle.acc_code.specs.AccTree.{Break, Continue, Return, ItemList, end, ◌▸◌, ◌⧺◌}
-use Rattle.acc_operations.specs.Words.{Word, loaded, high}
+use Rattle.acc_select.specs.acc_operations.Words.{Word, loaded, high}
 use Rattle.acc_select.specs.Conditions.{Part, part_items, Branch}
 use Rattle.ir_semantics.specs.Parts.{Does, after, ◌>>=◌, give, choose, Flow, Next, Broke, Continued, Returned, in_order}
 use Rattle.ir_semantics.specs.TreeRun.{Tree, tick, returning}

@@ -5,14 +5,14 @@ use Rattle.acc_code.specs.declared.operand.AccOperand.{AccOperand}
 use Rattle.acc_code.specs.declared.operation.AccOp.{AccOp}
 use Rattle.acc_code.specs.declared.operation.AccOp.TheVariants as row
 use Rattle.acc_code.specs.AccTree.{Op, ItemList, end, ◌▸◌, ◌⧺◌}
-use Rattle.acc_operations.specs.Arithmetic.{kept_zero}
-use Rattle.acc_operations.specs.Constants.{constant_high}
-use Rattle.acc_operations.specs.Words.{load, high, store, scratch, sacl}
-use Rattle.acc_operations.specs.declared.constant.Constant.TheVariants.{Number, Address}
-use Rattle.acc_operations.specs.declared.found.Found.{Found}
-use Rattle.acc_operations.specs.declared.found.Found.TheVariants.{Fixed, Held, Loaded}
-use Rattle.acc_operations.specs.declared.high_half.HighHalf.{HighHalf}
-use Rattle.acc_operations.specs.declared.high_half.HighHalf.TheVariants.{Any, Zero, Sign, Small}
+use Rattle.acc_select.specs.acc_operations.Arithmetic.{kept_zero}
+use Rattle.acc_select.specs.acc_operations.Constants.{constant_high}
+use Rattle.acc_select.specs.acc_operations.Words.{load, high, store, scratch, sacl}
+use Rattle.acc_select.specs.acc_operations.declared.constant.Constant.TheVariants.{Number, Address}
+use Rattle.acc_select.specs.acc_operations.declared.found.Found.{Found}
+use Rattle.acc_select.specs.acc_operations.declared.found.Found.TheVariants.{Fixed, Held, Loaded}
+use Rattle.acc_select.specs.acc_operations.declared.high_half.HighHalf.{HighHalf}
+use Rattle.acc_select.specs.acc_operations.declared.high_half.HighHalf.TheVariants.{Any, Zero, Sign, Small}
 use Rattle.c25_isa.specs.Step.{extended, wrap16, plus, minus}
 use Rattle.ir_semantics.specs.Outside.{with_scalar}
 use Rattle.ir_semantics.specs.AccRows.{Acc, Gone, Low, Whole, with_acc, low_half, acted, acc_becomes, combined, masked, operand_weight, operation_weight}

@@ -5,14 +5,14 @@ use Rattle.acc_code.specs.declared.operand.AccOperand.{AccOperand}
 use Rattle.acc_code.specs.declared.operand.HelperName.{HelperName}
 use Rattle.acc_code.specs.declared.operation.AccOp.TheVariants as row
 use Rattle.acc_code.specs.AccTree.{Item, end, ◌▸◌}
-use Rattle.acc_operations.specs.Arithmetic.{helped, helped_behind}
-use Rattle.acc_operations.specs.Constants.{load_constant, constant_high}
-use Rattle.acc_operations.specs.Sums.{by_helper}
-use Rattle.acc_operations.specs.Words.{bare, lac, sacl, scratch}
-use Rattle.acc_operations.specs.declared.constant.Constant.{Constant}
-use Rattle.acc_operations.specs.declared.found.Found.{Found}
-use Rattle.acc_operations.specs.declared.high_half.HighHalf.{HighHalf}
-use Rattle.acc_operations.specs.declared.high_half.HighHalf.TheVariants.{Any, Sign}
+use Rattle.acc_select.specs.acc_operations.Arithmetic.{helped, helped_behind}
+use Rattle.acc_select.specs.acc_operations.Constants.{load_constant, constant_high}
+use Rattle.acc_select.specs.acc_operations.Sums.{by_helper}
+use Rattle.acc_select.specs.acc_operations.Words.{bare, lac, sacl, scratch}
+use Rattle.acc_select.specs.acc_operations.declared.constant.Constant.{Constant}
+use Rattle.acc_select.specs.acc_operations.declared.found.Found.{Found}
+use Rattle.acc_select.specs.acc_operations.declared.high_half.HighHalf.{HighHalf}
+use Rattle.acc_select.specs.acc_operations.declared.high_half.HighHalf.TheVariants.{Any, Sign}
 use Rattle.ir_semantics.specs.Parts.{after, in_order}
 use Rattle.ir_semantics.specs.Outside.{no_words}
 use Rattle.ir_semantics.specs.AccRows.{Low, operand_weight}

@@ -6,15 +6,15 @@ use Rattle.tree_code.specs.declared.operator.WordOp.{WordOp}
 use Rattle.tree_code.specs.declared.operator.WordOp.TheVariants as word
 use Rattle.acc_code.specs.declared.operation.Test.{Test}
 use Rattle.acc_code.specs.declared.operation.Test.TheVariants as test
-use Rattle.acc_operations.specs.Kinds.{operation_of}
-use Rattle.acc_operations.specs.declared.comparison.Comparison.{Comparison}
-use Rattle.acc_operations.specs.declared.comparison.Order.{Order}
-use Rattle.acc_operations.specs.declared.comparison.Order.TheVariants.{Exact, Signed, Unsigned}
-use Rattle.acc_operations.specs.declared.operation.Arithmetic.{Arithmetic}
-use Rattle.acc_operations.specs.declared.operation.Arithmetic.TheVariants.{Sum, Difference, Bits, Product, LeftShift, RightShift, Quotient, Remainder}
-use Rattle.acc_operations.specs.declared.operation.Bitwise.TheVariants as bits
-use Rattle.acc_operations.specs.declared.operation.Operation.{Operation}
-use Rattle.acc_operations.specs.declared.operation.Operation.TheVariants.{Word, Truth}
+use Rattle.acc_select.specs.acc_operations.Kinds.{operation_of}
+use Rattle.acc_select.specs.acc_operations.declared.comparison.Comparison.{Comparison}
+use Rattle.acc_select.specs.acc_operations.declared.comparison.Order.{Order}
+use Rattle.acc_select.specs.acc_operations.declared.comparison.Order.TheVariants.{Exact, Signed, Unsigned}
+use Rattle.acc_select.specs.acc_operations.declared.operation.Arithmetic.{Arithmetic}
+use Rattle.acc_select.specs.acc_operations.declared.operation.Arithmetic.TheVariants.{Sum, Difference, Bits, Product, LeftShift, RightShift, Quotient, Remainder}
+use Rattle.acc_select.specs.acc_operations.declared.operation.Bitwise.TheVariants as bits
+use Rattle.acc_select.specs.acc_operations.declared.operation.Operation.{Operation}
+use Rattle.acc_select.specs.acc_operations.declared.operation.Operation.TheVariants.{Word, Truth}
 use Rattle.ir_semantics.specs.Meanings.{Meaning, Calculates, Decides, meaning_of}
 
 abbrev pub calc_of : Arithmetic → ℕ → ℕ → Calc

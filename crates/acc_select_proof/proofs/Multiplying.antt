@@ -8,14 +8,14 @@ use Rattle.acc_code.specs.declared.operand.AccOperand.{AccOperand}
 use Rattle.acc_code.specs.declared.operand.AccOperand.TheVariants as operand
 use Rattle.acc_code.specs.declared.operation.AccOp.TheVariants as row
 use Rattle.acc_code.specs.AccTree.{Op, end, ◌▸◌, ◌⧺◌}
-use Rattle.acc_operations.specs.Arithmetic.{times_place, times, multiply, product_with_place}
-use Rattle.acc_operations.specs.Constants.{load_constant, constant_high}
-use Rattle.acc_operations.specs.Words.{bare, load_t, sacl, scratch}
-use Rattle.acc_operations.specs.declared.constant.Constant.{Constant}
-use Rattle.acc_operations.specs.declared.constant.Constant.TheVariants.{Number, Address}
-use Rattle.acc_operations.specs.declared.found.Found.{Found}
-use Rattle.acc_operations.specs.declared.found.Found.TheVariants.{Fixed, Held, Loaded}
-use Rattle.acc_operations.specs.declared.high_half.HighHalf.TheVariants.{Any}
+use Rattle.acc_select.specs.acc_operations.Arithmetic.{times_place, times, multiply, product_with_place}
+use Rattle.acc_select.specs.acc_operations.Constants.{load_constant, constant_high}
+use Rattle.acc_select.specs.acc_operations.Words.{bare, load_t, sacl, scratch}
+use Rattle.acc_select.specs.acc_operations.declared.constant.Constant.{Constant}
+use Rattle.acc_select.specs.acc_operations.declared.constant.Constant.TheVariants.{Number, Address}
+use Rattle.acc_select.specs.acc_operations.declared.found.Found.{Found}
+use Rattle.acc_select.specs.acc_operations.declared.found.Found.TheVariants.{Fixed, Held, Loaded}
+use Rattle.acc_select.specs.acc_operations.declared.high_half.HighHalf.TheVariants.{Any}
 use Rattle.c25_isa.specs.Step.{wrap16, low32, product}
 use Rattle.ir_semantics.specs.AccRows.{Whole, low_half, multiplied, with_product, operand_weight}
 use Rattle.ir_semantics.specs.AccRun.{Machine, Context, held}

@@ -4,22 +4,22 @@ use Rattle.word_base.specs.Words.{Calc, Good, Bad}
 use Rattle.acc_code.specs.declared.operand.AccOperand.{AccOperand}
 use Rattle.acc_code.specs.declared.operand.AccOperand.TheVariants as operand
 use Rattle.acc_code.specs.AccTree.{If, ItemList, end, ◌▸◌, ◌⧺◌}
-use Rattle.acc_operations.proofs.ItemLemmas.{items_associate}
-use Rattle.acc_operations.specs.Arithmetic.{with_place, with_constant, of_constant, of_place}
-use Rattle.acc_operations.specs.Comparisons.{Compared, compared_with_place, compared_with_constant, compared_of_constant, compared_of_place}
-use Rattle.acc_operations.specs.Kinds.{in_sense}
-use Rattle.acc_operations.specs.Words.{Word}
-use Rattle.acc_operations.specs.Words as words
-use Rattle.acc_operations.specs.declared.comparison.Comparison.{Comparison}
-use Rattle.acc_operations.specs.declared.constant.Constant.{Constant}
-use Rattle.acc_operations.specs.declared.constant.Shape.{Shape}
-use Rattle.acc_operations.specs.declared.constant.Shape.TheVariants as shape
-use Rattle.acc_operations.specs.declared.found.Found.{Found}
-use Rattle.acc_operations.specs.declared.found.Found.TheVariants.{Fixed, Held, Loaded}
-use Rattle.acc_operations.specs.declared.operation.Arithmetic.{Arithmetic}
-use Rattle.acc_operations.specs.declared.operation.Arithmetic.TheVariants as arithmetic
-use Rattle.acc_operations.specs.declared.operation.Operation.{Operation}
-use Rattle.acc_operations.specs.declared.operation.Operation.TheVariants as operation
+use Rattle.acc_select.proofs.acc_operations.ItemLemmas.{items_associate}
+use Rattle.acc_select.specs.acc_operations.Arithmetic.{with_place, with_constant, of_constant, of_place}
+use Rattle.acc_select.specs.acc_operations.Comparisons.{Compared, compared_with_place, compared_with_constant, compared_of_constant, compared_of_place}
+use Rattle.acc_select.specs.acc_operations.Kinds.{in_sense}
+use Rattle.acc_select.specs.acc_operations.Words.{Word}
+use Rattle.acc_select.specs.acc_operations.Words as words
+use Rattle.acc_select.specs.acc_operations.declared.comparison.Comparison.{Comparison}
+use Rattle.acc_select.specs.acc_operations.declared.constant.Constant.{Constant}
+use Rattle.acc_select.specs.acc_operations.declared.constant.Shape.{Shape}
+use Rattle.acc_select.specs.acc_operations.declared.constant.Shape.TheVariants as shape
+use Rattle.acc_select.specs.acc_operations.declared.found.Found.{Found}
+use Rattle.acc_select.specs.acc_operations.declared.found.Found.TheVariants.{Fixed, Held, Loaded}
+use Rattle.acc_select.specs.acc_operations.declared.operation.Arithmetic.{Arithmetic}
+use Rattle.acc_select.specs.acc_operations.declared.operation.Arithmetic.TheVariants as arithmetic
+use Rattle.acc_select.specs.acc_operations.declared.operation.Operation.{Operation}
+use Rattle.acc_select.specs.acc_operations.declared.operation.Operation.TheVariants as operation
 use Rattle.acc_select.specs.Conditions.{part_items, by_comparison}
 use Rattle.acc_select.specs.Forms.{Code, temporary, computed, compared, binary_code}
 use Rattle.ir_semantics.specs.Meanings.{Calculates, Decides}

@@ -8,8 +8,8 @@ use Rattle.tree_code.specs.WordTree.{ExprsCode, none, more}
 use Rattle.acc_code.specs.AccTree.{ItemList, end, ◌▸◌}
 use Rattle.acc_code.specs.declared.operand.AccOperand.{AccOperand}
 use Rattle.acc_code.specs.declared.operand.AccOperand.TheVariants as operand
-use Rattle.acc_operations.specs.Words.{lac, sacl}
-use Rattle.acc_operations.specs.declared.high_half.HighHalf.TheVariants.{Sign}
+use Rattle.acc_select.specs.acc_operations.Words.{lac, sacl}
+use Rattle.acc_select.specs.acc_operations.declared.high_half.HighHalf.TheVariants.{Sign}
 use Rattle.acc_select.specs.Forms.{temporary, parameter_items}
 use Rattle.acc_select.specs.Selected.{code_of, arguments, waiting}
 use Rattle.c25_isa.specs.Step.{wrap16}

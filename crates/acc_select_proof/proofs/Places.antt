@@ -5,14 +5,14 @@ use Rattle.c_tree.specs.declared.program.VarRef.TheVariants.{Scalar, Local, Stat
 use Rattle.acc_code.specs.declared.operand.AccOperand.{AccOperand}
 use Rattle.acc_code.specs.declared.operand.AccOperand.TheVariants as operand
 use Rattle.acc_code.specs.AccTree.{ItemList, end, ◌▸◌}
-use Rattle.acc_operations.specs.Constants.{place_of}
-use Rattle.acc_operations.specs.Words.{Word, sacl, fixed}
-use Rattle.acc_operations.specs.Words as words
-use Rattle.acc_operations.specs.declared.constant.Shape.{Shape}
-use Rattle.acc_operations.specs.declared.constant.Shape.TheVariants as shape
-use Rattle.acc_operations.specs.declared.found.Found.{Found}
-use Rattle.acc_operations.specs.declared.found.Found.TheVariants.{Fixed, Held}
-use Rattle.acc_operations.specs.declared.high_half.HighHalf.{HighHalf}
+use Rattle.acc_select.specs.acc_operations.Constants.{place_of}
+use Rattle.acc_select.specs.acc_operations.Words.{Word, sacl, fixed}
+use Rattle.acc_select.specs.acc_operations.Words as words
+use Rattle.acc_select.specs.acc_operations.declared.constant.Shape.{Shape}
+use Rattle.acc_select.specs.acc_operations.declared.constant.Shape.TheVariants as shape
+use Rattle.acc_select.specs.acc_operations.declared.found.Found.{Found}
+use Rattle.acc_select.specs.acc_operations.declared.found.Found.TheVariants.{Fixed, Held}
+use Rattle.acc_select.specs.acc_operations.declared.high_half.HighHalf.{HighHalf}
 use Rattle.acc_select.specs.Forms.{temporary}
 use Rattle.ir_semantics.specs.Parts.{Res, Gives, Finished, TooMany, Fails, Does, after, give, Flow, Next, Broke, Continued, Returned, in_order}
 use Rattle.ir_semantics.specs.Outside.{Cell, Nowhere, Unwritten, Holds, Outside}

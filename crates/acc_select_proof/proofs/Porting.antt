@@ -5,10 +5,10 @@ use Rattle.word_base.specs.Ports.{Input, IsInput}
 use Rattle.acc_code.specs.declared.operand.AccOperand.{AccOperand}
 use Rattle.acc_code.specs.declared.operation.AccOp.TheVariants as row
 use Rattle.acc_code.specs.AccTree.{Op, ItemList, end, item, ◌▸◌, ◌⧺◌}
-use Rattle.acc_operations.specs.Words.{scratch, store}
-use Rattle.acc_operations.specs.declared.found.Found.{Found}
-use Rattle.acc_operations.specs.declared.found.Found.TheVariants.{Fixed, Held, Loaded}
-use Rattle.acc_operations.specs.declared.high_half.HighHalf.TheVariants.{Any}
+use Rattle.acc_select.specs.acc_operations.Words.{scratch, store}
+use Rattle.acc_select.specs.acc_operations.declared.found.Found.{Found}
+use Rattle.acc_select.specs.acc_operations.declared.found.Found.TheVariants.{Fixed, Held, Loaded}
+use Rattle.acc_select.specs.acc_operations.declared.high_half.HighHalf.TheVariants.{Any}
 use Rattle.acc_select.specs.Forms.{Code, in_code, out_code, out_items}
 use Rattle.ir_semantics.specs.Parts.{Does, after, ◌>>=◌, give, Next, in_order}
 use Rattle.ir_semantics.specs.Outside.{Outside, with_input, with_output, with_scalar}

@@ -5,10 +5,10 @@ use Rattle.word_base.specs.Words.{truth}
 use Rattle.acc_code.specs.declared.operation.Test.{Test}
 use Rattle.acc_code.specs.declared.operation.Test.TheVariants.{Nz}
 use Rattle.acc_code.specs.AccTree.{If, ItemList, end, ◌▸◌, ◌⧺◌}
-use Rattle.acc_operations.proofs.ItemLemmas.{items_associate}
-use Rattle.acc_operations.specs.Kinds.{in_sense}
-use Rattle.acc_operations.specs.Words.{Word, load_clean}
-use Rattle.acc_operations.specs.declared.high_half.HighHalf.TheVariants.{Small}
+use Rattle.acc_select.proofs.acc_operations.ItemLemmas.{items_associate}
+use Rattle.acc_select.specs.acc_operations.Kinds.{in_sense}
+use Rattle.acc_select.specs.acc_operations.Words.{Word, load_clean}
+use Rattle.acc_select.specs.acc_operations.declared.high_half.HighHalf.TheVariants.{Small}
 use Rattle.acc_select.specs.Conditions.{Nothing, One, Null, part_items, Branch, by_word, negated, truth_items, number}
 use Rattle.ir_semantics.specs.Parts.{Does, ◌>>=◌, give, choose, Next, Broke, Continued, Returned}
 use Rattle.ir_semantics.specs.TreeRun.{Tree, not_does, as_word, as_truth, as_nothing}

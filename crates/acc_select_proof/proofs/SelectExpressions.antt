@@ -9,18 +9,18 @@ use Rattle.tree_code.specs.WellFormedCode.{IsSound, AreSound}
 use Rattle.tree_code.specs.WordTree as tree
 use Rattle.tree_code.specs.WordTree.{ExprCode, Node, Named, At, ExprsCode}
 use Rattle.acc_code.specs.AccTree.{end}
-use Rattle.acc_operations.specs.Constants.{place_of, shape_of, negative}
-use Rattle.acc_operations.specs.Kinds.{operation_of}
-use Rattle.acc_operations.specs.Words.{next, fixed}
-use Rattle.acc_operations.specs.Words as words
-use Rattle.acc_operations.specs.declared.constant.Constant.TheVariants.{Number, Address}
-use Rattle.acc_operations.specs.declared.constant.Shape.{Shape}
-use Rattle.acc_operations.specs.declared.constant.Shape.TheVariants as shape
-use Rattle.acc_operations.specs.declared.found.Found.{Found}
-use Rattle.acc_operations.specs.declared.found.Found.TheVariants.{Fixed, Held}
-use Rattle.acc_operations.specs.declared.operation.Arithmetic.{Arithmetic}
-use Rattle.acc_operations.specs.declared.operation.Operation.{Operation}
-use Rattle.acc_operations.specs.declared.operation.Operation.TheVariants as operation
+use Rattle.acc_select.specs.acc_operations.Constants.{place_of, shape_of, negative}
+use Rattle.acc_select.specs.acc_operations.Kinds.{operation_of}
+use Rattle.acc_select.specs.acc_operations.Words.{next, fixed}
+use Rattle.acc_select.specs.acc_operations.Words as words
+use Rattle.acc_select.specs.acc_operations.declared.constant.Constant.TheVariants.{Number, Address}
+use Rattle.acc_select.specs.acc_operations.declared.constant.Shape.{Shape}
+use Rattle.acc_select.specs.acc_operations.declared.constant.Shape.TheVariants as shape
+use Rattle.acc_select.specs.acc_operations.declared.found.Found.{Found}
+use Rattle.acc_select.specs.acc_operations.declared.found.Found.TheVariants.{Fixed, Held}
+use Rattle.acc_select.specs.acc_operations.declared.operation.Arithmetic.{Arithmetic}
+use Rattle.acc_select.specs.acc_operations.declared.operation.Operation.{Operation}
+use Rattle.acc_select.specs.acc_operations.declared.operation.Operation.TheVariants as operation
 use Rattle.acc_select.specs.Conditions.{negated, and_branch, or_branch}
 use Rattle.acc_select.specs.Forms.{Code, unary_code, unary_word, binary_code, update_name_code, update_at_code}
 use Rattle.acc_select.specs.Selected.{code_of}

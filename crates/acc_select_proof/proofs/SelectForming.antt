@@ -7,11 +7,11 @@ use Rattle.c_syntax.specs.declared.operator.UnaryOp.TheVariants.{Minus, Plus, Co
 use Rattle.acc_code.specs.declared.operand.AccOperand.TheVariants as operand
 use Rattle.acc_code.specs.declared.operation.AccOp.TheVariants as row
 use Rattle.acc_code.specs.AccTree.{ItemList, end, ◌▸◌, ◌⧺◌}
-use Rattle.acc_operations.specs.Words.{Word, next, in_accumulator, load, high, extend, bare}
-use Rattle.acc_operations.specs.declared.found.Found.{Found}
-use Rattle.acc_operations.specs.declared.found.Found.TheVariants.{Loaded}
-use Rattle.acc_operations.specs.declared.high_half.HighHalf.{HighHalf}
-use Rattle.acc_operations.specs.declared.high_half.HighHalf.TheVariants.{Any, Zero, Sign, Small}
+use Rattle.acc_select.specs.acc_operations.Words.{Word, next, in_accumulator, load, high, extend, bare}
+use Rattle.acc_select.specs.acc_operations.declared.found.Found.{Found}
+use Rattle.acc_select.specs.acc_operations.declared.found.Found.TheVariants.{Loaded}
+use Rattle.acc_select.specs.acc_operations.declared.high_half.HighHalf.{HighHalf}
+use Rattle.acc_select.specs.acc_operations.declared.high_half.HighHalf.TheVariants.{Any, Zero, Sign, Small}
 use Rattle.acc_select.specs.Conditions.{Runs}
 use Rattle.acc_select.specs.Forms.{Code, complement_high, signed_items, pick_code, comma_code}
 use Rattle.c25_isa.specs.Step.{extended, wrap16}

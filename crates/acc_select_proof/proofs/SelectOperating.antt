@@ -9,19 +9,19 @@ use Rattle.word_base.specs.declared.outcome.UndefinedKind.TheVariants.{Overflow,
 use Rattle.acc_code.specs.declared.operand.AccOperand.{AccOperand}
 use Rattle.acc_code.specs.declared.operand.HelperName.TheVariants as helper
 use Rattle.acc_code.specs.AccTree.{ItemList}
-use Rattle.acc_operations.specs.Arithmetic.{with_place, with_constant, of_constant, of_place, high_with_place, high_with_constant}
-use Rattle.acc_operations.specs.Sums.{count_of}
-use Rattle.acc_operations.specs.Words.{high}
-use Rattle.acc_operations.specs.declared.constant.Constant.{Constant}
-use Rattle.acc_operations.specs.declared.constant.Constant.TheVariants.{Number, Address}
-use Rattle.acc_operations.specs.declared.found.Found.{Found}
-use Rattle.acc_operations.specs.declared.found.Found.TheVariants.{Loaded}
-use Rattle.acc_operations.specs.declared.high_half.HighHalf.{HighHalf}
-use Rattle.acc_operations.specs.declared.high_half.HighHalf.TheVariants.{Any, Zero, Sign, Small}
-use Rattle.acc_operations.specs.declared.operation.Arithmetic.{Arithmetic}
-use Rattle.acc_operations.specs.declared.operation.Arithmetic.TheVariants.{Sum, Difference, Bits, Product, LeftShift, RightShift, Quotient, Remainder}
-use Rattle.acc_operations.specs.declared.operation.Bitwise.{Bitwise}
-use Rattle.acc_operations.specs.declared.operation.Bitwise.TheVariants as bits
+use Rattle.acc_select.specs.acc_operations.Arithmetic.{with_place, with_constant, of_constant, of_place, high_with_place, high_with_constant}
+use Rattle.acc_select.specs.acc_operations.Sums.{count_of}
+use Rattle.acc_select.specs.acc_operations.Words.{high}
+use Rattle.acc_select.specs.acc_operations.declared.constant.Constant.{Constant}
+use Rattle.acc_select.specs.acc_operations.declared.constant.Constant.TheVariants.{Number, Address}
+use Rattle.acc_select.specs.acc_operations.declared.found.Found.{Found}
+use Rattle.acc_select.specs.acc_operations.declared.found.Found.TheVariants.{Loaded}
+use Rattle.acc_select.specs.acc_operations.declared.high_half.HighHalf.{HighHalf}
+use Rattle.acc_select.specs.acc_operations.declared.high_half.HighHalf.TheVariants.{Any, Zero, Sign, Small}
+use Rattle.acc_select.specs.acc_operations.declared.operation.Arithmetic.{Arithmetic}
+use Rattle.acc_select.specs.acc_operations.declared.operation.Arithmetic.TheVariants.{Sum, Difference, Bits, Product, LeftShift, RightShift, Quotient, Remainder}
+use Rattle.acc_select.specs.acc_operations.declared.operation.Bitwise.{Bitwise}
+use Rattle.acc_select.specs.acc_operations.declared.operation.Bitwise.TheVariants as bits
 use Rattle.ir_semantics.specs.AccRows.{operand_weight}
 use Rattle.ir_semantics.specs.AccRun.{Machine, Context, held}
 use Rattle.acc_select_proof.proofs.Straights.{ConstantIs, FoundHas, found_weight, IsSteady, Straight, at_most}

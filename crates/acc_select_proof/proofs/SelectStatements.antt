@@ -4,7 +4,7 @@ use Rattle.std.specs.Prelude.{◌==◌, slice_get}
 use Rattle.tree_code.specs.WordTree as code
 use Rattle.tree_code.specs.WordTree.{ExprCode, StmtCode, StmtsCode, ChoicesCode}
 use Rattle.acc_code.specs.AccTree.{ItemList, end}
-use Rattle.acc_operations.proofs.ItemLemmas.{no_items_behind}
+use Rattle.acc_select.proofs.acc_operations.ItemLemmas.{no_items_behind}
 use Rattle.acc_select.specs.Conditions.{part_items}
 use Rattle.acc_select.specs.Selected.{code_of, test_items, optional_test, optional_effect, labels_of, part_of, statement_items, statements_items}
 use Rattle.ir_semantics.specs.Parts.{Does, give, Flow, Next}

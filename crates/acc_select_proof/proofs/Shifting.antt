@@ -10,14 +10,14 @@ use Rattle.acc_code.specs.declared.operand.AccOperand.{AccOperand}
 use Rattle.acc_code.specs.declared.operand.AccOperand.TheVariants as operand
 use Rattle.acc_code.specs.declared.operation.AccOp.TheVariants as row
 use Rattle.acc_code.specs.AccTree.{Op, end, ◌▸◌, ◌⧺◌}
-use Rattle.acc_operations.specs.Constants.{load_constant, constant_high}
-use Rattle.acc_operations.specs.Sums.{repeated}
-use Rattle.acc_operations.specs.Sums as sum
-use Rattle.acc_operations.specs.Words.{bare, load, high, store, sacl, scratch}
-use Rattle.acc_operations.specs.declared.constant.Constant.{Constant}
-use Rattle.acc_operations.specs.declared.found.Found.{Found}
-use Rattle.acc_operations.specs.declared.found.Found.TheVariants.{Fixed, Held, Loaded}
-use Rattle.acc_operations.specs.declared.high_half.HighHalf.TheVariants.{Any}
+use Rattle.acc_select.specs.acc_operations.Constants.{load_constant, constant_high}
+use Rattle.acc_select.specs.acc_operations.Sums.{repeated}
+use Rattle.acc_select.specs.acc_operations.Sums as sum
+use Rattle.acc_select.specs.acc_operations.Words.{bare, load, high, store, sacl, scratch}
+use Rattle.acc_select.specs.acc_operations.declared.constant.Constant.{Constant}
+use Rattle.acc_select.specs.acc_operations.declared.found.Found.{Found}
+use Rattle.acc_select.specs.acc_operations.declared.found.Found.TheVariants.{Fixed, Held, Loaded}
+use Rattle.acc_select.specs.acc_operations.declared.high_half.HighHalf.TheVariants.{Any}
 use Rattle.c25_isa.specs.Step.{extended, wrap16, wrap32}
 use Rattle.ir_semantics.specs.AccRows.{Acc, Gone, Low, Whole, with_acc, low_half, doubled, known, scaled, scaled_by_t, operand_weight}
 use Rattle.ir_semantics.specs.AccRun.{Machine, Context, held}

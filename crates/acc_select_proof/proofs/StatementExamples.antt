@@ -2,8 +2,8 @@
 use Rattle.std.proofs.Common.{ℕ, ◌<◌, [], Some, arith}
 use Rattle.tree_code.specs.WordTree as tree
 use Rattle.tree_code.specs.WordTree.{ExprCode, Node, StmtCode}
-use Rattle.acc_operations.specs.Words.{fixed}
-use Rattle.acc_operations.specs.declared.constant.Constant.TheVariants.{Number}
+use Rattle.acc_select.specs.acc_operations.Words.{fixed}
+use Rattle.acc_select.specs.acc_operations.declared.constant.Constant.TheVariants.{Number}
 use Rattle.acc_select.specs.Selected.{code_of, statement_items}
 use Rattle.ir_semantics.specs.Outside.{Places}
 use Rattle.ir_semantics.specs.TreeRun.{Calls, decide, value, effect, exec, constant_does}

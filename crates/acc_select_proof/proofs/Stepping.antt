@@ -5,8 +5,8 @@ use Rattle.c_tree.specs.declared.program.VarRef.{VarRef}
 use Rattle.acc_code.specs.declared.operand.AccOperand.TheVariants as operand
 use Rattle.acc_code.specs.declared.operation.AccOp.TheVariants as row
 use Rattle.acc_code.specs.AccTree.{end, ◌▸◌}
-use Rattle.acc_operations.specs.declared.constant.Constant.TheVariants.{Address}
-use Rattle.acc_operations.specs.declared.high_half.HighHalf.TheVariants.{Any}
+use Rattle.acc_select.specs.acc_operations.declared.constant.Constant.TheVariants.{Address}
+use Rattle.acc_select.specs.acc_operations.declared.high_half.HighHalf.TheVariants.{Any}
 use Rattle.acc_select.specs.Forms.{step_row, undo_row}
 use Rattle.c25_isa.specs.Step as step
 use Rattle.ir_semantics.specs.TreeRun.{Addresses, stepped}

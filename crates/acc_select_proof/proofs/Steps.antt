@@ -5,11 +5,11 @@ use Rattle.c_tree.specs.declared.program.VarRef.{VarRef}
 use Rattle.acc_code.specs.declared.operand.AccOperand.{AccOperand}
 use Rattle.acc_code.specs.declared.operand.AccOperand.TheVariants as operand
 use Rattle.acc_code.specs.AccTree.{ItemList, end, ◌▸◌, ◌⧺◌}
-use Rattle.acc_operations.proofs.ItemLemmas.{items_associate}
-use Rattle.acc_operations.specs.Constants.{place_of}
-use Rattle.acc_operations.specs.Words.{lac, sacl}
-use Rattle.acc_operations.specs.declared.found.Found.TheVariants.{Held, Loaded}
-use Rattle.acc_operations.specs.declared.high_half.HighHalf.TheVariants.{Any, Sign}
+use Rattle.acc_select.proofs.acc_operations.ItemLemmas.{items_associate}
+use Rattle.acc_select.specs.acc_operations.Constants.{place_of}
+use Rattle.acc_select.specs.acc_operations.Words.{lac, sacl}
+use Rattle.acc_select.specs.acc_operations.declared.found.Found.TheVariants.{Held, Loaded}
+use Rattle.acc_select.specs.acc_operations.declared.high_half.HighHalf.TheVariants.{Any, Sign}
 use Rattle.acc_select.specs.Forms as form
 use Rattle.acc_select.specs.Forms.{Code, step_row, undo_row, step_before_code, step_after_code, step_name_after_code}
 use Rattle.ir_semantics.specs.Parts.{Gives, Does, after, ◌>>=◌, give, Next}

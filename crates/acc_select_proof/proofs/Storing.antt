@@ -5,13 +5,13 @@ use Rattle.acc_code.specs.AccTree.{Op, Call, ItemList, end, ◌▸◌, ◌⧺◌
 use Rattle.acc_code.specs.declared.operand.AccOperand.{AccOperand}
 use Rattle.acc_code.specs.declared.operand.AccOperand.TheVariants as operand
 use Rattle.acc_code.specs.declared.operation.AccOp.TheVariants as row
-use Rattle.acc_operations.specs.Words.{Word, in_accumulator, held, scratch, high, loaded, store, sacl, lac, extend}
-use Rattle.acc_operations.specs.declared.constant.Shape.{Shape}
-use Rattle.acc_operations.specs.declared.constant.Shape.TheVariants as shape
-use Rattle.acc_operations.specs.declared.found.Found.{Found}
-use Rattle.acc_operations.specs.declared.found.Found.TheVariants.{Fixed, Held, Loaded}
-use Rattle.acc_operations.specs.declared.high_half.HighHalf.TheVariants.{Any, Sign}
-use Rattle.acc_operations.specs.declared.operation.Operation.{Operation}
+use Rattle.acc_select.specs.acc_operations.Words.{Word, in_accumulator, held, scratch, high, loaded, store, sacl, lac, extend}
+use Rattle.acc_select.specs.acc_operations.declared.constant.Shape.{Shape}
+use Rattle.acc_select.specs.acc_operations.declared.constant.Shape.TheVariants as shape
+use Rattle.acc_select.specs.acc_operations.declared.found.Found.{Found}
+use Rattle.acc_select.specs.acc_operations.declared.found.Found.TheVariants.{Fixed, Held, Loaded}
+use Rattle.acc_select.specs.acc_operations.declared.high_half.HighHalf.TheVariants.{Any, Sign}
+use Rattle.acc_select.specs.acc_operations.declared.operation.Operation.{Operation}
 use Rattle.acc_select.specs.Conditions.{Runs, Branch}
 use Rattle.acc_select.specs.Forms as form
 use Rattle.acc_select.specs.Forms.{Code, Part_code, of_word, temporary, signed_items, pick_code, comma_code, stored, assign_name_code, through, assign_at_once, assign_through, assign_at_code, updated, update_name_code, update_at_once, update_through, update_at_code, step_row, undo_row, stepped, step_before_code, step_after_code, step_name_after_code, in_code, out_items, out_code, argument_items, call_code}

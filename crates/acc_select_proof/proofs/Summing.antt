@@ -8,17 +8,17 @@ use Rattle.acc_code.specs.declared.operand.AccOperand.TheVariants as operand
 use Rattle.acc_code.specs.declared.operation.AccOp.{AccOp}
 use Rattle.acc_code.specs.declared.operation.AccOp.TheVariants as row
 use Rattle.acc_code.specs.AccTree.{Op, end, ◌▸◌, ◌⧺◌}
-use Rattle.acc_operations.specs.Arithmetic.{row_on_place, row_on_constant, kept_zero, high_with_place, high_with_constant, masked_by}
-use Rattle.acc_operations.specs.Constants.{negative, constant_operand}
-use Rattle.acc_operations.specs.Sums.{plus, minus}
-use Rattle.acc_operations.specs.Words.{load, high, bare}
-use Rattle.acc_operations.specs.declared.constant.Constant.{Constant}
-use Rattle.acc_operations.specs.declared.constant.Constant.TheVariants.{Number, Address}
-use Rattle.acc_operations.specs.declared.found.Found.{Found}
-use Rattle.acc_operations.specs.declared.high_half.HighHalf.{HighHalf}
-use Rattle.acc_operations.specs.declared.high_half.HighHalf.TheVariants.{Any, Zero, Small}
-use Rattle.acc_operations.specs.declared.operation.Bitwise.{Bitwise}
-use Rattle.acc_operations.specs.declared.operation.Bitwise.TheVariants as bits
+use Rattle.acc_select.specs.acc_operations.Arithmetic.{row_on_place, row_on_constant, kept_zero, high_with_place, high_with_constant, masked_by}
+use Rattle.acc_select.specs.acc_operations.Constants.{negative, constant_operand}
+use Rattle.acc_select.specs.acc_operations.Sums.{plus, minus}
+use Rattle.acc_select.specs.acc_operations.Words.{load, high, bare}
+use Rattle.acc_select.specs.acc_operations.declared.constant.Constant.{Constant}
+use Rattle.acc_select.specs.acc_operations.declared.constant.Constant.TheVariants.{Number, Address}
+use Rattle.acc_select.specs.acc_operations.declared.found.Found.{Found}
+use Rattle.acc_select.specs.acc_operations.declared.high_half.HighHalf.{HighHalf}
+use Rattle.acc_select.specs.acc_operations.declared.high_half.HighHalf.TheVariants.{Any, Zero, Small}
+use Rattle.acc_select.specs.acc_operations.declared.operation.Bitwise.{Bitwise}
+use Rattle.acc_select.specs.acc_operations.declared.operation.Bitwise.TheVariants as bits
 use Rattle.c25_isa.specs.Step as step
 use Rattle.c25_isa.specs.Step.{extended, wrap16}
 use Rattle.ir_semantics.specs.AccRows.{Acc, Whole, low_half, acted, acc_becomes, combined, masked, scaled, operand_weight, operation_weight}

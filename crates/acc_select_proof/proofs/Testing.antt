@@ -3,7 +3,7 @@ use Rattle.std.proofs.Common.{◌≡◌, ℕ, Bool, true, false, refl, ap, ◌�
 use Rattle.std.specs.Prelude.{not, ◌||◌, ◌==◌}
 use Rattle.acc_code.specs.declared.operation.Test.{Test}
 use Rattle.acc_code.specs.declared.operation.Test.TheVariants as test
-use Rattle.acc_operations.specs.Kinds.{opposite, in_sense}
+use Rattle.acc_select.specs.acc_operations.Kinds.{opposite, in_sense}
 use Rattle.ir_semantics.specs.AccRows.{Acc, Whole, holds, is_negative}
 
 -- a truth of this sense

@@ -4,7 +4,7 @@ use Rattle.std.specs.Prelude.{not, ◌==◌, if◌then◌else◌}
 use Rattle.word_base.specs.Words.{truth}
 use Rattle.acc_code.specs.declared.operation.Test.TheVariants.{Nz}
 use Rattle.acc_code.specs.AccTree.{ItemList, end}
-use Rattle.acc_operations.specs.declared.high_half.HighHalf.TheVariants.{Small}
+use Rattle.acc_select.specs.acc_operations.declared.high_half.HighHalf.TheVariants.{Small}
 use Rattle.acc_select.specs.Conditions.{Part, One, Null, Runs, part_items, is_short, Branch, where_both, where_either, by_number, joined, needs_both, needs_either, and_branch, or_branch}
 use Rattle.ir_semantics.specs.Parts.{Does, after, ◌>>=◌, give, choose}
 use Rattle.ir_semantics.specs.TreeRun.{Tree, and_does, or_does}

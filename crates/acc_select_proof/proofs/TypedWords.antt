@@ -14,7 +14,7 @@ use Rattle.tree_code.specs.Lowered.{is_minus, is_number, is_converted, lowered_u
 use Rattle.tree_code.specs.Operations.{word_op, one_of, is_ordered_unsigned}
 use Rattle.tree_code.specs.WordTree as code
 use Rattle.tree_code.specs.declared.operator.WordOp.{WordOp}
-use Rattle.acc_operations.specs.Kinds.{operation_of}
+use Rattle.acc_select.specs.acc_operations.Kinds.{operation_of}
 use Rattle.acc_select_proof.specs.OfWords.{GivesWord, IsOfWords, HasWordParts, IsTargetOfWords, AreOfWords}
 use Rattle.c_tree.specs.TypedOfWords.{UsesWords, TargetUsesWords, AllUseWords}
 

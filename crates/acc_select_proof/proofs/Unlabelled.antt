@@ -13,19 +13,19 @@ use Rattle.acc_code.specs.declared.operand.AccOperand.{AccOperand}
 use Rattle.acc_code.specs.declared.operand.AccOperand.TheVariants as operand
 use Rattle.acc_code.specs.declared.operation.Test.{Test}
 use Rattle.acc_code.specs.declared.operation.Test.TheVariants.{Nz}
-use Rattle.acc_operations.specs.Constants.{place_of, shape_of, initial_constant}
-use Rattle.acc_operations.specs.Kinds.{operation_of}
-use Rattle.acc_operations.specs.Words.{Word, fixed, held, next, in_accumulator, scratch, high}
-use Rattle.acc_operations.specs.declared.comparison.Comparison.{Comparison}
-use Rattle.acc_operations.specs.declared.constant.Constant.TheVariants.{Number, Address}
-use Rattle.acc_operations.specs.declared.constant.Shape.{Shape}
-use Rattle.acc_operations.specs.declared.constant.Shape.TheVariants as shape
-use Rattle.acc_operations.specs.declared.found.Found.{Found}
-use Rattle.acc_operations.specs.declared.found.Found.TheVariants.{Fixed, Held, Loaded}
-use Rattle.acc_operations.specs.declared.high_half.HighHalf.TheVariants.{Any, Sign, Small}
-use Rattle.acc_operations.specs.declared.operation.Arithmetic.{Arithmetic}
-use Rattle.acc_operations.specs.declared.operation.Operation.{Operation}
-use Rattle.acc_operations.specs.declared.operation.Operation.TheVariants as operation
+use Rattle.acc_select.specs.acc_operations.Constants.{place_of, shape_of, initial_constant}
+use Rattle.acc_select.specs.acc_operations.Kinds.{operation_of}
+use Rattle.acc_select.specs.acc_operations.Words.{Word, fixed, held, next, in_accumulator, scratch, high}
+use Rattle.acc_select.specs.acc_operations.declared.comparison.Comparison.{Comparison}
+use Rattle.acc_select.specs.acc_operations.declared.constant.Constant.TheVariants.{Number, Address}
+use Rattle.acc_select.specs.acc_operations.declared.constant.Shape.{Shape}
+use Rattle.acc_select.specs.acc_operations.declared.constant.Shape.TheVariants as shape
+use Rattle.acc_select.specs.acc_operations.declared.found.Found.{Found}
+use Rattle.acc_select.specs.acc_operations.declared.found.Found.TheVariants.{Fixed, Held, Loaded}
+use Rattle.acc_select.specs.acc_operations.declared.high_half.HighHalf.TheVariants.{Any, Sign, Small}
+use Rattle.acc_select.specs.acc_operations.declared.operation.Arithmetic.{Arithmetic}
+use Rattle.acc_select.specs.acc_operations.declared.operation.Operation.{Operation}
+use Rattle.acc_select.specs.acc_operations.declared.operation.Operation.TheVariants as operation
 use Rattle.acc_select.specs.Conditions as condition
 use Rattle.acc_select.specs.Conditions.{Part, Branch, is_short, tested, truth_items, by_number, and_branch, or_branch}
 use Rattle.acc_select.specs.Forms as form

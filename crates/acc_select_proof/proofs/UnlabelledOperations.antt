@@ -9,21 +9,21 @@ use Rattle.acc_code.specs.declared.operand.AccOperand.TheVariants as operand
 use Rattle.acc_code.specs.declared.operand.HelperName.{HelperName}
 use Rattle.acc_code.specs.declared.operation.AccOp.{AccOp}
 use Rattle.acc_code.specs.declared.operation.AccOp.TheVariants as row
-use Rattle.acc_operations.specs.Arithmetic.{times, multiply, product_with_place, helped, with_place, shifted_right, with_constant, helped_behind, of_constant, of_place, shift_helper, division_helper, remainder_helper}
-use Rattle.acc_operations.specs.Comparisons.{exactly_less, exactly_less_number, exactly_less_constant, exact_with, less_unsigned, items_with_place, items_with_constant, items_of_place}
-use Rattle.acc_operations.specs.Constants.{load_constant, negative}
-use Rattle.acc_operations.specs.Sums.{by_constant, plus, minus, repeated, count_of, moved_left, shift_left, moved_right, moved_right_signed, shift_right_signed, shift_right_unsigned, by_helper}
-use Rattle.acc_operations.specs.Words.{Word, scratch, lac, bare, load, high, loaded, store, load_t, extend, clear_high, clean, load_signed, load_unsigned, load_clean}
-use Rattle.acc_operations.specs.declared.comparison.Order.{Order}
-use Rattle.acc_operations.specs.declared.comparison.Order.TheVariants.{Exact, Signed, Unsigned}
-use Rattle.acc_operations.specs.declared.constant.Constant.{Constant}
-use Rattle.acc_operations.specs.declared.constant.Constant.TheVariants.{Number, Address}
-use Rattle.acc_operations.specs.declared.found.Found.{Found}
-use Rattle.acc_operations.specs.declared.found.Found.TheVariants.{Fixed, Held, Loaded}
-use Rattle.acc_operations.specs.declared.high_half.HighHalf.{HighHalf}
-use Rattle.acc_operations.specs.declared.high_half.HighHalf.TheVariants.{Any, Zero, Sign, Small}
-use Rattle.acc_operations.specs.declared.operation.Arithmetic.{Arithmetic}
-use Rattle.acc_operations.specs.declared.operation.Arithmetic.TheVariants.{Sum, Difference, Bits, Product, LeftShift, RightShift, Quotient, Remainder}
+use Rattle.acc_select.specs.acc_operations.Arithmetic.{times, multiply, product_with_place, helped, with_place, shifted_right, with_constant, helped_behind, of_constant, of_place, shift_helper, division_helper, remainder_helper}
+use Rattle.acc_select.specs.acc_operations.Comparisons.{exactly_less, exactly_less_number, exactly_less_constant, exact_with, less_unsigned, items_with_place, items_with_constant, items_of_place}
+use Rattle.acc_select.specs.acc_operations.Constants.{load_constant, negative}
+use Rattle.acc_select.specs.acc_operations.Sums.{by_constant, plus, minus, repeated, count_of, moved_left, shift_left, moved_right, moved_right_signed, shift_right_signed, shift_right_unsigned, by_helper}
+use Rattle.acc_select.specs.acc_operations.Words.{Word, scratch, lac, bare, load, high, loaded, store, load_t, extend, clear_high, clean, load_signed, load_unsigned, load_clean}
+use Rattle.acc_select.specs.acc_operations.declared.comparison.Order.{Order}
+use Rattle.acc_select.specs.acc_operations.declared.comparison.Order.TheVariants.{Exact, Signed, Unsigned}
+use Rattle.acc_select.specs.acc_operations.declared.constant.Constant.{Constant}
+use Rattle.acc_select.specs.acc_operations.declared.constant.Constant.TheVariants.{Number, Address}
+use Rattle.acc_select.specs.acc_operations.declared.found.Found.{Found}
+use Rattle.acc_select.specs.acc_operations.declared.found.Found.TheVariants.{Fixed, Held, Loaded}
+use Rattle.acc_select.specs.acc_operations.declared.high_half.HighHalf.{HighHalf}
+use Rattle.acc_select.specs.acc_operations.declared.high_half.HighHalf.TheVariants.{Any, Zero, Sign, Small}
+use Rattle.acc_select.specs.acc_operations.declared.operation.Arithmetic.{Arithmetic}
+use Rattle.acc_select.specs.acc_operations.declared.operation.Arithmetic.TheVariants.{Sum, Difference, Bits, Product, LeftShift, RightShift, Quotient, Remainder}
 
 -- no label stands directly among these items
 pub record Unlabelled (xs : ItemList) : Type 0 where

@@ -5,20 +5,20 @@ use Rattle.c_tree.specs.declared.program.VarRef.{VarRef}
 use Rattle.acc_code.specs.declared.operand.AccOperand.{AccOperand}
 use Rattle.acc_code.specs.declared.operand.AccOperand.TheVariants as operand
 use Rattle.acc_code.specs.AccTree.{ItemList, end, ◌▸◌, ◌⧺◌}
-use Rattle.acc_operations.proofs.ItemLemmas.{items_associate}
-use Rattle.acc_operations.specs.Arithmetic.{with_place, with_constant}
-use Rattle.acc_operations.specs.Constants.{place_of}
-use Rattle.acc_operations.specs.Words.{load, high, loaded, sacl}
-use Rattle.acc_operations.specs.Words as words
-use Rattle.acc_operations.specs.declared.constant.Constant.{Constant}
-use Rattle.acc_operations.specs.declared.constant.Shape.{Shape}
-use Rattle.acc_operations.specs.declared.constant.Shape.TheVariants as shape
-use Rattle.acc_operations.specs.declared.found.Found.{Found}
-use Rattle.acc_operations.specs.declared.found.Found.TheVariants.{Fixed, Held}
-use Rattle.acc_operations.specs.declared.high_half.HighHalf.{HighHalf}
-use Rattle.acc_operations.specs.declared.high_half.HighHalf.TheVariants.{Sign}
-use Rattle.acc_operations.specs.declared.operation.Arithmetic.{Arithmetic}
-use Rattle.acc_operations.specs.declared.operation.Operation.TheVariants as operation
+use Rattle.acc_select.proofs.acc_operations.ItemLemmas.{items_associate}
+use Rattle.acc_select.specs.acc_operations.Arithmetic.{with_place, with_constant}
+use Rattle.acc_select.specs.acc_operations.Constants.{place_of}
+use Rattle.acc_select.specs.acc_operations.Words.{load, high, loaded, sacl}
+use Rattle.acc_select.specs.acc_operations.Words as words
+use Rattle.acc_select.specs.acc_operations.declared.constant.Constant.{Constant}
+use Rattle.acc_select.specs.acc_operations.declared.constant.Shape.{Shape}
+use Rattle.acc_select.specs.acc_operations.declared.constant.Shape.TheVariants as shape
+use Rattle.acc_select.specs.acc_operations.declared.found.Found.{Found}
+use Rattle.acc_select.specs.acc_operations.declared.found.Found.TheVariants.{Fixed, Held}
+use Rattle.acc_select.specs.acc_operations.declared.high_half.HighHalf.{HighHalf}
+use Rattle.acc_select.specs.acc_operations.declared.high_half.HighHalf.TheVariants.{Sign}
+use Rattle.acc_select.specs.acc_operations.declared.operation.Arithmetic.{Arithmetic}
+use Rattle.acc_select.specs.acc_operations.declared.operation.Operation.TheVariants as operation
 use Rattle.acc_select.specs.Forms as form
 use Rattle.acc_select.specs.Forms.{Code, of_word, updated, through, temporary, update_name_code, update_at_code, update_at_once, update_through}
 use Rattle.c25_isa.specs.Step.{wrap16}

@@ -5,9 +5,9 @@ use Rattle.word_base.specs.Ports.{Prefix}
 use Rattle.acc_code.specs.declared.operand.AccOperand.{AccOperand}
 use Rattle.acc_code.specs.declared.operation.Test.{Test}
 use Rattle.acc_code.specs.AccTree.{If, ItemList, end, ◌▸◌, ◌⧺◌}
-use Rattle.acc_operations.specs.Words.{Word, load, high, loaded, sacl}
-use Rattle.acc_operations.specs.declared.found.Found.{Found}
-use Rattle.acc_operations.specs.declared.high_half.HighHalf.{HighHalf}
+use Rattle.acc_select.specs.acc_operations.Words.{Word, load, high, loaded, sacl}
+use Rattle.acc_select.specs.acc_operations.declared.found.Found.{Found}
+use Rattle.acc_select.specs.acc_operations.declared.high_half.HighHalf.{HighHalf}
 use Rattle.acc_select.specs.Conditions.{Part, part_items, Branch}
 use Rattle.acc_select.specs.Forms as form
 use Rattle.acc_select.specs.Forms.{Code}

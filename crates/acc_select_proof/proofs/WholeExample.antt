@@ -7,7 +7,7 @@ use Rattle.c_tree.specs.SourceRun.{main_name}
 use Rattle.tree_code.specs.WordTree as word
 use Rattle.tree_code.specs.WordTree.{ExprCode, Node, Const, Read, none, more, FunctionCode, ProgramCode, code}
 use Rattle.acc_code.specs.AccTree.{Return, end, ◌▸◌, ◌⧺◌}
-use Rattle.acc_operations.specs.Words.{Word, loaded, high}
+use Rattle.acc_select.specs.acc_operations.Words.{Word, loaded, high}
 use Rattle.acc_select.specs.Selected.{code_of, selected, is_main}
 use Rattle.ir_semantics.specs.Keeps as run
 use Rattle.ir_semantics.specs.Keeps.{tree_run, acc_run}

@@ -2,8 +2,8 @@
 use Rattle.std.proofs.Common.{◌≡◌, ℕ, ◌+◌, ◌*◌, ◌^◌, ◌<◌, ◌≤◌, Bool, true, false, Option, Some, refl, sym, ap, ◌∙◌, ⊎_elim, inl, inr, arith}
 use Rattle.std.specs.Prelude.{◌⊎◌, nat_lt, if◌then◌else◌}
 use Rattle.std.proofs.lemmas.Bool.{cases_lt, cond_below, cond_above, ltb-true}
-use Rattle.acc_operations.specs.declared.high_half.HighHalf.{HighHalf}
-use Rattle.acc_operations.specs.declared.high_half.HighHalf.TheVariants.{Any, Zero, Sign, Small}
+use Rattle.acc_select.specs.acc_operations.declared.high_half.HighHalf.{HighHalf}
+use Rattle.acc_select.specs.acc_operations.declared.high_half.HighHalf.TheVariants.{Any, Zero, Sign, Small}
 use Rattle.c25_isa.specs.Step.{extended, wrap16, wrap32}
 use Rattle.ir_semantics.specs.AccRows.{Acc, Whole, low_half, scaled}
 use Rattle.acc_select_proof.proofs.Straights.{Has}

@@ -2,8 +2,8 @@
 -- bytes in that source, which begins behind the `-- ` of its line.
 use Rattle.std.specs.Prelude.{ℕ, true, false, codes, List, [], ◌∷◌, Option, Some, None}
 use Rattle.std.proofs.Common.{◌≡◌, refl}
-use Rattle.c_syntax.specs.declared.syntax.SpecWord.TheVariants.{Int, Static, Void}
-use Rattle.c_syntax.specs.SyntaxTree.{SpecsTree, Expression, Node, Name, Number, Call, Assign, no_argument, argument, ItemTree, ItemForm, Plain, Parameters, InitialTree, One, DeclarationTree, ParameterTree, Statements, Empty, Return, Switch, no_statement, statement, no_choice, case_label, chosen, ExternalTree, Defined, Declared, UnitTree}
+use Rattle.c_tree.specs.c_syntax.declared.syntax.SpecWord.TheVariants.{Int, Static, Void}
+use Rattle.c_tree.specs.c_syntax.SyntaxTree.{SpecsTree, Expression, Node, Name, Number, Call, Assign, no_argument, argument, ItemTree, ItemForm, Plain, Parameters, InitialTree, One, DeclarationTree, ParameterTree, Statements, Empty, Return, Switch, no_statement, statement, no_choice, case_label, chosen, ExternalTree, Defined, Declared, UnitTree}
 use Rattle.c_rules.specs.declared.fault.Rule.TheVariants.{Redeclared, Mismatch, NotLvalue, NotConstant, BadPort, ArgCount, Misplaced}
 use Rattle.c_rules.specs.Visits.{visit, first}
 use Rattle.c_rules.specs.Walk.{walk}

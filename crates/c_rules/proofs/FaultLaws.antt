@@ -1,6 +1,6 @@
 -- At most one fault is said of a source.
 use Rattle.std.proofs.Common.{◌≡◌, ◌⊎◌, ◌∙◌, sym, refl, ap, subst, ℕ, List, Option, Some, None, inl, inr, false, true, true≢false}
-use Rattle.c_syntax.specs.SyntaxTree.{UnitTree}
+use Rattle.c_tree.specs.c_syntax.SyntaxTree.{UnitTree}
 use Rattle.c_rules.specs.declared.fault.LimitName.{LimitName}
 use Rattle.c_rules.specs.declared.fault.LimitName.TheVariants as limit
 use Rattle.c_rules.specs.declared.fault.Rule.{Rule}

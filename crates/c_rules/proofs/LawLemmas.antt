@@ -1,6 +1,6 @@
 -- At most one typed program, and no fault beside it.
 use Rattle.std.proofs.Common.{◌≡◌, ◌∙◌, sym, refl, ap, subst, ℕ, List, Some, None, true≢false}
-use Rattle.c_syntax.specs.SyntaxTree.{UnitTree}
+use Rattle.c_tree.specs.c_syntax.SyntaxTree.{UnitTree}
 use Rattle.c_tree.specs.TypedTree.{ProgramTree}
 use Rattle.c_rules.specs.declared.fault.LimitName.{LimitName}
 use Rattle.c_rules.specs.declared.fault.LimitName.TheVariants as limit

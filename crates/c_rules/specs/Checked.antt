@@ -1,6 +1,6 @@
 -- The typed program of a source (docs/LANGUAGE.md, "Types").
 use Rattle.std.specs.Prelude.{◌≡◌, ℕ, true, List, Some, None}
-use Rattle.c_syntax.specs.SyntaxTree.{UnitTree}
+use Rattle.c_tree.specs.c_syntax.SyntaxTree.{UnitTree}
 use Rattle.c_tree.specs.TypedTree.{ProgramTree}
 use Rattle.c_rules.specs.declared.fault.LimitName.{LimitName}
 use Rattle.c_rules.specs.declared.fault.Rule.{Rule}

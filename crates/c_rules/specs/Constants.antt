@@ -1,11 +1,11 @@
 -- Constant expressions: ISO 9899:1990 6.4 (docs/LANGUAGE.md, "Types").
 use Rattle.std.specs.Prelude.{ℕ, ◌==◌, ◌&&◌, ◌||◌, not, Bool, true, false, if◌then◌else◌, Option, Some, None}
 use Rattle.word_base.specs.Words.{Calc, Good, Bad, truth}
-use Rattle.c_syntax.specs.declared.operator.UnaryOp.{UnaryOp}
-use Rattle.c_syntax.specs.declared.operator.BinaryOp.{BinaryOp}
-use Rattle.c_syntax.specs.declared.operator.BinaryOp.TheVariants as op
-use Rattle.c_syntax.specs.SyntaxTree as tree
-use Rattle.c_syntax.specs.SyntaxTree.{Expression, ExpressionForm}
+use Rattle.c_tree.specs.c_syntax.declared.operator.UnaryOp.{UnaryOp}
+use Rattle.c_tree.specs.c_syntax.declared.operator.BinaryOp.{BinaryOp}
+use Rattle.c_tree.specs.c_syntax.declared.operator.BinaryOp.TheVariants as op
+use Rattle.c_tree.specs.c_syntax.SyntaxTree as tree
+use Rattle.c_tree.specs.c_syntax.SyntaxTree.{Expression, ExpressionForm}
 use Rattle.c_tree.specs.TypedTree.{Kind, Expr, Node, Const, Unary, Binary, And, Or, Not, Pick, Convert}
 use Rattle.c_tree.specs.Operators.{int_binary, unsigned_binary, int_unary, unsigned_unary}
 use Rattle.c_tree.specs.Eval.{kind_of, points, is_unsigned, without_sign}

@@ -1,12 +1,12 @@
 -- The walk over an expression: the rules that each of its nodes breaks, ISO 9899:1990 6.3 and 6.4.
 use Rattle.std.specs.Prelude.{ℕ, nat_lt, ◌||◌, not, Bool, true, false, if◌then◌else◌, List, [], ◌∷◌, ◌++◌, is_some, is_none, Option, Some, None}
-use Rattle.c_syntax.specs.declared.operator.BinaryOp.{BinaryOp}
+use Rattle.c_tree.specs.c_syntax.declared.operator.BinaryOp.{BinaryOp}
 use Rattle.c_tree.specs.declared.program.ScalarType.{ScalarType}
-use Rattle.c_syntax.specs.declared.syntax.SpecWord.TheVariants as words
-use Rattle.c_syntax.specs.declared.syntax.PrefixOp.{PrefixOp}
-use Rattle.c_syntax.specs.declared.syntax.PrefixOp.TheVariants as prefix
-use Rattle.c_syntax.specs.SyntaxTree as tree
-use Rattle.c_syntax.specs.SyntaxTree.{SpecsTree, TypeTree, Expression, ExpressionForm, Expressions, no_argument, argument}
+use Rattle.c_tree.specs.c_syntax.declared.syntax.SpecWord.TheVariants as words
+use Rattle.c_tree.specs.c_syntax.declared.syntax.PrefixOp.{PrefixOp}
+use Rattle.c_tree.specs.c_syntax.declared.syntax.PrefixOp.TheVariants as prefix
+use Rattle.c_tree.specs.c_syntax.SyntaxTree as tree
+use Rattle.c_tree.specs.c_syntax.SyntaxTree.{SpecsTree, TypeTree, Expression, ExpressionForm, Expressions, no_argument, argument}
 use Rattle.c_tree.specs.TypedTree.{Kind, Expr}
 use Rattle.c_tree.specs.Eval.{kind_of}
 use Rattle.c_rules.specs.declared.fault.Rule.{Rule}

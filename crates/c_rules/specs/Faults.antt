@@ -1,6 +1,6 @@
 -- The faults that broken rules are, and what a fault says of the source.
 use Rattle.std.specs.Prelude.{◌≡◌, ⊤, ℕ, true, false, List, Some, None}
-use Rattle.c_syntax.specs.SyntaxTree.{UnitTree}
+use Rattle.c_tree.specs.c_syntax.SyntaxTree.{UnitTree}
 use Rattle.c_rules.specs.declared.fault.Rule.{Rule}
 use Rattle.c_rules.specs.declared.fault.Rule.TheVariants as rules
 use Rattle.c_rules.specs.declared.fault.Refusal.{Refusal}

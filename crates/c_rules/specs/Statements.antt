@@ -5,8 +5,8 @@ use Rattle.c_tree.specs.declared.program.Base.{Base}
 use Rattle.c_tree.specs.declared.program.VarRef.{VarRef}
 use Rattle.c_tree.specs.declared.program.VarRef.TheVariants as refs
 use Rattle.c_tree.specs.declared.program.Initial.{Initial}
-use Rattle.c_syntax.specs.SyntaxTree as tree
-use Rattle.c_syntax.specs.SyntaxTree.{Expression, ItemTree, ItemForm, InitialTree, DeclarationTree, Statement, Statements, no_statement, statement, no_choice, case_label, default_label, chosen}
+use Rattle.c_tree.specs.c_syntax.SyntaxTree as tree
+use Rattle.c_tree.specs.c_syntax.SyntaxTree.{Expression, ItemTree, ItemForm, InitialTree, DeclarationTree, Statement, Statements, no_statement, statement, no_choice, case_label, default_label, chosen}
 use Rattle.c_tree.specs.TypedTree.{Kind, Expr, Node, Assign, Named, Stmt, Block, Fill, Do_expr, If, While, Do_while, For, Switch, Break, Continue, Return, Stmts, done, both, Choices, no_more, case, default, body}
 use Rattle.c_tree.specs.Eval.{kind_of, points}
 pub use Rattle.c_tree.specs.Labels.{may_break, may_continue, in_switch, has_case, has_default, repeats_label}

@@ -4,13 +4,13 @@ use Rattle.std.specs.List.{position_or_len}
 use Rattle.std.specs.Str.{bytes_eq}
 use Rattle.c_tree.specs.declared.program.Base.{Base}
 use Rattle.c_tree.specs.declared.program.Base.TheVariants as base
-use Rattle.c_syntax.specs.declared.operator.UnaryOp.TheVariants as unary_op
-use Rattle.c_syntax.specs.declared.syntax.SpecWord.{SpecWord}
-use Rattle.c_syntax.specs.declared.syntax.SpecWord.TheVariants as words
-use Rattle.c_syntax.specs.declared.syntax.PrefixOp.{PrefixOp}
-use Rattle.c_syntax.specs.declared.syntax.PrefixOp.TheVariants as prefix
-use Rattle.c_syntax.specs.SyntaxTree as tree
-use Rattle.c_syntax.specs.SyntaxTree.{SpecsTree, TypeTree, Expression, ExpressionForm, Expressions, no_argument, argument}
+use Rattle.c_tree.specs.c_syntax.declared.operator.UnaryOp.TheVariants as unary_op
+use Rattle.c_tree.specs.c_syntax.declared.syntax.SpecWord.{SpecWord}
+use Rattle.c_tree.specs.c_syntax.declared.syntax.SpecWord.TheVariants as words
+use Rattle.c_tree.specs.c_syntax.declared.syntax.PrefixOp.{PrefixOp}
+use Rattle.c_tree.specs.c_syntax.declared.syntax.PrefixOp.TheVariants as prefix
+use Rattle.c_tree.specs.c_syntax.SyntaxTree as tree
+use Rattle.c_tree.specs.c_syntax.SyntaxTree.{SpecsTree, TypeTree, Expression, ExpressionForm, Expressions, no_argument, argument}
 use Rattle.c_tree.specs.TypedTree.{Kind, Expr, Node, Const, Read, AddressOf, Call}
 use Rattle.c_tree.specs.Eval.{kind_of}
 use Rattle.c_rules.specs.declared.fault.Rule.{Rule}

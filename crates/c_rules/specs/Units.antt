@@ -5,8 +5,8 @@ use Rattle.c_tree.specs.declared.program.Base.{Base}
 use Rattle.c_tree.specs.declared.program.ScalarType.{ScalarType}
 use Rattle.c_tree.specs.declared.program.VarRef.TheVariants as refs
 use Rattle.c_tree.specs.declared.program.Initial.{Initial}
-use Rattle.c_syntax.specs.SyntaxTree as tree
-use Rattle.c_syntax.specs.SyntaxTree.{ParameterTree, ItemTree, InitialTree, FunctionSyntax, ExternalTree, Defined, UnitTree}
+use Rattle.c_tree.specs.c_syntax.SyntaxTree as tree
+use Rattle.c_tree.specs.c_syntax.SyntaxTree.{ParameterTree, ItemTree, InitialTree, FunctionSyntax, ExternalTree, Defined, UnitTree}
 use Rattle.c_tree.specs.TypedTree.{Kind, Stmt}
 use Rattle.c_rules.specs.declared.fault.Rule.{Rule}
 use Rattle.c_rules.specs.declared.fault.Rule.TheVariants.{Redeclared, Mismatch}

@@ -2,8 +2,8 @@
 use Rattle.std.specs.Prelude.{◌||◌, not, List, [], ◌∷◌, ◌++◌, length, is_some, Option, Some, None}
 use Rattle.c_tree.specs.declared.program.Base.{Base}
 use Rattle.c_tree.specs.declared.program.ScalarType.{ScalarType}
-use Rattle.c_syntax.specs.SyntaxTree as tree
-use Rattle.c_syntax.specs.SyntaxTree.{SpecsTree, InitialTree, ItemTree, FunctionSyntax, ExternalTree, Defined, UnitTree}
+use Rattle.c_tree.specs.c_syntax.SyntaxTree as tree
+use Rattle.c_tree.specs.c_syntax.SyntaxTree.{SpecsTree, InitialTree, ItemTree, FunctionSyntax, ExternalTree, Defined, UnitTree}
 use Rattle.c_rules.specs.declared.fault.Rule.{Rule}
 use Rattle.c_rules.specs.declared.fault.Rule.TheVariants.{Redeclared, Mismatch}
 use Rattle.c_rules.specs.declared.local.Naming.TheVariants.{Needed}

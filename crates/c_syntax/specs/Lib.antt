@@ -1,4 +1,5 @@
 -- A C source from its bytes to its tree: ISO 9899:1990 6.1 and the grammar of 6.3 to 6.7.
+pub use Rattle.word_base.specs as word_base
 pub mod FixedTexts
 pub mod Constants
 pub mod Spelling

@@ -24,3 +24,4 @@ pub use stmt::{Stmt, StmtKind, SwitchPart};
 pub use syntax::{PrefixOp, SpecWord};
 pub use token::{Keyword, Punct, Token, TokenKind};
 pub use unit::{External, FunctionDef, Unit};
+pub use word_base::{Items, Text, UndefinedKind, div_trunc, signed, wrap16};

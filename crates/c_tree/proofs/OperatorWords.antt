@@ -4,8 +4,8 @@ use Rattle.std.specs.Prelude.{nat_lt, ◌==◌, ◌||◌, not, if◌then◌else�
 use Rattle.std.proofs.lemmas.Bool.{eqb-false, cond_below, cond_above, cases_lt}
 use Rattle.std.proofs.lemmas.Nat.{or_lt, xor_lt, and_le_l, mod_below}
 use native.Mathlib.Nat.{div-le_self}
-use Rattle.word_base.specs.Words.{Calc, Good, Bad, signed_of, low16, fit, wrap, truth, where_good, int_quotient, equal, int_less, unsigned_less}
-use Rattle.word_base.specs.declared.outcome.UndefinedKind.TheVariants.{Overflow, DivideByZero, ShiftCount}
+use Rattle.c_syntax.specs.word_base.Words.{Calc, Good, Bad, signed_of, low16, fit, wrap, truth, where_good, int_quotient, equal, int_less, unsigned_less}
+use Rattle.c_syntax.specs.word_base.declared.outcome.UndefinedKind.TheVariants.{Overflow, DivideByZero, ShiftCount}
 use Rattle.c_syntax.specs.declared.operator.BinaryOp.{BinaryOp}
 use Rattle.c_syntax.specs.declared.operator.BinaryOp.TheVariants as op
 use Rattle.c_syntax.specs.declared.operator.UnaryOp.{UnaryOp}

@@ -1,8 +1,8 @@
 -- What each operator of the typed tree gives on words: ISO 9899:1990 6.3.3.3 and 6.3.5 to 6.3.12, by docs/LANGUAGE.md,
 -- "Values".
 use Rattle.std.specs.Prelude.{ℕ, not, Result, Ok, Err}
-use Rattle.word_base.specs.declared.outcome.UndefinedKind.{UndefinedKind}
-use Rattle.word_base.specs.Words.{Calc, Good, Bad, truth, int_add, int_subtract, int_multiply, int_quotient, int_remainder, int_negate, unsigned_add, unsigned_subtract, unsigned_multiply, unsigned_quotient, unsigned_remainder, unsigned_negate, bits_and, bits_or, bits_xor, complement, shift_left, int_shift_right, unsigned_shift_right, equal, int_less, unsigned_less}
+use Rattle.c_syntax.specs.word_base.declared.outcome.UndefinedKind.{UndefinedKind}
+use Rattle.c_syntax.specs.word_base.Words.{Calc, Good, Bad, truth, int_add, int_subtract, int_multiply, int_quotient, int_remainder, int_negate, unsigned_add, unsigned_subtract, unsigned_multiply, unsigned_quotient, unsigned_remainder, unsigned_negate, bits_and, bits_or, bits_xor, complement, shift_left, int_shift_right, unsigned_shift_right, equal, int_less, unsigned_less}
 use Rattle.c_syntax.specs.declared.operator.UnaryOp.{UnaryOp}
 use Rattle.c_syntax.specs.declared.operator.UnaryOp.TheVariants.{Minus, Plus, Complement}
 use Rattle.c_syntax.specs.declared.operator.BinaryOp.{BinaryOp}

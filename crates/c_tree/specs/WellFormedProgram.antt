@@ -1,7 +1,7 @@
 -- Well-formed programs: what each function and object is, and what is so of all functions together.
 use Rattle.std.specs.Prelude.{◌≡◌, ◌≢◌, ◌≤◌, ◌<◌, ℕ, ◌+◌, List, [], map, length, slice_get, nat_lt, All, AllPairs, Option, Some, None}
 use Rattle.std.specs.List.{Any, sum_by}
-use Rattle.word_base.specs.Name.{IsName}
+use Rattle.c_syntax.specs.word_base.Name.{IsName}
 use Rattle.c_tree.specs.declared.program.VarRef.{VarRef}
 use Rattle.c_tree.specs.declared.program.VarRef.TheVariants.{Scalar, Local, Static}
 use Rattle.c_tree.specs.Temporaries.{statement_temporaries}

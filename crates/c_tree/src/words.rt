@@ -1,11 +1,10 @@
 //! What the operators give on words: ISO 9899:1990 6.3.3.3 and 6.3.5 to 6.3.12.
 ghost use Rattle.std.specs.Prelude.{◌≡◌};
-ghost use Rattle.word_base.specs.Words as words;
+ghost use Rattle.c_syntax.specs.word_base.Words as words;
 ghost use Rattle.c_tree.specs.Operators as operators;
 ghost use Rattle.c_tree.specs.Operators.{answer};
 
-use c_syntax::{BinaryOp, UnaryOp};
-use word_base::{UndefinedKind, div_trunc, signed, wrap16};
+use c_syntax::{BinaryOp, UnaryOp, UndefinedKind, div_trunc, signed, wrap16};
 
 /// An operator on two ints: the word of its value, or why it has none.
 pub fn int_binary(op: BinaryOp, a: u16, b: u16) -> Result<u16, UndefinedKind>

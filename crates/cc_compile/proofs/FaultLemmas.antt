@@ -2,7 +2,7 @@
 use Rattle.std.proofs.Common.{◌≡◌, ◌≢◌, ℕ, List, Ok, Err, refl, sym, subst}
 use Rattle.std.specs.Prelude.{Result, IfErr, IsErrAnd}
 use Rattle.c_tree.specs.TypedTree.{ProgramTree}
-use Rattle.frame_layouts.specs.declared.options.Options.{Options}
+use Rattle.cc_image.specs.frame_layouts.declared.options.Options.{Options}
 use Rattle.cc_image.specs.Faults.{Says}
 use Rattle.cc_image.specs.declared.fault.TranslationFault.{TranslationFault}
 use Rattle.cc_image.specs.declared.fault.TranslationFault.TheVariants as translation

@@ -13,7 +13,7 @@ use Rattle.c_parser.specs.declared.fault.ParseFault.{ParseFault}
 use Rattle.c_parser.specs.declared.fault.ParseFault.TheVariants as parse
 use Rattle.c_rules.specs.declared.fault.TypeFault.{TypeFault}
 use Rattle.c_rules.proofs.LawLemmas.{one_program, accepted}
-use Rattle.frame_layouts.specs.declared.options.Options.{Options}
+use Rattle.cc_image.specs.frame_layouts.declared.options.Options.{Options}
 use Rattle.cc_image.proofs.OneImage.{one_plan_fault, one_link_fault, plan_or_link, image_no_plan_fault, image_no_link_fault}
 use Rattle.cc_compile.specs.SourceFaults.{HasFault, HasNoProgramFor, HasProgram, HasTree, IsTypedWith, IsLexFault, IsParseFault, IsSameFault, IsAccepted, IsUntyped, IsOfTypes}
 use Rattle.cc_compile.specs.declared.fault.BuildFault.{BuildFault}

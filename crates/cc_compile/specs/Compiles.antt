@@ -11,7 +11,7 @@ use Rattle.c_rules.specs.Checked.{IsTyped}
 use Rattle.c25_isa.specs.Agrees.{Agrees}
 use Rattle.c25_isa.specs.Image.{Contents}
 use Rattle.lay_cert.specs.Frames.{Frame}
-use Rattle.frame_layouts.specs.declared.options.Options.{Options}
+use Rattle.cc_image.specs.frame_layouts.declared.options.Options.{Options}
 use Rattle.cc_image.specs.Images.{AccessAs, AreWalked, EndsWithin, HasFrames, HasImage, IsDirect, KeepsRuns, TreeKeepsRuns}
 
 -- the bytes have a tree, this a typed program, and that has the image, which is linked from its pieces and the routines, and the frames, which are

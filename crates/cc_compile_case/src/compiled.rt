@@ -1,6 +1,5 @@
 //! What a source is compiled to.
-use cc_compile::{BuildFault, compile};
-use frame_layouts::Options;
+use cc_compile::{BuildFault, Options, compile};
 use cc_report::ReportRow;
 use meeting_gate::Meeting;
 use std::alloc::Global;

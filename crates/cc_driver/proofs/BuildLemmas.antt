@@ -6,8 +6,8 @@ use Rattle.c25_image.specs.ImageText.{image_text}
 use Rattle.lay_cert.specs.Frames.{Frame}
 use Rattle.lay_cert.specs.CertText.{cert_text}
 use Rattle.cc_report.specs.Report.{report_lines}
-use Rattle.frame_layouts.specs.Frames.{AreOptions}
-use Rattle.frame_layouts.specs.Rows.{row_of}
+use Rattle.cc_text.specs.frame_layouts.Frames.{AreOptions}
+use Rattle.cc_text.specs.frame_layouts.Rows.{row_of}
 use Rattle.cc_words.specs.Asked.{ToBuild}
 use Rattle.cc_words.specs.Plain.{IsWithinBounds}
 use Rattle.cc_text.specs.Answers.{Answered}

@@ -1,6 +1,6 @@
 //! `gen N`.
 ghost use Rattle.std.specs.Prelude.{◌≢◌, ◌≤◌, length, [], IfOk, IfErr};
-ghost use Rattle.cc_compile.specs.Compiles.{IsBuilt};
+ghost use Rattle.cc_text.specs.cc_compile.Compiles.{IsBuilt};
 ghost use Rattle.cc_gen.specs.Generated.{generated};
 ghost use Rattle.cc_words.specs.Asked.{ToGenerate};
 ghost use Rattle.cc_words.specs.Plain.{IsWithinBounds};
@@ -12,9 +12,8 @@ ghost use Rattle.cc_driver.specs.Gen.{Summarizes, GeneratesTo, GenerateRefused};
 use crate::build::plain_options;
 use crate::run::run_from_zeros;
 use c25_isa::Image;
-use cc_compile::{Built, compile};
 use cc_gen::generate;
-use cc_text::{Answer, Refusal, gen_answer};
+use cc_text::{Answer, Built, Refusal, compile, gen_answer};
 use cc_words::Gen;
 use std::alloc::Global;
 use std::thread::Threads;

@@ -11,9 +11,8 @@ ghost use Rattle.cc_driver.specs.Stores.{NothingStored};
 use crate::shelf::{Fetched, PORTS_LIMIT, SOURCE_LIMIT, fetch_both};
 use c_means::evaluate;
 use c25_image::read_ports;
-use cc_compile::typed_program;
 use cc_shelf::Shelf;
-use cc_text::{Answer, Refusal, means_answer};
+use cc_text::{Answer, Refusal, means_answer, typed_program};
 use cc_words::Means;
 use std::alloc::Global;
 

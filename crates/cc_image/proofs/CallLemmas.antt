@@ -13,12 +13,12 @@ use Rattle.c25_isa.specs.Pieces.{Piece}
 use Rattle.c25_code.specs.Naming.{names_called}
 use Rattle.acc_code.specs.declared.operand.HelperName.{HelperName}
 use Rattle.acc_code.specs.declared.operand.HelperName.TheVariants.{DivInt, DivUnsigned, RemInt, RemUnsigned, ShrInt, ShrUnsigned}
-use Rattle.emit_control.specs.Settings.{helper_name, routine_of}
+use Rattle.frame_emit.specs.emit_control.Settings.{helper_name, routine_of}
 use Rattle.c25_helper.specs.Calls.{items_call, pieces_call, called_helper_pieces}
 use Rattle.c25_helper.specs.declared.routine.Routine.{Routine}
 use Rattle.c25_helper.specs.declared.routine.Routine.TheVariants as routine
 use Rattle.c25_helper.specs.Routines.{all_routines, helper_pieces, routine_name, routine_piece}
-use Rattle.emit_proof.specs.Calls.{CallsAre}
+use Rattle.size_proof.specs.emit_proof.Calls.{CallsAre}
 use Rattle.frame_emit.specs.Startup.{startup_name}
 use Rattle.cc_image.proofs.LayoutLemmas.{same_some}
 

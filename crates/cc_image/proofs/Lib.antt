@@ -1,3 +1,4 @@
+pub use Rattle.walk_proof.proofs.image_proof as image_proof
 pub mod OneImage
 mod LayoutLemmas
 mod NameLemmas

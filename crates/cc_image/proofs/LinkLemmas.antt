@@ -33,10 +33,10 @@ use Rattle.c25_helper.specs.Calls.{pieces_call, called_helper_pieces}
 use Rattle.c25_helper.specs.Names.{CallsNone}
 use Rattle.c25_helper.specs.Routines.{helper_pieces}
 use Rattle.c25_link.specs.Linking.{AreLinkable}
-use Rattle.emit_control.specs.Cuts.{function_items}
-use Rattle.emit_control.specs.Settings.{Setting, helper_name, name_or_none}
-use Rattle.emit_proof.specs.Calls.{IsNameOf}
-use Rattle.emit_proof.proofs.Pieces.{piece_calls}
+use Rattle.frame_emit.specs.emit_control.Cuts.{function_items}
+use Rattle.frame_emit.specs.emit_control.Settings.{Setting, helper_name, name_or_none}
+use Rattle.size_proof.specs.emit_proof.Calls.{IsNameOf}
+use Rattle.size_proof.proofs.emit_proof.Pieces.{piece_calls}
 use Rattle.frame_emit.specs.Emitted.{function_piece, function_pieces, setting_of, behind_startup}
 use Rattle.frame_emit.specs.Frames.{all_parameters}
 use Rattle.frame_emit.specs.Startup.{startup_name, startup_piece, fillings_code}

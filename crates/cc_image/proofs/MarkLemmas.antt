@@ -20,10 +20,10 @@ use Rattle.c25_code.specs.Items.{no_change, plain_items}
 use Rattle.c25_code.specs.Links.{IsMarkOf, MarksDiffer}
 use Rattle.c25_code.specs.Naming.{marks_named, HasItsMarks}
 use Rattle.c_tree.specs.SourceRun.{main_name}
-use Rattle.emit_control.specs.Cuts.{function_items}
-use Rattle.emit_control.specs.Settings.{Setting}
-use Rattle.emit_proof.specs.Calls.{IsJumpTo}
-use Rattle.emit_proof.proofs.Pieces.{piece_once, piece_marked}
+use Rattle.frame_emit.specs.emit_control.Cuts.{function_items}
+use Rattle.frame_emit.specs.emit_control.Settings.{Setting}
+use Rattle.size_proof.specs.emit_proof.Calls.{IsJumpTo}
+use Rattle.size_proof.proofs.emit_proof.Pieces.{piece_once, piece_marked}
 use Rattle.frame_emit.specs.Emitted.{function_piece, function_pieces, setting_of}
 use Rattle.frame_emit.specs.Startup.{startup_piece, fillings_code}
 use Rattle.cc_image.proofs.TranslationLemmas.{element_at, some_at}

@@ -13,7 +13,7 @@ use Rattle.std.specs.Prelude.{slice_index_or}
 use Rattle.c25_helper.specs.Calls.{pieces_call}
 use Rattle.c25_helper.specs.Routines.{all_routines, helper_pieces, routine_piece}
 use Rattle.c25_link.specs.Linking.{IsLinkable}
-use Rattle.emit_proof.proofs.Words.{piece_has_word}
+use Rattle.size_proof.proofs.emit_proof.Words.{piece_has_word}
 use Rattle.frame_emit.specs.Frames.{all_parameters}
 use Rattle.frame_emit.specs.Startup.{startup_piece}
 use Rattle.frame_emit.specs.Emitted.{function_piece, function_pieces, setting_of}

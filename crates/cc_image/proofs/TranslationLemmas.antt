@@ -10,10 +10,10 @@ use Rattle.c_tree.specs.TypedOfWords.{ProgramHasWords}
 use Rattle.acc_select.specs.Selected.{selected}
 use Rattle.ir_semantics.specs.Keeps.{acc_run, tree_run}
 use Rattle.ir_semantics.specs.Outside.{Places}
-use Rattle.tree_code_proof.specs.Lowering.{KeepsSource}
-use Rattle.tree_code_proof.specs.Surroundings.{ArePlaces}
+use Rattle.walk_proof.specs.tree_code_proof.Lowering.{KeepsSource}
+use Rattle.walk_proof.specs.tree_code_proof.Surroundings.{ArePlaces}
 use Rattle.mem_plan.specs.Plan.{AreArranged, IsPlan}
-use Rattle.image_proof.specs.PlanPlaces.{places_of}
+use Rattle.walk_proof.specs.image_proof.PlanPlaces.{places_of}
 use Rattle.tree_code.specs.WordTree.{ProgramCode}
 use Rattle.tree_code.specs.Lowered.{lowered_program}
 use Rattle.acc_code.specs.AccTree.{FunctionItems}
@@ -23,7 +23,7 @@ use Rattle.tree_code.specs.WordHelpers.{uses_helper}
 use Rattle.mem_plan.specs.declared.data_plan.DataPlan.{DataPlan}
 use Rattle.mem_plan.specs.declared.data_plan.PlanFault.TheVariants as plan_faults
 use Rattle.c25_link.specs.declared.fault.LinkFault.TheVariants as link_faults
-use Rattle.emit_control.specs.Emits.{IsRightItem}
+use Rattle.frame_emit.specs.emit_control.Emits.{IsRightItem}
 use Rattle.frame_emit.proofs.Naming.{all_right}
 use Rattle.cc_image.specs.declared.fault.TranslationFault.{TranslationFault}
 use Rattle.cc_image.specs.declared.fault.TranslationFault.TheVariants.{Plan, Link, NoMemory}

@@ -6,8 +6,10 @@ mod laws;
 mod phases;
 
 pub use c25_link::LinkFault;
-pub use frame_layouts::Options;
 pub use fault::TranslationFault;
+pub use frame_layouts::{Options, report_rows};
 pub use laws::{code_is_bounded, one_image};
 pub use mem_plan::PlanFault;
 pub use phases::{Translated, translate};
+pub use size_proof::programs_weigh_by_nodes;
+pub use walk_proof::runs_tell;

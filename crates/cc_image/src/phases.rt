@@ -25,8 +25,8 @@ use c_tree::Program;
 use c25_helper::called_helpers;
 use c25_isa::{Image, Piece};
 use c25_link::{counted_words, link};
-use frame_layouts::{Layouts, Options, certificate_of, lay_out};
 use frame_emit::emit;
+use frame_layouts::{Layouts, Options, certificate_of, lay_out};
 use lay_cert::Certificate;
 use mem_plan::{DataPlan, plan};
 use std::alloc::Global;
@@ -246,10 +246,10 @@ pub fn translate<R: Threads + Sync, G: Gate + Sync>(
     ensures claims { IfOk result (λ made. All ClaimsHold made.certificate) }
     ensures refused { IfErr result (Says options (program_of program.now)) }
 {
-    acc_select_proof::accesses_are_kept();
-    image_proof::translation_keeps_runs();
-    tree_code_proof::lowering_keeps_runs();
-    image_proof::images_agree();
+    walk_proof::accesses_are_kept();
+    walk_proof::translation_keeps_runs();
+    walk_proof::lowering_keeps_runs();
+    walk_proof::images_agree();
     walk_proof::programs_walk();
     walk_proof::programs_are_direct();
     let chosen = choose(alloc, program)?;

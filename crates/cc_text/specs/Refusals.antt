@@ -8,8 +8,8 @@ use Rattle.c25_image.specs.declared.fault.PortFault.{PortFault}
 use Rattle.c25_image.specs.declared.fault.PortFault.TheVariants as port_faults
 use Rattle.lay_text.specs.declared.fault.SeqFault.{SeqFault}
 use Rattle.lay_text.specs.declared.fault.SeqFault.TheVariants as sequence_faults
-use Rattle.lay_cert.specs.declared.fault.CertFault.{CertFault}
-use Rattle.lay_cert.specs.declared.fault.CertFault.TheVariants as certificate_faults
+use Rattle.cc_compile.specs.lay_cert.declared.fault.CertFault.{CertFault}
+use Rattle.cc_compile.specs.lay_cert.declared.fault.CertFault.TheVariants as certificate_faults
 use Rattle.cc_compile.specs.declared.fault.BuildFault.{BuildFault}
 use Rattle.cc_compile.specs.declared.fault.BuildFault.TheVariants as build_faults
 use Rattle.cc_text.specs.declared.refusal.FileFault.{FileFault}

@@ -12,6 +12,7 @@ mod run_text;
 mod source_text;
 
 pub use answer::Answer;
+pub use cc_compile::{Built, Options, compile, runs_tell, typed_program};
 pub use gen_text::gen_answer;
 pub use layout_text::layout_answer;
 pub use means_text::means_answer;

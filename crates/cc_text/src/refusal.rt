@@ -4,8 +4,7 @@ ghost use Rattle.cc_text.specs.Refusals.{why_of, of_image_fault, of_port_fault, 
 
 use c25_asm::AsmFault;
 use c25_image::{ImageFault, PortFault};
-use cc_compile::BuildFault;
-use lay_cert::CertFault;
+use cc_compile::{BuildFault, CertFault};
 use lay_text::SeqFault;
 use word_base::NoMemory;
 

@@ -5,7 +5,7 @@ ghost use Rattle.cc_text.specs.Refusals.{file_line, image_line, port_line, seque
 use crate::refusal::FileFault;
 use c25_asm::AsmFault;
 use c25_image::{ImageFault, PortFault};
-use lay_cert::CertFault;
+use cc_compile::CertFault;
 use lay_text::SeqFault;
 use std::alloc::Global;
 use word_base::NoMemory;

@@ -5,8 +5,7 @@ ghost use Rattle.cc_text.specs.SourceText.{source_line, lex_line, parse_line, ty
 use c_lexer::LexFault;
 use c_parser::ParseFault;
 use c_rules::{LimitName, TypeFault};
-use cc_compile::BuildFault;
-use cc_image::{LinkFault, PlanFault};
+use cc_compile::{BuildFault, LinkFault, PlanFault};
 use std::alloc::Global;
 use word_base::{NoMemory, Text};
 

@@ -5,9 +5,9 @@ use Rattle.acc_code.specs.AccTree.{ItemList}
 use Rattle.acc_code.specs.declared.operand.AccOperand.{AccOperand}
 use Rattle.acc_code.specs.declared.operation.Test.{Test}
 use Rattle.acc_code.specs.declared.operation.Test.TheVariants.{Nz}
-use Rattle.acc_operations.specs.Kinds.{in_sense}
-use Rattle.acc_operations.specs.Words.{Word, in_accumulator}
-use Rattle.acc_operations.specs.declared.high_half.HighHalf.TheVariants.{Small}
+use Rattle.acc_select.specs.acc_operations.Kinds.{in_sense}
+use Rattle.acc_select.specs.acc_operations.Words.{Word, in_accumulator}
+use Rattle.acc_select.specs.acc_operations.declared.high_half.HighHalf.TheVariants.{Small}
 use Rattle.acc_select.specs.Conditions as condition
 use Rattle.acc_select.specs.Conditions.{Part, Branch, part_items, is_short, tested, truth_items, by_number, and_branch, or_branch}
 use Rattle.acc_select.specs.Forms.{Code, of_word, of_branch}

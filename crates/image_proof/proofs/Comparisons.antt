@@ -3,15 +3,15 @@ use Rattle.std.proofs.Common.{ℕ, ◌/◌, ◌%◌, ◌<◌, arith}
 use Rattle.std.specs.Prelude.{◌==◌, nat_lt}
 use Rattle.acc_code.specs.AccTree.{ItemList, ◌▸◌}
 use Rattle.acc_code.specs.declared.operand.AccOperand.{AccOperand}
-use Rattle.acc_operations.specs.Comparisons.{low_half, exactly_less, exactly_less_number, exactly_less_constant, exact_with, less_unsigned, items_with_place, items_with_constant, items_of_place}
-use Rattle.acc_operations.specs.Words.{high}
-use Rattle.acc_operations.specs.declared.comparison.Order.{Order}
-use Rattle.acc_operations.specs.declared.comparison.Order.TheVariants.{Exact, Signed, Unsigned}
-use Rattle.acc_operations.specs.declared.constant.Constant.{Constant}
-use Rattle.acc_operations.specs.declared.constant.Constant.TheVariants.{Number, Address}
-use Rattle.acc_operations.specs.declared.found.Found.{Found}
-use Rattle.acc_operations.specs.declared.high_half.HighHalf.{HighHalf}
-use Rattle.acc_operations.specs.declared.high_half.HighHalf.TheVariants.{Any, Zero, Sign, Small}
+use Rattle.acc_select.specs.acc_operations.Comparisons.{low_half, exactly_less, exactly_less_number, exactly_less_constant, exact_with, less_unsigned, items_with_place, items_with_constant, items_of_place}
+use Rattle.acc_select.specs.acc_operations.Words.{high}
+use Rattle.acc_select.specs.acc_operations.declared.comparison.Order.{Order}
+use Rattle.acc_select.specs.acc_operations.declared.comparison.Order.TheVariants.{Exact, Signed, Unsigned}
+use Rattle.acc_select.specs.acc_operations.declared.constant.Constant.{Constant}
+use Rattle.acc_select.specs.acc_operations.declared.constant.Constant.TheVariants.{Number, Address}
+use Rattle.acc_select.specs.acc_operations.declared.found.Found.{Found}
+use Rattle.acc_select.specs.acc_operations.declared.high_half.HighHalf.{HighHalf}
+use Rattle.acc_select.specs.acc_operations.declared.high_half.HighHalf.TheVariants.{Any, Zero, Sign, Small}
 use Rattle.emit_proof.specs.Addressed.{IsWordOperand}
 use Rattle.image_proof.proofs.Usables.{Usable, nothing, on_number, on_address, on_first, on_place, both, either}
 use Rattle.image_proof.proofs.UsableWords.{IsWordConstant, IsWordFound, load_usable, load_signed_usable, load_unsigned_usable, load_clean_usable}

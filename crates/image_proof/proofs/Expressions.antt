@@ -7,10 +7,10 @@ use Rattle.tree_code.specs.WordTree as tree
 use Rattle.tree_code.specs.WordTree.{ExprCode, Node, Named, At, ExprsCode}
 use Rattle.acc_code.specs.AccTree.{end}
 use Rattle.acc_code.specs.declared.operand.AccOperand.TheVariants as operand
-use Rattle.acc_operations.specs.Constants.{place_of, shape_of}
-use Rattle.acc_operations.specs.Kinds.{operation_of}
-use Rattle.acc_operations.specs.Words.{fixed, held}
-use Rattle.acc_operations.specs.declared.constant.Constant.TheVariants.{Number, Address}
+use Rattle.acc_select.specs.acc_operations.Constants.{place_of, shape_of}
+use Rattle.acc_select.specs.acc_operations.Kinds.{operation_of}
+use Rattle.acc_select.specs.acc_operations.Words.{fixed, held}
+use Rattle.acc_select.specs.acc_operations.declared.constant.Constant.TheVariants.{Number, Address}
 use Rattle.acc_select.specs.Conditions as condition
 use Rattle.acc_select.specs.Conditions.{and_branch, or_branch}
 use Rattle.acc_select.specs.Forms.{parameter_items}

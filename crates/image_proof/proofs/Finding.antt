@@ -15,7 +15,7 @@ use Rattle.c25_isa.specs.Pieces.{Piece}
 use Rattle.c25_code.specs.Links.{first_piece}
 use Rattle.c25_helper.specs.Calls.{pieces_call, called_helper_pieces}
 use Rattle.c25_helper.specs.Routines.{helper_pieces, routine_piece}
-use Rattle.emit_control.specs.Settings.{helper_name, routine_of}
+use Rattle.frame_emit.specs.emit_control.Settings.{helper_name, routine_of}
 use Rattle.frame_emit.specs.Emitted.{function_piece, function_pieces}
 use Rattle.frame_emit.specs.Startup.{startup_name}
 

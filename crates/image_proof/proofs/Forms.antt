@@ -6,19 +6,19 @@ use Rattle.c_syntax.specs.declared.operator.UnaryOp.TheVariants.{Minus, Plus, Co
 use Rattle.acc_code.specs.AccTree.{Call, ItemList, end, ◌▸◌, ◌⧺◌}
 use Rattle.acc_code.specs.declared.operand.AccOperand.{AccOperand}
 use Rattle.acc_code.specs.declared.operand.AccOperand.TheVariants as operand
-use Rattle.acc_operations.specs.Words.{Word, fixed, held, next, behind, in_accumulator, scratch, high}
-use Rattle.acc_operations.specs.Arithmetic.{with_place, with_constant, of_constant, of_place}
-use Rattle.acc_operations.specs.Comparisons.{items_of_place}
-use Rattle.acc_operations.specs.declared.constant.Constant.{Constant}
-use Rattle.acc_operations.specs.declared.comparison.Comparison.{Comparison}
-use Rattle.acc_operations.specs.declared.constant.Shape.{Shape}
-use Rattle.acc_operations.specs.declared.constant.Shape.TheVariants as shape
-use Rattle.acc_operations.specs.declared.found.Found.{Found}
-use Rattle.acc_operations.specs.declared.found.Found.TheVariants.{Fixed, Held, Loaded}
-use Rattle.acc_operations.specs.declared.high_half.HighHalf.TheVariants.{Any, Sign}
-use Rattle.acc_operations.specs.declared.operation.Arithmetic.{Arithmetic}
-use Rattle.acc_operations.specs.declared.operation.Operation.{Operation}
-use Rattle.acc_operations.specs.declared.operation.Operation.TheVariants as operation
+use Rattle.acc_select.specs.acc_operations.Words.{Word, fixed, held, next, behind, in_accumulator, scratch, high}
+use Rattle.acc_select.specs.acc_operations.Arithmetic.{with_place, with_constant, of_constant, of_place}
+use Rattle.acc_select.specs.acc_operations.Comparisons.{items_of_place}
+use Rattle.acc_select.specs.acc_operations.declared.constant.Constant.{Constant}
+use Rattle.acc_select.specs.acc_operations.declared.comparison.Comparison.{Comparison}
+use Rattle.acc_select.specs.acc_operations.declared.constant.Shape.{Shape}
+use Rattle.acc_select.specs.acc_operations.declared.constant.Shape.TheVariants as shape
+use Rattle.acc_select.specs.acc_operations.declared.found.Found.{Found}
+use Rattle.acc_select.specs.acc_operations.declared.found.Found.TheVariants.{Fixed, Held, Loaded}
+use Rattle.acc_select.specs.acc_operations.declared.high_half.HighHalf.TheVariants.{Any, Sign}
+use Rattle.acc_select.specs.acc_operations.declared.operation.Arithmetic.{Arithmetic}
+use Rattle.acc_select.specs.acc_operations.declared.operation.Operation.{Operation}
+use Rattle.acc_select.specs.acc_operations.declared.operation.Operation.TheVariants as operation
 use Rattle.acc_select.specs.Conditions as condition
 use Rattle.acc_select.specs.Forms as form
 use Rattle.acc_select.specs.Forms.{Code, Part_code, of_word, unary_word, unary_code, temporary, computed, compared, binary_code, signed_items, pick_code, comma_code, stored, assign_name_code, through, is_computed, assign_at_code, updated, update_name_code, update_at_code, stepped, undo_row, step_before_code, step_after_code, step_name_after_code, in_code, out_items, out_code, call_code, argument_items, parameter_items}

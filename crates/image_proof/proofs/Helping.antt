@@ -14,11 +14,11 @@ use Rattle.c25_isa.specs.Pieces.{Piece}
 use Rattle.c25_code.specs.Items.{plain_items, entry_code}
 use Rattle.c25_helper.specs.Calls.{item_calls, items_call, pieces_call}
 use Rattle.emit_blocks.specs.Steps.{Operation, operation}
-use Rattle.emit_control.specs.declared.ways.Ways.{Ways}
-use Rattle.emit_control.specs.Entries.{Entry, Run, Head, Place, Close, Branch, Goto, Dispatch, CallTo, CallHelper, Wipe, Ret, Finish, flushed}
-use Rattle.emit_control.specs.Flow.{Part, labels, item_labels, is_end, target, if_code, loop_code, behind_label, behind_jump, inner, next_behind, first_ways, turn_ways, third_ways, switch_ways, emit, body_entries}
-use Rattle.emit_control.specs.Cuts.{State, begun, cut, entry_items, behind_entry, function_items}
-use Rattle.emit_control.specs.Settings.{Setting, helper_name}
+use Rattle.frame_emit.specs.emit_control.declared.ways.Ways.{Ways}
+use Rattle.frame_emit.specs.emit_control.Entries.{Entry, Run, Head, Place, Close, Branch, Goto, Dispatch, CallTo, CallHelper, Wipe, Ret, Finish, flushed}
+use Rattle.frame_emit.specs.emit_control.Flow.{Part, labels, item_labels, is_end, target, if_code, loop_code, behind_label, behind_jump, inner, next_behind, first_ways, turn_ways, third_ways, switch_ways, emit, body_entries}
+use Rattle.frame_emit.specs.emit_control.Cuts.{State, begun, cut, entry_items, behind_entry, function_items}
+use Rattle.frame_emit.specs.emit_control.Settings.{Setting, helper_name}
 use Rattle.frame_emit.specs.Emitted.{setting_of, function_piece, function_pieces}
 use Rattle.emit_proof.specs.Calls.{StandsIn, StandsWithin}
 use Rattle.emit_proof.proofs.Anywhere.{Later, PartKeeps, kept_anywhere, flush_keeps, if_keeps, loop_keeps}

@@ -29,9 +29,9 @@ use Rattle.ir_semantics.specs.Parts.{Res, Gives, Finished, TooMany, Fails, after
 use Rattle.ir_semantics.specs.Outside.{Places, address_of}
 use Rattle.ir_semantics.specs.AccRows.{Gone, low_half}
 use Rattle.ir_semantics.specs.AccRun.{Machine, Context, run, cells_of, entered, left, at_most_low, back, called, call_within}
-use Rattle.emit_control.specs.Cuts.{begun, cut, function_items}
-use Rattle.emit_control.specs.Flow.{body_entries}
-use Rattle.emit_control.specs.Settings.{Setting, name_or_none, function_name}
+use Rattle.frame_emit.specs.emit_control.Cuts.{begun, cut, function_items}
+use Rattle.frame_emit.specs.emit_control.Flow.{body_entries}
+use Rattle.frame_emit.specs.emit_control.Settings.{Setting, name_or_none, function_name}
 use Rattle.frame_emit.specs.Emitted.{setting_of}
 use Rattle.emit_proof.specs.Calls.{StandsIn}
 use Rattle.emit_proof.proofs.Words.{cut_word, body_finishes}

@@ -33,7 +33,7 @@ use Rattle.c25_helper.specs.Calls.{pieces_call, called_helper_pieces}
 use Rattle.c25_helper.specs.Routines.{routine_items, routine_piece, helper_pieces}
 use Rattle.c25_helper.proofs.HelperPieces.{each_answers}
 use Rattle.ir_semantics.specs.AccRun.{cells_of}
-use Rattle.emit_control.specs.Settings.{helper_name, routine_of, name_or_none}
+use Rattle.frame_emit.specs.emit_control.Settings.{helper_name, routine_of, name_or_none}
 use Rattle.frame_emit.specs.Emitted.{function_piece, function_pieces, behind_startup}
 use Rattle.frame_emit.specs.Frames.{all_parameters, scalar_places}
 use Rattle.frame_emit.specs.Startup.{startup_name, startup_piece, statics_items, fillings_code, clearing_items, static_words}

@@ -12,7 +12,7 @@ use Rattle.c25_isa.specs.State as machine
 use Rattle.c25_isa.specs.State.{Memory}
 use Rattle.emit_proof.specs.Calls.{StandsIn, StandsWithin}
 use Rattle.emit_proof.proofs.FlowStanding.{throughout}
-use Rattle.emit_control.specs.Settings.{Setting}
+use Rattle.frame_emit.specs.emit_control.Settings.{Setting}
 use Rattle.emit_blocks.specs.Places.{object_address}
 use Rattle.emit_proof.specs.Sites.{Site}
 use Rattle.emit_proof.specs.Operations.{IsTakenIn}

@@ -16,7 +16,7 @@ use Rattle.c25_code.specs.Items.{return_code}
 use Rattle.c25_code.proofs.Straight.{code_leads}
 use Rattle.c25_code.proofs.Jumps.{return_leads}
 use Rattle.ir_semantics.specs.AccRun.{Machine}
-use Rattle.emit_control.specs.Settings.{Setting}
+use Rattle.frame_emit.specs.emit_control.Settings.{Setting}
 use Rattle.emit_proof.specs.Sites.{Site, Beside, with_stack}
 use Rattle.emit_proof.specs.Code.{ReturnsMeet}
 use Rattle.ir_semantics.specs.Outside.{Frame}

@@ -9,9 +9,9 @@ use Rattle.c_tree.specs.declared.program.VarRef.TheVariants.{Local}
 use Rattle.tree_code.specs.WordTree as tree
 use Rattle.tree_code.specs.WordTree.{ExprCode, Node, StmtCode, StmtsCode, ChoicesCode}
 use Rattle.acc_code.specs.AccTree.{ItemList}
-use Rattle.acc_operations.specs.Constants.{initial_constant}
-use Rattle.acc_operations.specs.Words.{high}
-use Rattle.acc_operations.specs.declared.constant.Constant.TheVariants.{Address}
+use Rattle.acc_select.specs.acc_operations.Constants.{initial_constant}
+use Rattle.acc_select.specs.acc_operations.Words.{high}
+use Rattle.acc_select.specs.acc_operations.declared.constant.Constant.TheVariants.{Address}
 use Rattle.acc_select.specs.Conditions as condition
 use Rattle.acc_select.specs.Conditions.{part_items}
 use Rattle.acc_select.specs.Selected.{code_of, optional_effect, test_items, optional_test, labels_of, cell_items, fill_items, part_of, statement_items, statements_items, choices_items}

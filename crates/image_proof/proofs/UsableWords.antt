@@ -6,14 +6,14 @@ use Rattle.acc_code.specs.declared.operand.AccOperand.{AccOperand}
 use Rattle.acc_code.specs.declared.operand.AccOperand.TheVariants as operand
 use Rattle.acc_code.specs.declared.operation.AccOp.{AccOp}
 use Rattle.acc_code.specs.declared.operation.AccOp.TheVariants as row
-use Rattle.acc_operations.specs.Constants.{load_constant, constant_operand, negative}
-use Rattle.acc_operations.specs.Words.{Word, in_accumulator, load, high, loaded, store, load_t, extend, clear_high, clean, load_signed, load_unsigned, load_clean}
-use Rattle.acc_operations.specs.declared.constant.Constant.{Constant}
-use Rattle.acc_operations.specs.declared.constant.Constant.TheVariants.{Number, Address}
-use Rattle.acc_operations.specs.declared.found.Found.{Found}
-use Rattle.acc_operations.specs.declared.found.Found.TheVariants.{Fixed, Held, Loaded}
-use Rattle.acc_operations.specs.declared.high_half.HighHalf.{HighHalf}
-use Rattle.acc_operations.specs.declared.high_half.HighHalf.TheVariants.{Any, Zero, Sign, Small}
+use Rattle.acc_select.specs.acc_operations.Constants.{load_constant, constant_operand, negative}
+use Rattle.acc_select.specs.acc_operations.Words.{Word, in_accumulator, load, high, loaded, store, load_t, extend, clear_high, clean, load_signed, load_unsigned, load_clean}
+use Rattle.acc_select.specs.acc_operations.declared.constant.Constant.{Constant}
+use Rattle.acc_select.specs.acc_operations.declared.constant.Constant.TheVariants.{Number, Address}
+use Rattle.acc_select.specs.acc_operations.declared.found.Found.{Found}
+use Rattle.acc_select.specs.acc_operations.declared.found.Found.TheVariants.{Fixed, Held, Loaded}
+use Rattle.acc_select.specs.acc_operations.declared.high_half.HighHalf.{HighHalf}
+use Rattle.acc_select.specs.acc_operations.declared.high_half.HighHalf.TheVariants.{Any, Zero, Sign, Small}
 use Rattle.emit_proof.specs.Addressed.{IsWordOperand}
 use Rattle.image_proof.proofs.Usables.{Usable, nothing, on_number, on_address, on_first, on_place, IsFree, on_free, both}
 

@@ -9,7 +9,7 @@ use Rattle.acc_code.specs.declared.operand.AccOperand.TheVariants as operand
 use Rattle.acc_code.specs.declared.operand.HelperName.{HelperName}
 use Rattle.acc_code.specs.declared.operation.AccOp.{AccOp}
 use Rattle.acc_code.specs.declared.operation.Test.{Test}
-use Rattle.acc_operations.specs.Words.{scratch, bare}
+use Rattle.acc_select.specs.acc_operations.Words.{scratch, bare}
 use Rattle.c_tree.specs.declared.program.VarRef.{VarRef}
 use Rattle.emit_proof.specs.Addressed.{IsWordOperand}
 use Rattle.emit_proof.specs.Code.{AreWordLabels}

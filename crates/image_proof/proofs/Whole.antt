@@ -34,7 +34,7 @@ use Rattle.ir_semantics.specs.AccRows.{Acc, Gone, Low, Whole, low_half}
 use Rattle.ir_semantics.specs.AccRun.{Machine, run_items}
 use Rattle.ir_semantics.specs.Keeps.{WorkOutcome, Ended, More, Undefined, acc_outcome, returned_with, acc_run}
 use Rattle.ir_semantics.specs.TreeRun.{main_from}
-use Rattle.emit_control.specs.Settings.{name_or_none}
+use Rattle.frame_emit.specs.emit_control.Settings.{name_or_none}
 use Rattle.frame_emit.specs.Startup.{startup_piece, static_words}
 use Rattle.emit_proof.specs.Registers.{AccAlike}
 use Rattle.image_proof.specs.PlanPlaces.{places_of}

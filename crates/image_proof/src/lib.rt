@@ -8,8 +8,10 @@ mod run_laws;
 mod site_laws;
 mod usable_laws;
 
+pub use acc_select_proof::{accesses_are_kept, typed_programs_keep};
 pub use exec_laws::runs_tell;
 pub use image_laws::{images_agree, images_keep_runs};
 pub use run_laws::translation_keeps_runs;
 pub use site_laws::calls_stand;
+pub use tree_code_proof::lowering_keeps_runs;
 pub use usable_laws::selected_is_usable;

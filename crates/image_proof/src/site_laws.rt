@@ -8,7 +8,7 @@ ghost use Rattle.c25_code.specs.Work.{Work};
 ghost use Rattle.ir_semantics.specs.AccRows.{Gone, low_half};
 ghost use Rattle.ir_semantics.specs.AccRun.{Machine, at_most_low, entered, left};
 ghost use Rattle.ir_semantics.specs.Outside.{Frame};
-ghost use Rattle.emit_control.specs.Settings.{Setting};
+ghost use Rattle.frame_emit.specs.emit_control.Settings.{Setting};
 ghost use Rattle.emit_proof.specs.Code.{ReturnsMeet};
 ghost use Rattle.emit_proof.specs.Sites.{Beside, with_stack};
 ghost use Rattle.image_proof.specs.PlanPlaces.{places_of};

@@ -4,9 +4,9 @@ use Rattle.std.specs.Prelude.{not, if◌then◌else◌}
 use Rattle.acc_code.specs.AccTree.{If, ItemList, end, ◌▸◌}
 use Rattle.acc_code.specs.declared.operation.Test.{Test}
 use Rattle.acc_code.specs.declared.operation.Test.TheVariants.{Nz}
-use Rattle.acc_operations.specs.Comparisons.{Compared}
-use Rattle.acc_operations.specs.Kinds.{in_sense}
-use Rattle.acc_operations.specs.Words.{Word, load_clean}
+use Rattle.acc_select.specs.acc_operations.Comparisons.{Compared}
+use Rattle.acc_select.specs.acc_operations.Kinds.{in_sense}
+use Rattle.acc_select.specs.acc_operations.Words.{Word, load_clean}
 use Rattle.acc_select.specs.Conditions.{Part, Nothing, One, Null, Breaks, Continues, Runs, part_items, is_short, Branch, tested, by_comparison, clean_items, by_word, truth_items, where_both, where_either, by_number, joined, and_branch, or_branch}
 use Rattle.ir_semantics.specs.Weights.{items_weight}
 use Rattle.size_proof.proofs.Weighing.{Weighs, weight_of, WordWeighs, load_clean_weighs}

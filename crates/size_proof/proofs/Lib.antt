@@ -1,3 +1,4 @@
+pub use Rattle.emit_proof.proofs as emit_proof
 pub mod Weighing
 pub mod Operating
 pub mod Branching

@@ -11,13 +11,13 @@ use Rattle.ir_semantics.specs.AccRun.{labels_weight}
 use Rattle.ir_semantics.specs.Weights.{item_weight, items_weight}
 use Rattle.emit_blocks.specs.Right.{IsRight, AreRight}
 use Rattle.emit_blocks.specs.Steps.{Operation, operation}
-use Rattle.emit_control.specs.declared.state.Before.TheVariants.{Gone}
-use Rattle.emit_control.specs.declared.ways.Ways.{Ways}
-use Rattle.emit_control.specs.Emits.{IsRightItem}
-use Rattle.emit_control.specs.Entries.{Entry, Head, Place, Close, Branch, Goto, Dispatch, CallTo, CallHelper, Wipe, Ret, flushed}
-use Rattle.emit_control.specs.Flow.{Part, labels, item_labels, is_end, opposite, target, if_code, loop_code, behind_label, behind_jump, inner, next_behind, first_ways, turn_ways, third_ways, switch_ways, emit}
-use Rattle.emit_control.specs.Settings.{Setting, cells_of}
-use Rattle.emit_control.specs.Cuts.{State, default_label, entry_items, behind_entry}
+use Rattle.frame_emit.specs.emit_control.declared.state.Before.TheVariants.{Gone}
+use Rattle.frame_emit.specs.emit_control.declared.ways.Ways.{Ways}
+use Rattle.frame_emit.specs.emit_control.Emits.{IsRightItem}
+use Rattle.frame_emit.specs.emit_control.Entries.{Entry, Head, Place, Close, Branch, Goto, Dispatch, CallTo, CallHelper, Wipe, Ret, flushed}
+use Rattle.frame_emit.specs.emit_control.Flow.{Part, labels, item_labels, is_end, opposite, target, if_code, loop_code, behind_label, behind_jump, inner, next_behind, first_ways, turn_ways, third_ways, switch_ways, emit}
+use Rattle.frame_emit.specs.emit_control.Settings.{Setting, cells_of}
+use Rattle.frame_emit.specs.emit_control.Cuts.{State, default_label, entry_items, behind_entry}
 use Rattle.emit_proof.proofs.Entries.{name_here, name_more}
 use Rattle.emit_proof.proofs.Keeping.{Any, Placed, CasesAre, no_case, counted, cases_also}
 use Rattle.size_proof.proofs.Rows.{operations_weight, operations_weight-append}

@@ -8,25 +8,25 @@ use Rattle.acc_code.specs.declared.operand.AccOperand.{AccOperand}
 use Rattle.acc_code.specs.declared.operand.AccOperand.TheVariants as operand
 use Rattle.acc_code.specs.declared.operand.HelperName.{HelperName}
 use Rattle.acc_code.specs.declared.operation.AccOp.TheVariants as row
-use Rattle.acc_operations.specs.Arithmetic.{shift_helper, division_helper, remainder_helper, row_on_place, row_on_constant, times_place, times, multiply, product_with_place, helped, helped_behind, shifted_right, with_place, with_constant, of_constant, of_place}
-use Rattle.acc_operations.specs.Comparisons.{exactly_less, exactly_less_number, exactly_less_constant, exact_with, less_unsigned, items_with_place, items_with_constant, items_of_place, compared_with_place, compared_with_constant, compared_of_constant, compared_of_place, sub, subs, low_half}
-use Rattle.acc_operations.specs.Constants.{load_constant, constant_operand}
-use Rattle.acc_operations.specs.Kinds.{swapped_comparison}
-use Rattle.acc_operations.specs.Sums.{plus, minus, count_of, repeated, shift_left, moved_right, moved_right_signed, by_helper}
-use Rattle.acc_operations.specs.Words.{in_accumulator, lac, sacl, bare, load, high, store, load_t, load_signed, load_unsigned, load_clean, scratch}
-use Rattle.acc_operations.specs.declared.comparison.Comparison.{Comparison}
-use Rattle.acc_operations.specs.declared.comparison.Order.{Order}
-use Rattle.acc_operations.specs.declared.comparison.Order.TheVariants.{Exact, Signed, Unsigned}
-use Rattle.acc_operations.specs.declared.constant.Constant.{Constant}
-use Rattle.acc_operations.specs.declared.constant.Constant.TheVariants.{Number, Address}
-use Rattle.acc_operations.specs.declared.found.Found.{Found}
-use Rattle.acc_operations.specs.declared.found.Found.TheVariants.{Fixed, Held, Loaded}
-use Rattle.acc_operations.specs.declared.high_half.HighHalf.{HighHalf}
-use Rattle.acc_operations.specs.declared.high_half.HighHalf.TheVariants.{Any, Zero, Sign, Small}
-use Rattle.acc_operations.specs.declared.operation.Bitwise.{Bitwise}
-use Rattle.acc_operations.specs.declared.operation.Bitwise.TheVariants as bits
-use Rattle.acc_operations.specs.declared.operation.Arithmetic.{Arithmetic}
-use Rattle.acc_operations.specs.declared.operation.Arithmetic.TheVariants.{Sum, Difference, Bits, Product, LeftShift, RightShift, Quotient, Remainder}
+use Rattle.acc_select.specs.acc_operations.Arithmetic.{shift_helper, division_helper, remainder_helper, row_on_place, row_on_constant, times_place, times, multiply, product_with_place, helped, helped_behind, shifted_right, with_place, with_constant, of_constant, of_place}
+use Rattle.acc_select.specs.acc_operations.Comparisons.{exactly_less, exactly_less_number, exactly_less_constant, exact_with, less_unsigned, items_with_place, items_with_constant, items_of_place, compared_with_place, compared_with_constant, compared_of_constant, compared_of_place, sub, subs, low_half}
+use Rattle.acc_select.specs.acc_operations.Constants.{load_constant, constant_operand}
+use Rattle.acc_select.specs.acc_operations.Kinds.{swapped_comparison}
+use Rattle.acc_select.specs.acc_operations.Sums.{plus, minus, count_of, repeated, shift_left, moved_right, moved_right_signed, by_helper}
+use Rattle.acc_select.specs.acc_operations.Words.{in_accumulator, lac, sacl, bare, load, high, store, load_t, load_signed, load_unsigned, load_clean, scratch}
+use Rattle.acc_select.specs.acc_operations.declared.comparison.Comparison.{Comparison}
+use Rattle.acc_select.specs.acc_operations.declared.comparison.Order.{Order}
+use Rattle.acc_select.specs.acc_operations.declared.comparison.Order.TheVariants.{Exact, Signed, Unsigned}
+use Rattle.acc_select.specs.acc_operations.declared.constant.Constant.{Constant}
+use Rattle.acc_select.specs.acc_operations.declared.constant.Constant.TheVariants.{Number, Address}
+use Rattle.acc_select.specs.acc_operations.declared.found.Found.{Found}
+use Rattle.acc_select.specs.acc_operations.declared.found.Found.TheVariants.{Fixed, Held, Loaded}
+use Rattle.acc_select.specs.acc_operations.declared.high_half.HighHalf.{HighHalf}
+use Rattle.acc_select.specs.acc_operations.declared.high_half.HighHalf.TheVariants.{Any, Zero, Sign, Small}
+use Rattle.acc_select.specs.acc_operations.declared.operation.Bitwise.{Bitwise}
+use Rattle.acc_select.specs.acc_operations.declared.operation.Bitwise.TheVariants as bits
+use Rattle.acc_select.specs.acc_operations.declared.operation.Arithmetic.{Arithmetic}
+use Rattle.acc_select.specs.acc_operations.declared.operation.Arithmetic.TheVariants.{Sum, Difference, Bits, Product, LeftShift, RightShift, Quotient, Remainder}
 use Rattle.ir_semantics.specs.AccRows.{operand_weight}
 use Rattle.ir_semantics.specs.Weights.{item_weight}
 use Rattle.size_proof.proofs.Weighing.{Weighs, weight_of, one_of, load_constant_weighs, found_weight, load_weighs, store_weighs, load_t_weighs, load_signed_weighs, load_unsigned_weighs, load_clean_weighs, plus_weighs, minus_weighs, repeated_weighs, WordWeighs}

@@ -14,12 +14,12 @@ use Rattle.acc_code.specs.declared.item.CaseLabel.TheVariants.{Value, Default}
 use Rattle.ir_semantics.specs.AccRun.{labels_weight}
 use Rattle.emit_blocks.specs.Steps.{Operation}
 use Rattle.emit_blocks.specs.Right.{AreRight}
-use Rattle.emit_control.specs.declared.setting.Words.{Words}
-use Rattle.emit_control.specs.declared.state.Before.{Before}
-use Rattle.emit_control.specs.declared.state.Before.TheVariants.{Open, Shut, Gone}
-use Rattle.emit_control.specs.Entries.{Entry, Run, Head, Place, Close, Branch, Goto, Dispatch, CallTo, CallHelper, Wipe, Ret, Finish, flushed}
-use Rattle.emit_control.specs.Settings.{Setting, cells_of, code_in}
-use Rattle.emit_control.specs.Cuts.{State, shut, naming, naming_cases, taken_away, added, less_by, jump_item, case_items, default_label, dispatch_items, wipe_items, place_items, behind_place, close_items, behind_close, wiped_items, behind_wipe, entry_items, behind_entry, cut}
+use Rattle.frame_emit.specs.emit_control.declared.setting.Words.{Words}
+use Rattle.frame_emit.specs.emit_control.declared.state.Before.{Before}
+use Rattle.frame_emit.specs.emit_control.declared.state.Before.TheVariants.{Open, Shut, Gone}
+use Rattle.frame_emit.specs.emit_control.Entries.{Entry, Run, Head, Place, Close, Branch, Goto, Dispatch, CallTo, CallHelper, Wipe, Ret, Finish, flushed}
+use Rattle.frame_emit.specs.emit_control.Settings.{Setting, cells_of, code_in}
+use Rattle.frame_emit.specs.emit_control.Cuts.{State, shut, naming, naming_cases, taken_away, added, less_by, jump_item, case_items, default_label, dispatch_items, wipe_items, place_items, behind_place, close_items, behind_close, wiped_items, behind_wipe, entry_items, behind_entry, cut}
 use Rattle.emit_proof.proofs.Entries.{name_here, name_more, place_keeps, close_keeps, cases_keep}
 use Rattle.size_proof.proofs.Rows.{operations_weight, run_size}
 

@@ -34,14 +34,14 @@ use Rattle.size_proof.proofs.Lowering.{program_lowered}
 use Rattle.size_proof.proofs.WeightStatements.{program_weighs}
 use Rattle.mem_plan.specs.declared.data_plan.DataPlan.{DataPlan}
 use Rattle.mem_plan.specs.declared.data_plan.FramePlan.{FramePlan}
-use Rattle.emit_control.specs.declared.ways.Ways.{Ways}
-use Rattle.emit_control.specs.declared.state.Before.{Before}
-use Rattle.emit_control.specs.declared.state.Before.TheVariants.{Open, Shut, Gone}
-use Rattle.emit_control.specs.Cuts.{begun, cut, finish_items, function_items}
-use Rattle.emit_control.specs.Emits.{IsRightItem}
-use Rattle.emit_control.specs.Entries.{Finish}
-use Rattle.emit_control.specs.Flow.{body_entries}
-use Rattle.emit_control.specs.Settings.{Setting}
+use Rattle.frame_emit.specs.emit_control.declared.ways.Ways.{Ways}
+use Rattle.frame_emit.specs.emit_control.declared.state.Before.{Before}
+use Rattle.frame_emit.specs.emit_control.declared.state.Before.TheVariants.{Open, Shut, Gone}
+use Rattle.frame_emit.specs.emit_control.Cuts.{begun, cut, finish_items, function_items}
+use Rattle.frame_emit.specs.emit_control.Emits.{IsRightItem}
+use Rattle.frame_emit.specs.emit_control.Entries.{Finish}
+use Rattle.frame_emit.specs.emit_control.Flow.{body_entries}
+use Rattle.frame_emit.specs.emit_control.Settings.{Setting}
 use Rattle.emit_proof.proofs.Keeping.{placed_any, no_cases_directly, no_case}
 use Rattle.frame_emit.specs.Emitted.{setting_of, function_piece, function_pieces, behind_startup, emitted}
 use Rattle.frame_emit.specs.Frames.{all_parameters}

@@ -15,8 +15,8 @@ use Rattle.acc_code.specs.AccTree.{Item, Op, If, Loop, Switch, Case, Clear, Brea
 use Rattle.c_tree.specs.declared.program.VarRef.TheVariants.{Local}
 use Rattle.ir_semantics.specs.Weights.{items_weight, statics_weight}
 use Rattle.emit_blocks.specs.declared.site.ScalarPlace.{ScalarPlace}
-use Rattle.emit_control.specs.Cuts.{function_items}
-use Rattle.emit_control.specs.Settings.{Setting}
+use Rattle.frame_emit.specs.emit_control.Cuts.{function_items}
+use Rattle.frame_emit.specs.emit_control.Settings.{Setting}
 use Rattle.frame_emit.specs.Startup.{startup_piece}
 use Rattle.size_proof.specs.Sizes.{STARTUP_WORDS, ROUTINE_WORDS}
 

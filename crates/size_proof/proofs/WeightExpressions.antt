@@ -7,9 +7,9 @@ use Rattle.tree_code.specs.WordTree as tree
 use Rattle.tree_code.specs.WordTree.{ExprCode, Node, Named, At, ExprsCode}
 use Rattle.acc_code.specs.AccTree.{end}
 use Rattle.acc_code.specs.declared.operand.AccOperand.TheVariants as operand
-use Rattle.acc_operations.specs.Constants.{place_of, shape_of}
-use Rattle.acc_operations.specs.Kinds.{operation_of}
-use Rattle.acc_operations.specs.Words.{fixed, held}
+use Rattle.acc_select.specs.acc_operations.Constants.{place_of, shape_of}
+use Rattle.acc_select.specs.acc_operations.Kinds.{operation_of}
+use Rattle.acc_select.specs.acc_operations.Words.{fixed, held}
 use Rattle.acc_select.specs.Forms.{parameter_items}
 use Rattle.acc_select.specs.Selected.{waiting, code_of, arguments}
 use Rattle.ir_semantics.specs.AccRows.{operand_weight}

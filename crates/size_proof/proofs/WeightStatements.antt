@@ -8,9 +8,9 @@ use Rattle.tree_code.specs.WordTree as tree
 use Rattle.tree_code.specs.WordTree.{ExprCode, Node, StmtCode, StmtsCode, ChoicesCode, FunctionCode, ProgramCode}
 use Rattle.tree_code.specs.WordTemporaries.{word_statement_temporaries}
 use Rattle.acc_code.specs.AccTree.{Loop, Switch, Break, Return, ItemList, end, ◌▸◌, ◌⧺◌}
-use Rattle.acc_operations.specs.Constants.{initial_constant}
-use Rattle.acc_operations.specs.Words.{loaded, clear_high, high}
-use Rattle.acc_operations.specs.declared.constant.Constant.TheVariants.{Address}
+use Rattle.acc_select.specs.acc_operations.Constants.{initial_constant}
+use Rattle.acc_select.specs.acc_operations.Words.{loaded, clear_high, high}
+use Rattle.acc_select.specs.acc_operations.declared.constant.Constant.TheVariants.{Address}
 use Rattle.acc_select.specs.Conditions.{Nothing, Breaks, number}
 use Rattle.acc_select.specs.Selected.{code_of, optional_effect, test_items, optional_test, labels_of, cell_items, fill_items, part_of, statement_items, statements_items, choices_items, ends_with_return, closed_main, body_items, is_main, selected, selected_function}
 use Rattle.ir_semantics.specs.AccRun.{labels_weight}

@@ -11,8 +11,8 @@ use Rattle.tree_code.specs.declared.word_statement.WordStmt.{WordStmt}
 use Rattle.tree_code.specs.declared.word_statement.WordChoice as choice
 use Rattle.tree_code.specs.declared.word_statement.WordChoice.{WordChoice}
 use Rattle.tree_code.specs.declared.operator.WordOp.{WordOp}
-use Rattle.c_syntax.specs.declared.operator.UnaryOp.{UnaryOp}
-use Rattle.c_syntax.specs.declared.operator.UnaryOp.TheVariants.{Minus}
+use Rattle.c_tree.specs.c_syntax.declared.operator.UnaryOp.{UnaryOp}
+use Rattle.c_tree.specs.c_syntax.declared.operator.UnaryOp.TheVariants.{Minus}
 use Rattle.c_tree.specs.declared.program.VarRef.{VarRef}
 use Rattle.tree_code.specs.ByteCount.{in_byte}
 use Rattle.tree_code.specs.WordTree.{Node, ChoicesCode, no_more, Unary, Binary}

@@ -1,9 +1,9 @@
 -- Small programs with their word trees, which were written by hand. Behind a colon stands the C source of each.
 use Rattle.std.specs.Prelude.{◌≡◌, ℕ, false, [], ◌∷◌, Some}
 use Rattle.std.proofs.Common.{refl}
-use Rattle.c_syntax.specs.declared.operator.BinaryOp.{BinaryOp}
-use Rattle.c_syntax.specs.declared.operator.BinaryOp.TheVariants as op
-use Rattle.c_syntax.specs.declared.operator.UnaryOp.TheVariants.{Minus, Plus}
+use Rattle.c_tree.specs.c_syntax.declared.operator.BinaryOp.{BinaryOp}
+use Rattle.c_tree.specs.c_syntax.declared.operator.BinaryOp.TheVariants as op
+use Rattle.c_tree.specs.c_syntax.declared.operator.UnaryOp.TheVariants.{Minus, Plus}
 use Rattle.c_tree.specs.declared.program.ScalarType.{ScalarType}
 use Rattle.c_tree.specs.declared.program.VarRef.TheVariants.{Scalar, Local}
 use Rattle.c_tree.specs.SourceRun.{main_name}

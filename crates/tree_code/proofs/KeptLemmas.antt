@@ -1,8 +1,8 @@
 -- Lowering keeps what a tree uses, how many temporaries it needs, and its labels.
 use Rattle.std.proofs.Common.{◌≡◌, refl, ap, ◌∙◌, sym, ◌+◌, max, ◌++◌, ◌∷◌, [], ℕ, suc, Bool, true, false, if◌then◌else◌, Option, Some, None}
 use Rattle.std.specs.Prelude.{◌&&◌, ◌||◌, ◌==◌, not}
-use Rattle.c_syntax.specs.declared.operator.UnaryOp.{UnaryOp}
-use Rattle.c_syntax.specs.declared.operator.UnaryOp.TheVariants.{Minus, Plus, Complement}
+use Rattle.c_tree.specs.c_syntax.declared.operator.UnaryOp.{UnaryOp}
+use Rattle.c_tree.specs.c_syntax.declared.operator.UnaryOp.TheVariants.{Minus, Plus, Complement}
 use Rattle.c_tree.specs.declared.uses.Use.TheVariants as use_of
 use Rattle.c_tree.specs.TypedTree as tree
 use Rattle.c_tree.specs.TypedTree.{Kind}

@@ -11,8 +11,8 @@ use Rattle.c_tree.specs.WellFormed as typed
 use Rattle.c_tree.specs.WellFormed.{Shape, Signature, Names, opened, is_among}
 use Rattle.tree_code.specs.WordTree as word
 use Rattle.tree_code.specs.WordTree.{Node}
-use Rattle.c_syntax.specs.declared.operator.UnaryOp.{UnaryOp}
-use Rattle.c_syntax.specs.declared.operator.UnaryOp.TheVariants.{Plus}
+use Rattle.c_tree.specs.c_syntax.declared.operator.UnaryOp.{UnaryOp}
+use Rattle.c_tree.specs.c_syntax.declared.operator.UnaryOp.TheVariants.{Plus}
 use Rattle.std.specs.Prelude.{◌&&◌}
 use Rattle.tree_code.specs.Lowered.{is_minus, is_number, is_converted, lowered_unary, lowered, lowered_form, lowered_target, lowered_list, lowered_optional, lowered_statement, lowered_statements, lowered_choices}
 use Rattle.tree_code.specs.WellFormedCode.{IsThereForWords, TakesSo, argument_count, IsDeclared, IsSound, IsSoundTarget, AreSound, IsSoundOptional, IsSoundStatement, AreSoundStatements, AreSoundChoices}

@@ -1,8 +1,8 @@
 -- The word tree of a typed program, form by form: ISO 9899:1990 6.3 and 6.6. Operations are chosen by the types of their operands, and
 -- conversions vanish, since the 16 bits stay. Null is 0 in the typed tree already, and a cell is one word, so an index is a distance.
 use Rattle.std.specs.Prelude.{ℕ, ◌+◌, ◌≤◌, Bool, true, false, ◌&&◌, if◌then◌else◌, length, map, Option, Some, None}
-use Rattle.c_syntax.specs.declared.operator.UnaryOp.{UnaryOp}
-use Rattle.c_syntax.specs.declared.operator.UnaryOp.TheVariants.{Minus, Plus, Complement}
+use Rattle.c_tree.specs.c_syntax.declared.operator.UnaryOp.{UnaryOp}
+use Rattle.c_tree.specs.c_syntax.declared.operator.UnaryOp.TheVariants.{Minus, Plus, Complement}
 use Rattle.c_tree.specs.declared.limits.TheConstants.{MOST_FRAME_SCALARS}
 use Rattle.c_tree.specs.Temporaries.{statement_temporaries}
 use Rattle.c_tree.specs.TypedTree as tree

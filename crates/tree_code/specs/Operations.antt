@@ -1,7 +1,7 @@
 -- The operations on words that operators stand for, by the types of their operands: ISO 9899:1990 6.3.5 to 6.3.12.
 use Rattle.std.specs.Prelude.{Bool, ◌||◌, if◌then◌else◌}
-use Rattle.c_syntax.specs.declared.operator.BinaryOp.{BinaryOp}
-use Rattle.c_syntax.specs.declared.operator.BinaryOp.TheVariants as op
+use Rattle.c_tree.specs.c_syntax.declared.operator.BinaryOp.{BinaryOp}
+use Rattle.c_tree.specs.c_syntax.declared.operator.BinaryOp.TheVariants as op
 use Rattle.c_tree.specs.TypedTree.{Kind}
 use Rattle.c_tree.specs.Eval.{is_unsigned, points}
 use Rattle.tree_code.specs.declared.operator.WordOp.{WordOp}

@@ -1,7 +1,7 @@
 -- How many temporaries a word tree needs, where the code of each operator keeps a left operand in one while it evaluates a right one
 -- (docs/LANGUAGE.md, "Types").
 use Rattle.std.specs.Prelude.{ℕ, ◌+◌, max, Bool, true, false, if◌then◌else◌, Option, Some, None}
-use Rattle.c_syntax.specs.declared.operator.UnaryOp.TheVariants.{Minus}
+use Rattle.c_tree.specs.c_syntax.declared.operator.UnaryOp.TheVariants.{Minus}
 use Rattle.tree_code.specs.WordTree as tree
 use Rattle.tree_code.specs.WordTree.{ExprCode, Node, LvalueCode, Named, At, FormCode, ExprsCode, StmtCode, StmtsCode, ChoicesCode}
 

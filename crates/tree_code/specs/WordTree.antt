@@ -2,7 +2,7 @@
 use Rattle.std.specs.Prelude.{ℕ, Bool, List, Option}
 use Rattle.c_tree.specs.declared.program.VarRef.{VarRef}
 use Rattle.c_tree.specs.TypedTree.{ObjectTree}
-use Rattle.c_syntax.specs.declared.operator.UnaryOp.{UnaryOp}
+use Rattle.c_tree.specs.c_syntax.declared.operator.UnaryOp.{UnaryOp}
 use Rattle.tree_code.specs.declared.operator.WordOp.{WordOp}
 
 mutual

@@ -5,7 +5,7 @@
 ghost use Rattle.std.specs.Prelude.{◌≡◌, ◌≤◌, ◌+◌, ℕ, max};
 ghost use Rattle.c_tree.specs.declared.limits.TheConstants.{MOST_FRAME_SCALARS};
 ghost use Rattle.tree_code.specs.WordTree.{no_more, Node, Unary, Binary, Assign, AssignOp};
-ghost use Rattle.c_syntax.specs.declared.operator.UnaryOp.TheVariants.{Minus};
+ghost use Rattle.c_tree.specs.c_syntax.declared.operator.UnaryOp.TheVariants.{Minus};
 ghost use Rattle.tree_code.specs.declared.operator.WordOp.{WordOp};
 ghost use Rattle.tree_code.specs.WordView.{word_expr_of, word_lvalue_of, word_argument_list, optional_word_of, word_stmt_of, word_statement_list, word_choice_list, word_choice_before};
 ghost use Rattle.tree_code.specs.ByteCount.{in_byte};
@@ -14,7 +14,7 @@ ghost use Rattle.tree_code.specs.WordTemporaries as counts;
 
 use crate::word_expression::{WordExpr, WordForm, WordTarget, WordTargetForm};
 use crate::word_statement::{WordChoice, WordStmt};
-use c_syntax::UnaryOp;
+use c_tree::UnaryOp;
 
 /// The number of temporaries of a statement. They follow the scalars of the source in a frame, which has few of both.
 pub fn temporaries(s: &WordStmt) -> u8

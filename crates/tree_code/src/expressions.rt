@@ -9,8 +9,7 @@ ghost use Rattle.tree_code.specs.WordView.{word_expr_of, word_form_of, word_lval
 
 use crate::operator::{WordOp, word_op};
 use crate::word_expression::{WordExpr, WordForm, WordTarget, WordTargetForm};
-use c_syntax::UnaryOp;
-use c_tree::{ExprForm, ScalarType, Target, TargetForm, TypedExpr};
+use c_tree::{ExprForm, ScalarType, Target, TargetForm, TypedExpr, UnaryOp};
 use std::alloc::Global;
 use word_base::NoMemory;
 

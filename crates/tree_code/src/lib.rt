@@ -14,8 +14,7 @@ mod statements;
 mod word_expression;
 mod word_statement;
 
-pub use c_syntax::UnaryOp;
-pub use c_tree::{Base, Initial, Object, Program, ScalarType, VarRef};
+pub use c_tree::{Base, Initial, Object, Program, ScalarType, UnaryOp, VarRef};
 pub use counting::{is_constant, temporaries};
 pub use laws::kept_by_lowering;
 pub use lowering::lower;

@@ -1,7 +1,6 @@
 //! Expressions on words. They have no types, and each operator is an operation on words.
 use crate::operator::WordOp;
-use c_syntax::UnaryOp;
-use c_tree::VarRef;
+use c_tree::{UnaryOp, VarRef};
 
 /// An expression.
 #[derive(Drop)]

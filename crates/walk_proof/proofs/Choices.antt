@@ -4,7 +4,7 @@ use Rattle.std.specs.Prelude.{nat_lt, nat_le, ◌==◌, ◌/◌, ◌%◌, if◌t
 use Rattle.std.specs.List.{AllByRecursion}
 use Rattle.c25_isa.specs.declared.instruction.Instr.{Instr}
 use Rattle.c25_isa.specs.declared.instruction.Instr.TheVariants.{Subk, Sblk, Addk, Adlk, Lack, Lalk}
-use Rattle.emit_control.specs.Cuts.{taken_away, added, less_by, count_instr}
+use Rattle.image_proof.specs.emit_control.Cuts.{taken_away, added, less_by, count_instr}
 
 -- what holds of these holds of all
 pub record HoldsOfChoices (P : Instr → Type 0) : Type 0 where

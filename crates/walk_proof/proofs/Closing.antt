@@ -18,7 +18,7 @@ use Rattle.c25_code.specs.ClearingLoops.{clears_at_any}
 use Rattle.acc_code.specs.AccSequence.{closed}
 use Rattle.acc_code.specs.declared.item.CaseLabel.{CaseLabel}
 use Rattle.acc_code.specs.declared.item.CaseLabel.TheVariants.{Value, Default}
-use Rattle.emit_control.specs.Cuts.{jump_item, call_item, less_by, case_items, default_label, dispatch_items, count_instr, wipe_items}
+use Rattle.image_proof.specs.emit_control.Cuts.{jump_item, call_item, less_by, case_items, default_label, dispatch_items, count_instr, wipe_items}
 use Rattle.walk_proof.specs.RunWalks.{placed_from}
 use Rattle.walk_proof.proofs.Folding.{go_on, with_given}
 use Rattle.walk_proof.proofs.ItemBlocks.{placed_at, items_blocks}

@@ -12,9 +12,9 @@ use Rattle.acc_code.specs.Emittable.{Throughout, Within, IsPlace, RefersRight, S
 use Rattle.emit_blocks.specs.Places.{Places}
 use Rattle.emit_blocks.specs.Runs.{run_code}
 use Rattle.emit_blocks.specs.Steps.{Operation, operation}
-use Rattle.emit_control.specs.Entries.{Entry, Run, Head, Place, Close, Branch, Goto, Dispatch, CallTo, CallHelper, Wipe, Ret, Finish}
-use Rattle.emit_control.specs.Flow.{body_entries}
-use Rattle.emit_control.specs.Settings.{Setting}
+use Rattle.image_proof.specs.emit_control.Entries.{Entry, Run, Head, Place, Close, Branch, Goto, Dispatch, CallTo, CallHelper, Wipe, Ret, Finish}
+use Rattle.image_proof.specs.emit_control.Flow.{body_entries}
+use Rattle.image_proof.specs.emit_control.Settings.{Setting}
 use Rattle.walk_proof.specs.DirectPieces.{ScratchIsApart, OperandNames, ItemNames, EntryIsDirect, RunsAreDirect}
 use Rattle.walk_proof.specs.RunWalks.{placed_from}
 use Rattle.walk_proof.proofs.RunsFit.{RunHas, RunsHave, RunsFit, body_runs}

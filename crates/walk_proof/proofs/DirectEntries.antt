@@ -12,12 +12,12 @@ use Rattle.c25_isa.specs.Direct.{Words, direct_offset, may_name}
 use Rattle.c25_code.specs.Items.{plain_items, entry_code, return_code}
 use Rattle.acc_code.specs.declared.item.CaseLabel.{CaseLabel}
 use Rattle.acc_code.specs.declared.item.CaseLabel.TheVariants.{Value, Default}
-use Rattle.emit_control.specs.declared.state.Before.{Before}
-use Rattle.emit_control.specs.declared.state.Before.TheVariants.{Open, Shut, Gone}
-use Rattle.emit_control.specs.declared.setting.Words.{Words as Cells}
-use Rattle.emit_control.specs.Entries.{Entry, Run, Head, Place, Close, Branch, Goto, Dispatch, CallTo, CallHelper, Wipe, Ret, Finish}
-use Rattle.emit_control.specs.Settings.{Setting, cells_of, code_in, function_name, helper_name}
-use Rattle.emit_control.specs.Cuts.{State, jump_on, jump_item, less_by, case_items, default_label, count_instr, place_items, close_items, wipe_items, finish_items, entry_items, behind_entry, cut}
+use Rattle.image_proof.specs.emit_control.declared.state.Before.{Before}
+use Rattle.image_proof.specs.emit_control.declared.state.Before.TheVariants.{Open, Shut, Gone}
+use Rattle.image_proof.specs.emit_control.declared.setting.Words.{Words as Cells}
+use Rattle.image_proof.specs.emit_control.Entries.{Entry, Run, Head, Place, Close, Branch, Goto, Dispatch, CallTo, CallHelper, Wipe, Ret, Finish}
+use Rattle.image_proof.specs.emit_control.Settings.{Setting, cells_of, code_in, function_name, helper_name}
+use Rattle.image_proof.specs.emit_control.Cuts.{State, jump_on, jump_item, less_by, case_items, default_label, count_instr, place_items, close_items, wipe_items, finish_items, entry_items, behind_entry, cut}
 use Rattle.walk_proof.specs.DirectPieces.{EntryIsDirect, RunsAreDirect, IsNamedPlace, KeepsReturn}
 use Rattle.walk_proof.proofs.ItemBlocks.{CutsAtMarks}
 use Rattle.walk_proof.proofs.Straight.{run_straight}

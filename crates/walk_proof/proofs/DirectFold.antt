@@ -13,7 +13,7 @@ use Rattle.c25_isa.specs.Pieces.{items_code}
 use Rattle.c25_isa.specs.Table.{second_word, length_of}
 use Rattle.c25_isa.specs.Walk.{Placed, is_cut_behind, onto_stretches, cut_at, ends_stretch}
 use Rattle.c25_code.specs.Items.{no_change, plain_items}
-use Rattle.emit_control.specs.Cuts.{jump_item, call_item}
+use Rattle.image_proof.specs.emit_control.Cuts.{jump_item, call_item}
 use Rattle.walk_proof.specs.RunWalks.{placed_from}
 use Rattle.walk_proof.proofs.ItemBlocks.{leads_between, CutsAtMarks, placed_at}
 use Rattle.walk_proof.proofs.Straight.{AreStraight}

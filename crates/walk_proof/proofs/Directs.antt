@@ -11,18 +11,18 @@ use Rattle.acc_code.specs.declared.operand.AccOperand.{AccOperand}
 use Rattle.acc_code.specs.declared.operand.AccOperand.TheVariants as operand
 use Rattle.acc_code.specs.AccTree.{FunctionItems, Item, Op, If, Loop, Switch, Case, Clear, Call, Helper, Break, Continue, Return}
 use Rattle.acc_code.specs.Emittable.{Throughout, RefersRight, BelowCount}
-use Rattle.acc_select.specs.IsSelected.{IsEmittableFunction, object_cells, called_parameters}
+use Rattle.image_proof.specs.acc_select.IsSelected.{IsEmittableFunction, object_cells, called_parameters}
 use Rattle.tree_code.specs.WellFormedCode.{length_of}
 use Rattle.mem_plan.specs.declared.data_plan.FramePlan.{FramePlan}
 use Rattle.mem_plan.specs.Plan.{frame_of, object_addresses}
 use Rattle.mem_plan.specs.Ranges.{StaticObject, LocalObject}
 use Rattle.c25_isa.specs.Direct.{Words, is_among, is_scratch}
-use Rattle.emit_proof.proofs.FlowStanding.{throughout}
+use Rattle.image_proof.proofs.emit_proof.FlowStanding.{throughout}
 use Rattle.emit_blocks.specs.Places.{Places, or_zero, object_address, parameters_in, address_in}
-use Rattle.emit_control.specs.Settings.{Setting}
-use Rattle.frame_emit.specs.Frames.{parameter_addresses, all_parameters}
-use Rattle.emit_proof.specs.Standing.{scalar_address, parameter_address}
-use Rattle.emit_proof.specs.Code.{IsPresent}
+use Rattle.image_proof.specs.emit_control.Settings.{Setting}
+use Rattle.image_proof.specs.frame_emit.Frames.{parameter_addresses, all_parameters}
+use Rattle.image_proof.specs.emit_proof.Standing.{scalar_address, parameter_address}
+use Rattle.image_proof.specs.emit_proof.Code.{IsPresent}
 use Rattle.image_proof.specs.Emissions.{Emission, IsEmission}
 use Rattle.image_proof.specs.Active.{AreActive, back_of, back_in}
 use Rattle.image_proof.specs.ActiveSites.{parameters_of, site_places, site_counts}

@@ -6,11 +6,11 @@ use Rattle.acc_code.specs.declared.operand.AccOperand.{AccOperand}
 use Rattle.acc_code.specs.declared.operand.AccOperand.TheVariants as operand
 use Rattle.acc_code.specs.AccSequence.{closed}
 use Rattle.emit_blocks.specs.Steps.{Operation}
-use Rattle.emit_control.specs.declared.state.Before.{Before}
-use Rattle.emit_control.specs.declared.state.Before.TheVariants.{Open, Shut, Gone}
-use Rattle.emit_control.specs.Entries.{Entry, Run}
-use Rattle.emit_control.specs.Settings.{Setting, code_in}
-use Rattle.emit_control.specs.Cuts.{State, is_access, has_access, behind_run, entry_items, behind_entry, cut}
+use Rattle.image_proof.specs.emit_control.declared.state.Before.{Before}
+use Rattle.image_proof.specs.emit_control.declared.state.Before.TheVariants.{Open, Shut, Gone}
+use Rattle.image_proof.specs.emit_control.Entries.{Entry, Run}
+use Rattle.image_proof.specs.emit_control.Settings.{Setting, code_in}
+use Rattle.image_proof.specs.emit_control.Cuts.{State, is_access, has_access, behind_run, entry_items, behind_entry, cut}
 use Rattle.walk_proof.specs.RunWalks.{placed_from, with_scalar, scalars_of}
 use Rattle.walk_proof.proofs.Gathered.{blocks_by}
 use Rattle.walk_proof.proofs.Apart.{CutFirst, ApartFrom, Apart}

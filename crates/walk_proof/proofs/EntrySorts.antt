@@ -5,12 +5,12 @@ use Rattle.c25_isa.specs.declared.instruction.JumpOp.TheVariants as jump
 use Rattle.c25_isa.specs.declared.piece.PieceItem.{PieceItem}
 use Rattle.c25_isa.specs.Walk.{Placed, Known}
 use Rattle.emit_blocks.specs.Steps.{Operation}
-use Rattle.emit_control.specs.declared.state.Before.{Before}
-use Rattle.emit_control.specs.declared.state.Before.TheVariants.{Open, Shut, Gone}
-use Rattle.emit_control.specs.declared.setting.Words.{Words}
-use Rattle.emit_control.specs.Entries.{Entry, Run, Head, Place, Close, Branch, Goto, Dispatch, CallTo, CallHelper, Wipe, Ret, Finish}
-use Rattle.emit_control.specs.Settings.{Setting, cells_of, function_name, helper_name}
-use Rattle.emit_control.specs.Cuts.{State, shut, naming, jump_on, place_items, behind_place, close_items, behind_close, wipe_items, finish_items, entry_items, behind_entry}
+use Rattle.image_proof.specs.emit_control.declared.state.Before.{Before}
+use Rattle.image_proof.specs.emit_control.declared.state.Before.TheVariants.{Open, Shut, Gone}
+use Rattle.image_proof.specs.emit_control.declared.setting.Words.{Words}
+use Rattle.image_proof.specs.emit_control.Entries.{Entry, Run, Head, Place, Close, Branch, Goto, Dispatch, CallTo, CallHelper, Wipe, Ret, Finish}
+use Rattle.image_proof.specs.emit_control.Settings.{Setting, cells_of, function_name, helper_name}
+use Rattle.image_proof.specs.emit_control.Cuts.{State, shut, naming, jump_on, place_items, behind_place, close_items, behind_close, wipe_items, finish_items, entry_items, behind_entry}
 use Rattle.walk_proof.proofs.Gathered.{entry_blocks}
 use Rattle.walk_proof.proofs.Apart.{CutFirst}
 use Rattle.walk_proof.proofs.Quiet.{AreQuiet}

@@ -12,12 +12,12 @@ use Rattle.acc_code.specs.AccTree.{ItemList}
 use Rattle.acc_code.specs.AccSequence.{closed, blocks_of}
 use Rattle.acc_code.specs.Emittable.{IsPlaced}
 use Rattle.emit_blocks.specs.Steps.{Operation}
-use Rattle.emit_control.specs.Entries.{Entry, Run, Head, Place, Close, Branch, Goto, Dispatch, CallTo, CallHelper, Wipe, Ret, Finish}
-use Rattle.emit_control.specs.Flow.{body_entries}
-use Rattle.emit_control.specs.Settings.{Setting}
-use Rattle.emit_control.specs.Cuts.{begun, cut, function_items}
-use Rattle.emit_proof.proofs.Pieces.{piece_once, piece_marked, piece_named, piece_words}
-use Rattle.emit_proof.proofs.Words.{piece_has_word}
+use Rattle.image_proof.specs.emit_control.Entries.{Entry, Run, Head, Place, Close, Branch, Goto, Dispatch, CallTo, CallHelper, Wipe, Ret, Finish}
+use Rattle.image_proof.specs.emit_control.Flow.{body_entries}
+use Rattle.image_proof.specs.emit_control.Settings.{Setting}
+use Rattle.image_proof.specs.emit_control.Cuts.{begun, cut, function_items}
+use Rattle.image_proof.proofs.emit_proof.Pieces.{piece_once, piece_marked, piece_named, piece_words}
+use Rattle.image_proof.proofs.emit_proof.Words.{piece_has_word}
 use Rattle.walk_proof.specs.RunWalks.{placed_from, scalars_of, address_of}
 use Rattle.walk_proof.specs.PieceWalks.{EntryWalks, RunsWalk, IsFunctionIn, range_first, range_last}
 use Rattle.walk_proof.specs.DirectPieces.{RunsAreDirect, KeepsReturn, words}

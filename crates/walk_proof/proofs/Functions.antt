@@ -12,8 +12,8 @@ use Rattle.c25_isa.specs.Image.{Contents}
 use Rattle.c25_isa.specs.Pieces.{Piece, items_size, piece_address, range_of, listed_ranges, Linked, PiecesFit}
 use Rattle.c25_code.specs.Links.{first_piece, pieces_size}
 use Rattle.c25_helper.specs.Calls.{called_helper_pieces}
-use Rattle.frame_emit.specs.Emitted.{function_piece, function_pieces, behind_startup}
-use Rattle.frame_emit.specs.Startup.{startup_name, startup_piece}
+use Rattle.image_proof.specs.frame_emit.Emitted.{function_piece, function_pieces, behind_startup}
+use Rattle.image_proof.specs.frame_emit.Startup.{startup_name, startup_piece}
 use Rattle.image_proof.specs.Emissions.{Emission, IsEmission}
 use Rattle.image_proof.specs.ActiveSites.{parameters_of}
 use Rattle.image_proof.specs.Keeping.{own_pieces, all_pieces}

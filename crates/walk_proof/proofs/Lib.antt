@@ -1,3 +1,4 @@
+pub use Rattle.image_proof.proofs as image_proof
 pub mod Parts
 pub mod Rows
 pub mod Moving

@@ -14,8 +14,8 @@ use Rattle.acc_code.specs.declared.operation.AccOp.TheVariants as row
 use Rattle.acc_code.specs.declared.operation.Test.TheVariants.{Nz}
 use Rattle.acc_code.specs.AccTree.{Item, Op, If, Loop, Switch, Case, Clear, Call, Helper, Break, ItemList, end, ◌▸◌}
 use Rattle.acc_code.specs.AccSequence.{blocks_of}
-use Rattle.emit_control.specs.Cuts.{function_items}
-use Rattle.emit_control.specs.Settings.{Setting}
+use Rattle.image_proof.specs.emit_control.Cuts.{function_items}
+use Rattle.image_proof.specs.emit_control.Settings.{Setting}
 use Rattle.walk_proof.specs.PieceWalks.{IsFunctionIn}
 
 -- two scalars through AR2, one through AR3, and an object of three words

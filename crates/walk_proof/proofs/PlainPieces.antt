@@ -10,13 +10,13 @@ use Rattle.c25_code.specs.Items.{plain_items, entry_code, return_code}
 use Rattle.acc_code.specs.declared.item.CaseLabel.{CaseLabel}
 use Rattle.acc_code.specs.declared.item.CaseLabel.TheVariants.{Value, Default}
 use Rattle.acc_code.specs.AccTree.{ItemList}
-use Rattle.emit_control.specs.declared.state.Before.{Before}
-use Rattle.emit_control.specs.declared.state.Before.TheVariants.{Open, Shut, Gone}
-use Rattle.emit_control.specs.declared.setting.Words.{Words}
-use Rattle.emit_control.specs.Entries.{Entry, Run, Head, Place, Close, Branch, Goto, Dispatch, CallTo as CallEntry, CallHelper, Wipe, Ret, Finish}
-use Rattle.emit_control.specs.Flow.{body_entries}
-use Rattle.emit_control.specs.Settings.{Setting, cells_of}
-use Rattle.emit_control.specs.Cuts.{State, begun, less_by, case_items, count_instr, place_items, close_items, wipe_items, finish_items, entry_items, behind_entry, cut, function_items}
+use Rattle.image_proof.specs.emit_control.declared.state.Before.{Before}
+use Rattle.image_proof.specs.emit_control.declared.state.Before.TheVariants.{Open, Shut, Gone}
+use Rattle.image_proof.specs.emit_control.declared.setting.Words.{Words}
+use Rattle.image_proof.specs.emit_control.Entries.{Entry, Run, Head, Place, Close, Branch, Goto, Dispatch, CallTo as CallEntry, CallHelper, Wipe, Ret, Finish}
+use Rattle.image_proof.specs.emit_control.Flow.{body_entries}
+use Rattle.image_proof.specs.emit_control.Settings.{Setting, cells_of}
+use Rattle.image_proof.specs.emit_control.Cuts.{State, begun, less_by, case_items, count_instr, place_items, close_items, wipe_items, finish_items, entry_items, behind_entry, cut, function_items}
 use Rattle.walk_proof.proofs.Straight.{AreStraight, run_straight}
 use Rattle.walk_proof.proofs.Choices.{less_all, count_holds}
 use Rattle.walk_proof.proofs.Targets.{JumpsByMarks}

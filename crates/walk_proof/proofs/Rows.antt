@@ -8,7 +8,7 @@ use Rattle.c25_isa.specs.AddressCount.{is_address_instruction}
 use Rattle.acc_code.specs.declared.operation.AccOp.{AccOp}
 use Rattle.acc_code.specs.declared.operation.AccOp.TheVariants as row
 use Rattle.emit_blocks.specs.Instructions.{word_instr, constant_instr}
-use Rattle.emit_proof.specs.Direct.{takes_word}
+use Rattle.image_proof.specs.emit_proof.Direct.{takes_word}
 
 -- this is accessed, and behind it this is known but of AR1
 pub record Finds (k : Known) (i : Instr) (found : Access) (behind : Known) : Type 0 where

@@ -17,7 +17,7 @@ use Rattle.acc_code.specs.declared.operation.Test.{Test}
 use Rattle.acc_code.specs.AccTree.{FunctionItems, Item, Op, If, Loop, Switch, Case, Clear, Call, Helper, Break, Continue, Return, ItemList, end, item}
 use Rattle.acc_code.specs.AccSequence.{Rest, NamesBelow, blocks_of, accesses, item_accesses, operand_accesses, cut}
 use Rattle.acc_code.specs.Emittable.{Throughout, Within}
-use Rattle.acc_select.specs.IsSelected.{IsEmittableFunction, object_cells, called_parameters}
+use Rattle.image_proof.specs.acc_select.IsSelected.{IsEmittableFunction, object_cells, called_parameters}
 use Rattle.mem_plan.specs.declared.data_plan.FramePlan.{FramePlan}
 use Rattle.mem_plan.specs.Plan.{list_bases, frame_of}
 use Rattle.mem_plan.specs.Ranges.{range, ScalarWord, scalar_range, list_range, range_of}
@@ -26,14 +26,14 @@ use Rattle.emit_blocks.specs.declared.site.ScalarPlace.{ScalarPlace}
 use Rattle.emit_blocks.specs.Places.{scalar_or_zero}
 use Rattle.emit_blocks.specs.Right.{IsRight, AreRight}
 use Rattle.emit_blocks.specs.Steps.{Operation, operation}
-use Rattle.emit_control.specs.declared.ways.Ways.{Ways}
-use Rattle.emit_control.specs.Emits.{IsRightItem}
-use Rattle.emit_control.specs.Entries.{Entry, Run, Place, Close, Branch, Goto, flushed}
-use Rattle.emit_control.specs.Flow.{Part, labels, item_labels, is_end, opposite, target, goto, if_code, loop_code, behind_label, behind_jump, inner, first_ways, turn_ways, third_ways, switch_ways, emit, body_entries}
-use Rattle.emit_control.specs.Settings.{Setting}
-use Rattle.frame_emit.specs.Emitted.{setting_of}
-use Rattle.frame_emit.specs.Frames.{place, one_further, position_in, place_or, scalar_place, scalar_places}
-use Rattle.frame_emit.proofs.Naming.{all_right}
+use Rattle.image_proof.specs.emit_control.declared.ways.Ways.{Ways}
+use Rattle.image_proof.specs.emit_control.Emits.{IsRightItem}
+use Rattle.image_proof.specs.emit_control.Entries.{Entry, Run, Place, Close, Branch, Goto, flushed}
+use Rattle.image_proof.specs.emit_control.Flow.{Part, labels, item_labels, is_end, opposite, target, goto, if_code, loop_code, behind_label, behind_jump, inner, first_ways, turn_ways, third_ways, switch_ways, emit, body_entries}
+use Rattle.image_proof.specs.emit_control.Settings.{Setting}
+use Rattle.image_proof.specs.frame_emit.Emitted.{setting_of}
+use Rattle.image_proof.specs.frame_emit.Frames.{place, one_further, position_in, place_or, scalar_place, scalar_places}
+use Rattle.image_proof.proofs.frame_emit.Naming.{all_right}
 use Rattle.image_proof.specs.ActiveSites.{parameters_of}
 use Rattle.image_proof.specs.Emissions.{Emission, IsEmission}
 use Rattle.image_proof.proofs.Frames.{FrameAt, frame_at}

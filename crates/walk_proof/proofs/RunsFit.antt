@@ -4,9 +4,9 @@ use Rattle.std.specs.Prelude.{⊤, ◌==◌, if◌then◌else◌}
 use Rattle.acc_code.specs.declared.operation.Test.{Test}
 use Rattle.acc_code.specs.AccTree.{Item, Op, If, Loop, Switch, Case, Clear, Call, Helper, Break, Continue, Return, ItemList, end, item}
 use Rattle.emit_blocks.specs.Steps.{Operation, operation}
-use Rattle.emit_control.specs.declared.ways.Ways.{Ways}
-use Rattle.emit_control.specs.Entries.{Entry, Run, Place, Close, Branch, Goto, flushed}
-use Rattle.emit_control.specs.Flow.{Part, labels, item_labels, is_end, opposite, target, goto, if_code, loop_code, behind_label, behind_jump, inner, first_ways, turn_ways, third_ways, switch_ways, emit, body_entries}
+use Rattle.image_proof.specs.emit_control.declared.ways.Ways.{Ways}
+use Rattle.image_proof.specs.emit_control.Entries.{Entry, Run, Place, Close, Branch, Goto, flushed}
+use Rattle.image_proof.specs.emit_control.Flow.{Part, labels, item_labels, is_end, opposite, target, goto, if_code, loop_code, behind_label, behind_jump, inner, first_ways, turn_ways, third_ways, switch_ways, emit, body_entries}
 
 module _ (P : List Operation → Type 0) where
   abbrev pub RunHas : Entry → Type 0

@@ -18,7 +18,7 @@ use Rattle.emit_blocks.specs.Steps.{step}
 use Rattle.emit_blocks.specs.Moves.{next_address, next_register, change_to, is_by_index, moves_by_index, address_behind, moved, other_than, indirect, made_current}
 use Rattle.emit_blocks.specs.Instructions.{word_instr, constant_instr}
 use Rattle.emit_blocks.specs.Runs.{Known, is_page, page_code, row_code, known_behind}
-use Rattle.emit_proof.specs.Direct.{takes_word}
+use Rattle.image_proof.specs.emit_proof.Direct.{takes_word}
 use Rattle.walk_proof.proofs.Parts.{known_after, after_parts, Gives, gives_none, gives_both, gives_counted, gives_listed}
 use Rattle.walk_proof.proofs.Rows.{Finds, row_is, constant_is}
 use Rattle.walk_proof.proofs.Moving.{Brings, Moves, Makes, move_count, moved_brings, made_points, listed_there}

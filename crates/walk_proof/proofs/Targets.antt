@@ -9,7 +9,7 @@ use Rattle.c25_isa.specs.Pieces.{items_size, mark_address, items_code}
 use Rattle.c25_isa.specs.Table.{second_word, length_of}
 use Rattle.c25_isa.specs.Walk.{Placed, jump_target}
 use Rattle.c25_code.specs.Links.{IsMarkOf, MarksDiffer, MarksAtWords}
-use Rattle.emit_proof.specs.Calls.{IsJumpTo}
+use Rattle.image_proof.specs.emit_proof.Calls.{IsJumpTo}
 use Rattle.walk_proof.specs.RunWalks.{placed_from}
 use Rattle.walk_proof.proofs.ItemBlocks.{leads_between, CutsAtMarks}
 use Rattle.walk_proof.proofs.Located.{marks_at}

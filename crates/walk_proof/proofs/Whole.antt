@@ -16,8 +16,8 @@ use Rattle.emit_blocks.specs.Right.{AreRight}
 use Rattle.emit_blocks.specs.Runs.{Known, nothing_known, row_code, known_behind, steps_code, index_code, all_steps_code, run_code}
 use Rattle.lay_cost.specs.Cost.{access_cost, block_cost}
 use Rattle.lay_cost.specs.Placements.{Placement}
-use Rattle.emit_proof.specs.Direct.{TakesReach, TakeReaches}
-use Rattle.emit_proof.proofs.EmitMatchTaking.{steps_take}
+use Rattle.image_proof.specs.emit_proof.Direct.{TakesReach, TakeReaches}
+use Rattle.image_proof.proofs.emit_proof.EmitMatchTaking.{steps_take}
 use Rattle.walk_proof.specs.RunWalks.{scalars_of, address_of, AreOverScalars, WalksAs}
 use Rattle.walk_proof.specs.Agreeing.{AgreesWith}
 use Rattle.walk_proof.proofs.Parts.{known_after, Gives, one_if, gives_none, gives_both, gives_after, gives_counted, walks_as}

@@ -6,8 +6,8 @@ use Rattle.acc_code.specs.declared.operand.AccOperand.TheVariants as operand
 use Rattle.acc_code.specs.AccTree.{Item, Op}
 use Rattle.emit_blocks.specs.Places.{Places, object_address, parameters_in}
 use Rattle.emit_blocks.specs.Runs.{run_code}
-use Rattle.emit_control.specs.Entries.{Entry, Run}
-use Rattle.emit_control.specs.Settings.{Setting}
+use Rattle.image_proof.specs.emit_control.Entries.{Entry, Run}
+use Rattle.image_proof.specs.emit_control.Settings.{Setting}
 use Rattle.walk_proof.specs.RunWalks.{placed_from}
 
 -- each direct operand of a run may be there, whatever its stretch did before

@@ -6,9 +6,9 @@ use Rattle.c25_code.specs.Links.{first_piece}
 use Rattle.acc_code.specs.AccTree.{ItemList}
 use Rattle.acc_code.specs.Emittable.{IsPlaced}
 use Rattle.emit_blocks.specs.Runs.{run_code}
-use Rattle.emit_control.specs.Entries.{Entry, Run}
-use Rattle.emit_control.specs.Cuts.{function_items}
-use Rattle.emit_control.specs.Settings.{Setting}
+use Rattle.image_proof.specs.emit_control.Entries.{Entry, Run}
+use Rattle.image_proof.specs.emit_control.Cuts.{function_items}
+use Rattle.image_proof.specs.emit_control.Settings.{Setting}
 use Rattle.walk_proof.specs.RunWalks.{scalars_of, address_of, WalksAs}
 
 -- a run gives a walk the addresses of its scalars, and as many address instructions as they cost

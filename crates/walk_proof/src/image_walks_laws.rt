@@ -5,8 +5,8 @@ ghost use Rattle.c_tree.specs.WellFormedProgram.{IsProgram};
 ghost use Rattle.tree_code.specs.Lowered.{lowered_program};
 ghost use Rattle.c_tree.specs.TypedOfWords.{ProgramHasWords};
 ghost use Rattle.tree_code.specs.WordTree.{FunctionCode};
-ghost use Rattle.acc_select.specs.IsSelected.{IsEmittable};
-ghost use Rattle.acc_select.specs.Selected.{selected};
+ghost use Rattle.image_proof.specs.acc_select.IsSelected.{IsEmittable};
+ghost use Rattle.image_proof.specs.acc_select.Selected.{selected};
 ghost use Rattle.mem_plan.specs.declared.data_plan.DataPlan.{DataPlan};
 ghost use Rattle.mem_plan.specs.Plan.{AreArranged, IsPlan};
 ghost use Rattle.acc_code.specs.AccTree.{FunctionItems};
@@ -36,5 +36,5 @@ pub fn programs_walk()
 {
     images_walk();
     image_proof::translation_keeps_runs();
-    acc_select_proof::typed_programs_keep();
+    image_proof::typed_programs_keep();
 }

@@ -7,5 +7,8 @@ mod image_walks_laws;
 mod piece_walks_laws;
 
 pub use direct_laws::{images_are_direct, programs_are_direct};
+pub use image_proof::{
+    accesses_are_kept, images_agree, lowering_keeps_runs, runs_tell, translation_keeps_runs,
+};
 pub use image_walks_laws::{images_walk, programs_walk};
 pub use piece_walks_laws::{pieces_walk, runs_are_direct};

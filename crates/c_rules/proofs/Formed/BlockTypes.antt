@@ -6,7 +6,7 @@ use Rattle.std.proofs.lemmas.List.Elements.{All-nil, All-push, All-append}
 use Rattle.c_tree.specs.declared.program.Base.{Base}
 use Rattle.c_tree.specs.declared.program.VarRef.{VarRef}
 use Rattle.c_tree.specs.declared.program.VarRef.TheVariants as refs
-use Rattle.c_syntax.specs.SyntaxTree.{ItemTree, DeclarationTree}
+use Rattle.c_tree.specs.c_syntax.SyntaxTree.{ItemTree, DeclarationTree}
 use Rattle.c_tree.specs.TypedTree.{Kind}
 use Rattle.c_rules.specs.declared.meaning.Declared.{Declared}
 use Rattle.c_rules.specs.declared.meaning.Declared.TheVariants as declares

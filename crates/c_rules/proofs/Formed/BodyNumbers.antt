@@ -12,8 +12,8 @@ use Rattle.std.proofs.lemmas.List.Quantifiers.{all_pairs_push}
 use Rattle.std.proofs.lemmas.List.Sums.{passes_at_first}
 use Rattle.std.proofs.lemmas.Option.{slice_get-map, slice_get_within, get_or_from_slice_get}
 use Rattle.std.proofs.lemmas.Slice.Eq.{bytes_eq-Decides}
-use Rattle.c_syntax.specs.SyntaxTree as tree
-use Rattle.c_syntax.specs.SyntaxTree.{FunctionSyntax, Defined, UnitTree}
+use Rattle.c_tree.specs.c_syntax.SyntaxTree as tree
+use Rattle.c_tree.specs.c_syntax.SyntaxTree.{FunctionSyntax, Defined, UnitTree}
 use Rattle.c_rules.specs.Units.{TypedFunction, is_name_among, bodies_behind}
 use Rattle.c_rules.proofs.Formed.FileSoFar.{function_names}
 

@@ -1,11 +1,11 @@
 -- The typed tree of an expression takes at most as many addresses as the expression has nodes.
 use Rattle.std.proofs.Common.{◌≤◌, ◌+◌, ◌&&◌, ◌||◌, ℕ, suc, Bool, List, [], ◌∷◌, is_some, Option, Some, None, arith}
-use Rattle.c_syntax.specs.Counts.{Weights, expression_weight, form_weight, arguments_weight}
-use Rattle.c_syntax.specs.declared.syntax.PrefixOp.{PrefixOp}
-use Rattle.c_syntax.specs.declared.syntax.PrefixOp.TheVariants as prefix
-use Rattle.c_syntax.specs.declared.operator.UnaryOp.TheVariants as unary_op
-use Rattle.c_syntax.specs.SyntaxTree as tree
-use Rattle.c_syntax.specs.SyntaxTree.{Expression, ExpressionForm, Expressions, no_argument, argument}
+use Rattle.c_tree.specs.c_syntax.Counts.{Weights, expression_weight, form_weight, arguments_weight}
+use Rattle.c_tree.specs.c_syntax.declared.syntax.PrefixOp.{PrefixOp}
+use Rattle.c_tree.specs.c_syntax.declared.syntax.PrefixOp.TheVariants as prefix
+use Rattle.c_tree.specs.c_syntax.declared.operator.UnaryOp.TheVariants as unary_op
+use Rattle.c_tree.specs.c_syntax.SyntaxTree as tree
+use Rattle.c_tree.specs.c_syntax.SyntaxTree.{Expression, ExpressionForm, Expressions, no_argument, argument}
 use Rattle.c_tree.specs.TypedTree.{Expr}
 use Rattle.c_tree.specs.Uses.{list_uses}
 use Rattle.c_tree.specs.declared.uses.Use.TheVariants.{Call}

@@ -2,9 +2,9 @@
 use Rattle.std.proofs.Common.{◌≤◌, ◌+◌, ◌&&◌, ◌||◌, ℕ, suc, not, nat_lt, Bool, true, false, if◌then◌else◌, List, [], ◌∷◌, ◌++◌, Option, Some, None, arith}
 use Rattle.std.specs.Prelude.{⊤}
 use Rattle.c_tree.specs.declared.program.ScalarType.{ScalarType}
-use Rattle.c_syntax.specs.declared.operator.UnaryOp.{UnaryOp}
-use Rattle.c_syntax.specs.declared.operator.BinaryOp.{BinaryOp}
-use Rattle.c_syntax.specs.declared.operator.BinaryOp.TheVariants as op
+use Rattle.c_tree.specs.c_syntax.declared.operator.UnaryOp.{UnaryOp}
+use Rattle.c_tree.specs.c_syntax.declared.operator.BinaryOp.{BinaryOp}
+use Rattle.c_tree.specs.c_syntax.declared.operator.BinaryOp.TheVariants as op
 use Rattle.c_tree.specs.TypedTree as tree
 use Rattle.c_tree.specs.TypedTree.{Kind, Expr, Node, Lvalue, Named, At, Exprs}
 use Rattle.c_tree.specs.Eval.{kind_of}

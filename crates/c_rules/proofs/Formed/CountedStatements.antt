@@ -1,16 +1,16 @@
 -- The arrays and the addresses of a typed statement are at most as many as the statement has nodes and declared items.
 use Rattle.std.proofs.Common.{◌≡◌, ◌≤◌, ◌+◌, ◌∷◌, [], ◌++◌, ℕ, Bool, true, false, not, List, length, is_some, Option, Some, None, arith, sum_by}
 use Rattle.std.proofs.lemmas.List.Sums.{sum_by-cons}
-use Rattle.c_syntax.specs.Counts.{item_weight, declaration_weight, optional_weight, initial_weight, statement_weight, statements_weight, choices_weight}
+use Rattle.c_tree.specs.c_syntax.Counts.{item_weight, declaration_weight, optional_weight, initial_weight, statement_weight, statements_weight, choices_weight}
 use Rattle.c_tree.specs.declared.enclosing.Enclosing.{Enclosing}
 use Rattle.c_tree.specs.declared.enclosing.Enclosing.TheVariants as around
 use Rattle.c_tree.specs.declared.program.Base.{Base}
 use Rattle.c_tree.specs.declared.program.VarRef.{VarRef}
 use Rattle.c_tree.specs.declared.program.VarRef.TheVariants as refs
 use Rattle.c_tree.specs.declared.uses.Use.TheVariants.{Cases}
-use Rattle.c_syntax.specs.SyntaxTree as tree
-use Rattle.c_syntax.specs.SyntaxTree.{Expression, ItemTree, InitialTree, DeclarationTree, Statement, Statements, no_statement, statement}
-use Rattle.c_syntax.specs.SyntaxTree.{no_choice, case_label, default_label, chosen}
+use Rattle.c_tree.specs.c_syntax.SyntaxTree as tree
+use Rattle.c_tree.specs.c_syntax.SyntaxTree.{Expression, ItemTree, InitialTree, DeclarationTree, Statement, Statements, no_statement, statement}
+use Rattle.c_tree.specs.c_syntax.SyntaxTree.{no_choice, case_label, default_label, chosen}
 use Rattle.c_tree.specs.TypedTree.{Kind, Stmt, Stmts}
 use Rattle.c_tree.specs.Eval.{kind_of}
 use Rattle.c_tree.specs.Uses.{uses, optional_uses, case_count, statement_uses, statements_uses, choices_uses}

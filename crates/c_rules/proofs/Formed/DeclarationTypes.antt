@@ -7,8 +7,8 @@ use Rattle.c_tree.specs.declared.program.Base.{Base}
 use Rattle.c_tree.specs.declared.program.Base.TheVariants as base
 use Rattle.c_tree.specs.declared.program.ScalarType.{ScalarType}
 use Rattle.c_tree.specs.declared.program.VarRef.TheVariants as refs
-use Rattle.c_syntax.specs.SyntaxTree as tree
-use Rattle.c_syntax.specs.SyntaxTree.{Expression, ParameterTree, ParametersTree, ItemForm, InitialTree}
+use Rattle.c_tree.specs.c_syntax.SyntaxTree as tree
+use Rattle.c_tree.specs.c_syntax.SyntaxTree.{Expression, ParameterTree, ParametersTree, ItemForm, InitialTree}
 use Rattle.c_tree.specs.TypedTree.{Kind}
 use Rattle.c_rules.specs.declared.meaning.Declared.{Declared}
 use Rattle.c_rules.specs.declared.meaning.Declared.TheVariants as declares

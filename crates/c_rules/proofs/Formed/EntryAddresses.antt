@@ -5,10 +5,10 @@ use Rattle.c_tree.specs.declared.program.ScalarType.{ScalarType}
 use Rattle.c_tree.specs.declared.program.VarRef.TheVariants as refs
 use Rattle.c_tree.specs.declared.program.Initial.{Initial}
 use Rattle.c_tree.specs.declared.program.Initial.TheVariants as initial
-use Rattle.c_syntax.specs.declared.operator.BinaryOp.TheVariants as op
-use Rattle.c_syntax.specs.declared.syntax.PrefixOp.TheVariants as prefix
-use Rattle.c_syntax.specs.SyntaxTree as tree
-use Rattle.c_syntax.specs.SyntaxTree.{Expression}
+use Rattle.c_tree.specs.c_syntax.declared.operator.BinaryOp.TheVariants as op
+use Rattle.c_tree.specs.c_syntax.declared.syntax.PrefixOp.TheVariants as prefix
+use Rattle.c_tree.specs.c_syntax.SyntaxTree as tree
+use Rattle.c_tree.specs.c_syntax.SyntaxTree.{Expression}
 use Rattle.c_tree.specs.TypedTree.{Kind, Expr, Node, Load}
 use Rattle.c_tree.specs.Eval.{kind_of, points}
 use Rattle.c_rules.specs.declared.fault.Rule.TheVariants.{Undeclared, Mismatch}

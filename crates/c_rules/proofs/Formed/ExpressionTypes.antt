@@ -5,7 +5,7 @@ use Rattle.std.proofs.lemmas.List.Elements.{All-nil, All-cons, All-head, All-tai
 use Rattle.c_tree.specs.declared.program.ScalarType.{ScalarType}
 use Rattle.c_tree.specs.declared.program.Initial.{Initial}
 use Rattle.c_tree.specs.declared.program.Initial.TheVariants as initial
-use Rattle.c_syntax.specs.SyntaxTree.{Expression}
+use Rattle.c_tree.specs.c_syntax.SyntaxTree.{Expression}
 use Rattle.c_tree.specs.TypedTree.{Kind}
 use Rattle.c_tree.specs.Store.{is_pointer}
 use Rattle.c_tree.specs.Eval.{kind_of, points}

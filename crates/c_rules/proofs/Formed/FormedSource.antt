@@ -2,9 +2,9 @@
 use Rattle.std.proofs.Common.{◌≡◌, sym, subst}
 use Rattle.std.specs.Prelude.{All}
 use Rattle.word_base.specs.Name.{IsName}
-use Rattle.c_syntax.specs.Counts.{IsWithinLimits}
-use Rattle.c_syntax.specs.FunctionNames.{function_names}
-use Rattle.c_syntax.specs.SyntaxTree.{UnitTree}
+use Rattle.c_tree.specs.c_syntax.Counts.{IsWithinLimits}
+use Rattle.c_tree.specs.c_syntax.FunctionNames.{function_names}
+use Rattle.c_tree.specs.c_syntax.SyntaxTree.{UnitTree}
 use Rattle.c_tree.specs.TypedTree.{ProgramTree}
 use Rattle.c_tree.specs.WellFormedProgram.{IsProgram}
 use Rattle.c_rules.specs.Checked.{AreWhole, IsTyped}

@@ -7,7 +7,7 @@ use Rattle.std.proofs.lemmas.List.Elements.{All-append, All-push}
 use Rattle.c_tree.specs.declared.program.Base.{Base}
 use Rattle.c_tree.specs.declared.program.ScalarType.{ScalarType}
 use Rattle.c_tree.specs.declared.program.VarRef.{VarRef}
-use Rattle.c_syntax.specs.SyntaxTree.{FunctionSyntax, Defined, UnitTree}
+use Rattle.c_tree.specs.c_syntax.SyntaxTree.{FunctionSyntax, Defined, UnitTree}
 use Rattle.c_tree.specs.TypedTree.{Stmt}
 use Rattle.c_rules.specs.declared.meaning.Declared.TheVariants as declares
 use Rattle.c_rules.specs.declared.fault.Rule.TheVariants.{Redeclared}

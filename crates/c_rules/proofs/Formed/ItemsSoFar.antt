@@ -3,7 +3,7 @@ use Rattle.std.proofs.Common.{◌≡◌, ◌||◌, true, not, is_some, List, [],
 use Rattle.std.proofs.lemmas.Bool.{or_parts, not-false}
 use Rattle.c_tree.specs.declared.program.Base.{Base}
 use Rattle.c_tree.specs.declared.program.Initial.{Initial}
-use Rattle.c_syntax.specs.SyntaxTree.{ItemTree, UnitTree}
+use Rattle.c_tree.specs.c_syntax.SyntaxTree.{ItemTree, UnitTree}
 use Rattle.c_rules.specs.declared.meaning.Declared.{Declared}
 use Rattle.c_rules.specs.declared.meaning.Declared.TheVariants as declares
 use Rattle.c_rules.specs.declared.fault.Rule.TheVariants.{Redeclared, Mismatch}

@@ -6,8 +6,8 @@ use Rattle.std.proofs.lemmas.List.Elements.{All-nil, All-cons}
 use Rattle.c_tree.specs.declared.program.ScalarType.{ScalarType}
 use Rattle.c_tree.specs.declared.program.VarRef.{VarRef}
 use Rattle.c_tree.specs.declared.program.VarRef.TheVariants as refs
-use Rattle.c_syntax.specs.SyntaxTree as tree
-use Rattle.c_syntax.specs.SyntaxTree.{Expression, InitialTree}
+use Rattle.c_tree.specs.c_syntax.SyntaxTree as tree
+use Rattle.c_tree.specs.c_syntax.SyntaxTree.{Expression, InitialTree}
 use Rattle.c_tree.specs.TypedTree.{Kind, Expr, Node, Assign, Named, Do_expr, Fill}
 use Rattle.c_tree.specs.Eval.{kind_of}
 use Rattle.c_rules.specs.declared.meaning.Declared.TheVariants as declares

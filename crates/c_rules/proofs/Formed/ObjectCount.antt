@@ -2,13 +2,13 @@
 use Rattle.std.proofs.Common.{◌≡◌, ◌≤◌, ◌+◌, ◌||◌, ℕ, not, List, [], ◌∷◌, map, length, slice_get, is_some, Option, Some, None, refl, arith, length-append, sum_by}
 use Rattle.std.proofs.lemmas.List.{length-map, length-set}
 use Rattle.std.proofs.lemmas.List.Sums.{sum_by-cons, sum_by_push}
-use Rattle.c_syntax.specs.Counts.{item_weight, external_weight, unit_weight, unit_count}
+use Rattle.c_tree.specs.c_syntax.Counts.{item_weight, external_weight, unit_weight, unit_count}
 use Rattle.c_tree.specs.WellFormedProgram.{object_count}
 use Rattle.c_tree.specs.declared.program.Base.{Base}
 use Rattle.c_tree.specs.declared.program.Initial.{Initial}
 use Rattle.c_tree.specs.declared.program.ScalarType.{ScalarType}
-use Rattle.c_syntax.specs.SyntaxTree as tree
-use Rattle.c_syntax.specs.SyntaxTree.{ParameterTree, ItemTree, FunctionSyntax, ExternalTree, Defined, UnitTree}
+use Rattle.c_tree.specs.c_syntax.SyntaxTree as tree
+use Rattle.c_tree.specs.c_syntax.SyntaxTree.{ParameterTree, ItemTree, FunctionSyntax, ExternalTree, Defined, UnitTree}
 use Rattle.c_tree.specs.TypedTree.{Kind, FunctionTree}
 use Rattle.c_tree.specs.Uses.{statement_uses}
 use Rattle.c_rules.specs.declared.meaning.Declared.{Declared}
@@ -32,7 +32,7 @@ use Rattle.c_rules.proofs.Formed.CountedUses.{addresses, arrays, frame_objects_f
 use Rattle.c_rules.proofs.Formed.CountedExpressions.{code}
 use Rattle.c_rules.proofs.Formed.CountedStatements.{body_few}
 use Rattle.c_tree.specs.declared.limits.TheConstants.{MOST_OBJECTS}
-use Rattle.c_syntax.specs.declared.limits.TheConstants.{MOST_NODES}
+use Rattle.c_tree.specs.c_syntax.declared.limits.TheConstants.{MOST_NODES}
 
 -- the objects of a file so far, and those of its functions that may lie in memory
 abbrev function_objects : TypedFunction → ℕ

@@ -1,9 +1,9 @@
 -- Operators on values: what each makes of typed operands is typed.
 use Rattle.std.proofs.Common.{◌≡◌, ℕ, true, false, not, ◌||◌, Some, refl, subst}
 use Rattle.std.proofs.lemmas.Bool.{or_parts, not-false}
-use Rattle.c_syntax.specs.declared.operator.UnaryOp.{UnaryOp}
-use Rattle.c_syntax.specs.declared.operator.BinaryOp.{BinaryOp}
-use Rattle.c_syntax.specs.declared.operator.BinaryOp.TheVariants as op
+use Rattle.c_tree.specs.c_syntax.declared.operator.UnaryOp.{UnaryOp}
+use Rattle.c_tree.specs.c_syntax.declared.operator.BinaryOp.{BinaryOp}
+use Rattle.c_tree.specs.c_syntax.declared.operator.BinaryOp.TheVariants as op
 use Rattle.c_tree.specs.TypedTree.{Expr}
 use Rattle.c_tree.specs.Eval.{kind_of}
 use Rattle.c_rules.specs.declared.fault.Rule.TheVariants.{Mismatch}

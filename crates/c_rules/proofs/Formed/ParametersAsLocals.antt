@@ -6,7 +6,7 @@ use Rattle.std.proofs.Math.Seq.{take-append_seam}
 use Rattle.std.proofs.lemmas.List.Elements.{All-nil, All-cons, All-head, All-tail}
 use Rattle.c_tree.specs.declared.program.ScalarType.{ScalarType}
 use Rattle.c_tree.specs.declared.program.VarRef.TheVariants as refs
-use Rattle.c_syntax.specs.SyntaxTree.{ParameterTree}
+use Rattle.c_tree.specs.c_syntax.SyntaxTree.{ParameterTree}
 use Rattle.c_rules.specs.declared.local.Naming.{Naming}
 use Rattle.c_rules.specs.declared.meaning.Meaning.TheVariants as meanings
 use Rattle.c_rules.specs.declared.meaning.ObjectType.TheVariants.{Single}

@@ -1,7 +1,7 @@
 -- How many temporaries a body needs stays as it is once each object of its function has its number among its own kind.
 use Rattle.std.proofs.Common.{◌≡◌, ◌+◌, ℕ, max, if◌then◌else◌, List, Option, Some, None, ap, ◌∙◌, refl}
-use Rattle.c_syntax.specs.declared.operator.UnaryOp.{UnaryOp}
-use Rattle.c_syntax.specs.declared.operator.UnaryOp.TheVariants as unary
+use Rattle.c_tree.specs.c_syntax.declared.operator.UnaryOp.{UnaryOp}
+use Rattle.c_tree.specs.c_syntax.declared.operator.UnaryOp.TheVariants as unary
 use Rattle.c_tree.specs.declared.program.VarRef.{VarRef}
 use Rattle.c_tree.specs.Temporaries.{is_constant, is_simple, unless_simple, temporaries, form_temporaries, target_temporaries, argument_temporaries, optional_temporaries, statement_temporaries, statements_temporaries, choices_temporaries}
 use Rattle.c_tree.specs.TypedTree as tree

@@ -5,8 +5,8 @@ use Rattle.std.proofs.lemmas.Bool.{not-false}
 use Rattle.std.proofs.lemmas.List.Elements.{All-head, All-tail}
 use Rattle.c_tree.specs.declared.program.ScalarType.{ScalarType}
 use Rattle.c_tree.specs.declared.program.VarRef.{VarRef}
-use Rattle.c_syntax.specs.SyntaxTree as tree
-use Rattle.c_syntax.specs.SyntaxTree.{Expression, DeclarationTree, Statement, Statements, no_statement, statement, no_choice, case_label, default_label, chosen}
+use Rattle.c_tree.specs.c_syntax.SyntaxTree as tree
+use Rattle.c_tree.specs.c_syntax.SyntaxTree.{Expression, DeclarationTree, Statement, Statements, no_statement, statement, no_choice, case_label, default_label, chosen}
 use Rattle.c_tree.specs.TypedTree as typed
 use Rattle.c_tree.specs.TypedTree.{Kind, Expr, Stmt, Stmts}
 use Rattle.c_tree.specs.Store.{is_pointer}

@@ -2,8 +2,8 @@
 use Rattle.std.proofs.Common.{◌≡◌, ◌≤◌, ℕ, List, [], ◌∷◌, length, Option, Some, None, ap, subst, arith}
 use Rattle.std.specs.Prelude.{All, ⊤, unwrap_or}
 use Rattle.std.proofs.lemmas.List.Elements.{All-nil, All-cons}
-use Rattle.c_syntax.specs.SyntaxTree as tree
-use Rattle.c_syntax.specs.SyntaxTree.{InitialTree}
+use Rattle.c_tree.specs.c_syntax.SyntaxTree as tree
+use Rattle.c_tree.specs.c_syntax.SyntaxTree.{InitialTree}
 use Rattle.c_tree.specs.declared.program.Initial.{Initial}
 use Rattle.c_rules.specs.declared.fault.Rule.TheVariants.{Mismatch}
 use Rattle.c_rules.specs.declared.meaning.ObjectType.{ObjectType}

@@ -2,7 +2,7 @@
 use Rattle.std.proofs.Common.{◌≡◌, ℕ, zero, suc, List, [], ◌∷◌, ◌++◌, length, slice_get, slice_set, true, Option, Some, None, sym, refl, ap, ◌∙◌, subst, inl, inr}
 use Rattle.std.proofs.lemmas.List.Elements.{All-push, All-set, All-weaker}
 use Rattle.std.proofs.lemmas.Option.{none-some, same_Some}
-use Rattle.c_syntax.specs.SyntaxTree.{UnitTree}
+use Rattle.c_tree.specs.c_syntax.SyntaxTree.{UnitTree}
 use Rattle.c_tree.specs.declared.program.Initial.{Initial}
 use Rattle.c_tree.specs.declared.program.VarRef.TheVariants as refs
 use Rattle.c_rules.specs.declared.meaning.Declared.TheVariants as declares

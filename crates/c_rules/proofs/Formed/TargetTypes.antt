@@ -2,7 +2,7 @@
 use Rattle.std.proofs.Common.{◌≡◌, ℕ, Bool, true, false, not, nat_lt, ◌-◌, ◌&&◌, ◌||◌, if◌then◌else◌, Option, Some, None, refl, sym, ◌∙◌, subst, true≢false}
 use Rattle.std.proofs.lemmas.Bool.{not-false, not-true}
 use Rattle.c_tree.specs.declared.program.ScalarType.{ScalarType}
-use Rattle.c_syntax.specs.declared.operator.BinaryOp.{BinaryOp}
+use Rattle.c_tree.specs.c_syntax.declared.operator.BinaryOp.{BinaryOp}
 use Rattle.c_tree.specs.Store.{is_pointer}
 use Rattle.c_tree.specs.TypedTree.{Kind, Expr, Node, Lvalue, Named, At, Const, Read, Load}
 use Rattle.c_tree.specs.Eval.{kind_of}

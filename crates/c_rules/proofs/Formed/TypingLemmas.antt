@@ -1,11 +1,11 @@
 -- The typed tree of an expression is typed, in a scope whose names stand for what they say.
 use Rattle.std.proofs.Common.{◌≡◌, ℕ, Bool, ◌&&◌, ◌||◌, List, Option, Some, None, is_some, refl}
 use Rattle.std.specs.Prelude.{⊤}
-use Rattle.c_syntax.specs.declared.operator.UnaryOp.TheVariants as unary_op
-use Rattle.c_syntax.specs.declared.syntax.PrefixOp.{PrefixOp}
-use Rattle.c_syntax.specs.declared.syntax.PrefixOp.TheVariants as prefix
-use Rattle.c_syntax.specs.SyntaxTree as tree
-use Rattle.c_syntax.specs.SyntaxTree.{TypeTree, Expression, ExpressionForm, Expressions, no_argument, argument}
+use Rattle.c_tree.specs.c_syntax.declared.operator.UnaryOp.TheVariants as unary_op
+use Rattle.c_tree.specs.c_syntax.declared.syntax.PrefixOp.{PrefixOp}
+use Rattle.c_tree.specs.c_syntax.declared.syntax.PrefixOp.TheVariants as prefix
+use Rattle.c_tree.specs.c_syntax.SyntaxTree as tree
+use Rattle.c_tree.specs.c_syntax.SyntaxTree.{TypeTree, Expression, ExpressionForm, Expressions, no_argument, argument}
 use Rattle.c_tree.specs.TypedTree.{Expr}
 use Rattle.c_rules.specs.declared.fault.Rule.TheVariants.{Undeclared, Mismatch, NotLvalue, NotConstant, ArgCount}
 use Rattle.c_rules.specs.declared.meaning.Meaning.{Meaning}

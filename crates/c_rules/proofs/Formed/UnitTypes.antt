@@ -1,7 +1,7 @@
 -- A source of which no node breaks a rule gives a file that is right.
 use Rattle.std.proofs.Common.{[], ◌∷◌}
-use Rattle.c_syntax.specs.SyntaxTree as tree
-use Rattle.c_syntax.specs.SyntaxTree.{ExternalTree, Defined, UnitTree}
+use Rattle.c_tree.specs.c_syntax.SyntaxTree as tree
+use Rattle.c_tree.specs.c_syntax.SyntaxTree.{ExternalTree, Defined, UnitTree}
 use Rattle.c_rules.specs.Typing.{spelled}
 use Rattle.c_rules.specs.Units.{File, file_items, external, externals, empty_file, typed_unit}
 use Rattle.c_rules.proofs.Formed.Context.{Gives, is, behind}

@@ -3,8 +3,8 @@ use Rattle.std.proofs.Common.{ℕ, Bool, true, false, List, [], ◌∷◌, lengt
 use Rattle.c_tree.specs.declared.program.Base.{Base}
 use Rattle.c_tree.specs.declared.program.VarRef.{VarRef}
 use Rattle.c_tree.specs.declared.program.VarRef.TheVariants as refs
-use Rattle.c_syntax.specs.SyntaxTree as tree
-use Rattle.c_syntax.specs.SyntaxTree.{Expression, ArrayMark, ParameterTree, ItemForm, InitialTree, ItemTree, DeclarationTree}
+use Rattle.c_tree.specs.c_syntax.SyntaxTree as tree
+use Rattle.c_tree.specs.c_syntax.SyntaxTree.{Expression, ArrayMark, ParameterTree, ItemForm, InitialTree, ItemTree, DeclarationTree}
 use Rattle.c_rules.specs.declared.fault.Rule.TheVariants.{Redeclared, NotConstant}
 use Rattle.c_rules.specs.declared.local.Naming.{Naming}
 use Rattle.c_rules.specs.declared.local.Naming.TheVariants.{Free}

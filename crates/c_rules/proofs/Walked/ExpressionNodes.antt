@@ -1,11 +1,11 @@
 -- Nodes that may break several rules: the least that one of them breaks is what the rules of names and types find.
 use Rattle.std.proofs.Common.{◌≡◌, ℕ, ◌&&◌, ◌||◌, Bool, true, false, if◌then◌else◌, List, [], ◌∷◌, ◌++◌, is_none, Option, Some, None, refl, sym, ap, ◌∙◌}
-use Rattle.c_syntax.specs.declared.operator.BinaryOp.{BinaryOp}
+use Rattle.c_tree.specs.c_syntax.declared.operator.BinaryOp.{BinaryOp}
 use Rattle.c_tree.specs.declared.program.ScalarType.{ScalarType}
-use Rattle.c_syntax.specs.declared.syntax.PrefixOp.{PrefixOp}
-use Rattle.c_syntax.specs.declared.syntax.PrefixOp.TheVariants as prefix
-use Rattle.c_syntax.specs.declared.operator.UnaryOp.TheVariants as unary_op
-use Rattle.c_syntax.specs.SyntaxTree.{SpecsTree, TypeTree}
+use Rattle.c_tree.specs.c_syntax.declared.syntax.PrefixOp.{PrefixOp}
+use Rattle.c_tree.specs.c_syntax.declared.syntax.PrefixOp.TheVariants as prefix
+use Rattle.c_tree.specs.c_syntax.declared.operator.UnaryOp.TheVariants as unary_op
+use Rattle.c_tree.specs.c_syntax.SyntaxTree.{SpecsTree, TypeTree}
 use Rattle.c_tree.specs.TypedTree.{Kind, Expr, Lvalue, Named, At, Exprs, more}
 use Rattle.c_tree.specs.Eval.{kind_of}
 use Rattle.c_rules.specs.declared.fault.Rule.{Rule}

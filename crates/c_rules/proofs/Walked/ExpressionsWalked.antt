@@ -1,8 +1,8 @@
 -- The walk over an expression comes to what its typing breaks.
 use Rattle.std.proofs.Common.{ℕ, ◌||◌, Bool, true, false, if◌then◌else◌, List, [], ◌∷◌, ◌++◌, Option, is_some, refl}
 use Rattle.std.specs.Prelude.{⊤}
-use Rattle.c_syntax.specs.SyntaxTree as tree
-use Rattle.c_syntax.specs.SyntaxTree.{TypeTree, Expression, ExpressionForm, Expressions, no_argument, argument}
+use Rattle.c_tree.specs.c_syntax.SyntaxTree as tree
+use Rattle.c_tree.specs.c_syntax.SyntaxTree.{TypeTree, Expression, ExpressionForm, Expressions, no_argument, argument}
 use Rattle.c_tree.specs.TypedTree.{Expr}
 use Rattle.c_rules.specs.declared.fault.Rule.{Rule}
 use Rattle.c_rules.specs.declared.fault.Rule.TheVariants.{Mismatch, NotConstant}

@@ -1,9 +1,9 @@
 -- Nodes that break one rule alone: that types agree.
 use Rattle.std.proofs.Common.{◌≡◌, ℕ, not, Bool, true, false, if◌then◌else◌, [], ◌∷◌, Option, Some, None, refl, sym, ap}
 use Rattle.std.specs.Prelude.{⊤}
-use Rattle.c_syntax.specs.declared.operator.BinaryOp.{BinaryOp}
-use Rattle.c_syntax.specs.declared.operator.BinaryOp.TheVariants as op
-use Rattle.c_syntax.specs.declared.operator.UnaryOp.{UnaryOp}
+use Rattle.c_tree.specs.c_syntax.declared.operator.BinaryOp.{BinaryOp}
+use Rattle.c_tree.specs.c_syntax.declared.operator.BinaryOp.TheVariants as op
+use Rattle.c_tree.specs.c_syntax.declared.operator.UnaryOp.{UnaryOp}
 use Rattle.c_tree.specs.declared.program.ScalarType.{ScalarType}
 use Rattle.c_tree.specs.TypedTree.{Kind, Expr}
 use Rattle.c_tree.specs.Eval.{kind_of}

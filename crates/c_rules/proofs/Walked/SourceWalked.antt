@@ -1,8 +1,8 @@
 -- The walk over a whole source finds what the rules of names and types find.
 use Rattle.std.proofs.Common.{◌≡◌, ◌||◌, not, List, [], ◌∷◌, length, is_some, Option, Some, None, refl}
 use Rattle.c_tree.specs.declared.program.Base.{Base}
-use Rattle.c_syntax.specs.SyntaxTree as tree
-use Rattle.c_syntax.specs.SyntaxTree.{SpecsTree, InitialTree, ItemTree, FunctionSyntax, ExternalTree, Defined, UnitTree}
+use Rattle.c_tree.specs.c_syntax.SyntaxTree as tree
+use Rattle.c_tree.specs.c_syntax.SyntaxTree.{SpecsTree, InitialTree, ItemTree, FunctionSyntax, ExternalTree, Defined, UnitTree}
 use Rattle.c_rules.specs.declared.fault.Rule.TheVariants.{Redeclared, Mismatch}
 use Rattle.c_rules.specs.declared.local.Naming.TheVariants.{Needed}
 use Rattle.c_rules.specs.declared.meaning.FunctionType.{FunctionType}

@@ -2,8 +2,8 @@
 use Rattle.std.proofs.Common.{ℕ, not, List, [], ◌∷◌, ◌++◌, Option, Some, None, refl}
 use Rattle.c_tree.specs.declared.enclosing.Enclosing.{Enclosing}
 use Rattle.c_tree.specs.declared.enclosing.Enclosing.TheVariants as around
-use Rattle.c_syntax.specs.SyntaxTree as tree
-use Rattle.c_syntax.specs.SyntaxTree.{Expression, DeclarationTree, Statement, Statements, no_statement, statement, no_choice, case_label, default_label, chosen}
+use Rattle.c_tree.specs.c_syntax.SyntaxTree as tree
+use Rattle.c_tree.specs.c_syntax.SyntaxTree.{Expression, DeclarationTree, Statement, Statements, no_statement, statement, no_choice, case_label, default_label, chosen}
 use Rattle.c_tree.specs.TypedTree.{Kind, Expr}
 use Rattle.c_tree.specs.Eval.{kind_of, points}
 use Rattle.c_rules.specs.declared.fault.Rule.TheVariants.{Mismatch, Misplaced}

@@ -1,8 +1,8 @@
 -- What operators and conversions give: ISO 9899:1990 6.2.1.2, 6.2.1.5, 6.3.3.3, 6.3.3.4 and 6.3.5 to 6.3.12.
 use Rattle.std.specs.Prelude.{true, false, [], ◌∷◌, Some}
 use Rattle.std.proofs.Common.{◌≡◌, refl}
-use Rattle.word_base.specs.declared.outcome.Ending.TheVariants as ending
-use Rattle.word_base.specs.declared.outcome.Outcome.TheVariants.{Ended}
+use Rattle.c_syntax.specs.word_base.declared.outcome.Ending.TheVariants as ending
+use Rattle.c_syntax.specs.word_base.declared.outcome.Outcome.TheVariants.{Ended}
 use Rattle.c_tree.specs.declared.program.VarRef.TheVariants.{Scalar}
 use Rattle.c_syntax.specs.declared.operator.UnaryOp.TheVariants.{Minus, Complement}
 use Rattle.c_syntax.specs.declared.operator.BinaryOp.TheVariants as op

@@ -1,8 +1,8 @@
 -- A filter as a user has it, over three words of input.
 use Rattle.std.specs.Prelude.{true, false, [], ◌∷◌, codes, Some, None}
 use Rattle.std.proofs.Common.{◌≡◌, refl}
-use Rattle.word_base.specs.declared.outcome.Ending.TheVariants as ending
-use Rattle.word_base.specs.declared.outcome.Outcome.TheVariants.{Ended}
+use Rattle.c_syntax.specs.word_base.declared.outcome.Ending.TheVariants as ending
+use Rattle.c_syntax.specs.word_base.declared.outcome.Outcome.TheVariants.{Ended}
 use Rattle.c_tree.specs.declared.program.VarRef.TheVariants.{Scalar, Static}
 use Rattle.c_syntax.specs.declared.operator.BinaryOp.TheVariants as op
 use Rattle.c_tree.specs.TypedTree.{Named, At, Const, Read, AddressOf, Load, Binary, Assign, AssignOp, StepAfter, Call, In, Out, none, more, Block, Do_expr, For, Return, done, both, FunctionTree, ProgramTree}

@@ -1,9 +1,9 @@
 -- The order of evaluation, and which values are used: ISO 9899:1990 6.3, 6.3.2.2 and 6.3.13 to 6.3.17.
 use Rattle.std.specs.Prelude.{true, [], ◌∷◌, codes, Some}
 use Rattle.std.proofs.Common.{◌≡◌, refl}
-use Rattle.word_base.specs.declared.outcome.UndefinedKind.TheVariants.{NoValue}
-use Rattle.word_base.specs.declared.outcome.Ending.TheVariants as ending
-use Rattle.word_base.specs.declared.outcome.Outcome.TheVariants.{Ended, Undefined}
+use Rattle.c_syntax.specs.word_base.declared.outcome.UndefinedKind.TheVariants.{NoValue}
+use Rattle.c_syntax.specs.word_base.declared.outcome.Ending.TheVariants as ending
+use Rattle.c_syntax.specs.word_base.declared.outcome.Outcome.TheVariants.{Ended, Undefined}
 use Rattle.c_tree.specs.declared.program.VarRef.TheVariants.{Scalar, Local, Static}
 use Rattle.c_syntax.specs.declared.operator.BinaryOp.TheVariants as op
 use Rattle.c_tree.specs.TypedTree.{Named, At, Const, Read, AddressOf, Load, Binary, And, Or, Pick, Assign, AssignOp, StepAfter, Call, In, Out, Comma, Convert, none, more, Block, Do_expr, For, Return, done, both, FunctionTree, ProgramTree}

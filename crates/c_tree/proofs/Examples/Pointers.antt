@@ -1,8 +1,8 @@
 -- Objects and pointers that are used well: ISO 9899:1990 6.1.2.4, 6.3.2.1, 6.3.3.2, 6.3.6, 6.3.8, 6.3.9 and 6.5.7.
 use Rattle.std.specs.Prelude.{true, false, [], ◌∷◌, Some}
 use Rattle.std.proofs.Common.{◌≡◌, refl}
-use Rattle.word_base.specs.declared.outcome.Ending.TheVariants as ending
-use Rattle.word_base.specs.declared.outcome.Outcome.TheVariants.{Ended}
+use Rattle.c_syntax.specs.word_base.declared.outcome.Ending.TheVariants as ending
+use Rattle.c_syntax.specs.word_base.declared.outcome.Outcome.TheVariants.{Ended}
 use Rattle.c_tree.specs.declared.program.VarRef.TheVariants.{Scalar, Local, Static}
 use Rattle.c_tree.specs.declared.program.Initial.TheVariants as initial
 use Rattle.c_syntax.specs.declared.operator.UnaryOp.TheVariants.{Minus}

@@ -1,8 +1,8 @@
 -- How statements run, and how often loops turn: ISO 9899:1990 6.6.1 to 6.6.6.
 use Rattle.std.specs.Prelude.{true, [], ◌∷◌, codes, Some, None}
 use Rattle.std.proofs.Common.{◌≡◌, refl}
-use Rattle.word_base.specs.declared.outcome.Ending.TheVariants as ending
-use Rattle.word_base.specs.declared.outcome.Outcome.TheVariants.{Ended, More}
+use Rattle.c_syntax.specs.word_base.declared.outcome.Ending.TheVariants as ending
+use Rattle.c_syntax.specs.word_base.declared.outcome.Outcome.TheVariants.{Ended, More}
 use Rattle.c_tree.specs.declared.program.VarRef.TheVariants.{Scalar}
 use Rattle.c_syntax.specs.declared.operator.BinaryOp.TheVariants as op
 use Rattle.c_tree.specs.TypedTree.{Named, Const, Read, Binary, Assign, StepAfter, Call, In, Out, Comma, none, more, Block, Do_expr, If, While, Do_while, For, Switch, Break, Continue, Return, done, both, no_more, case, default, body, FunctionTree, ProgramTree}

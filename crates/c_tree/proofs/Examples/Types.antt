@@ -1,6 +1,6 @@
 -- Short names with which the programs of the examples are written.
 use Rattle.std.specs.Prelude.{ℕ, ◌==◌, if◌then◌else◌, List, [], ◌∷◌, codes, map, Some, None}
-use Rattle.word_base.specs.Ports.{Input}
+use Rattle.c_syntax.specs.word_base.Ports.{Input}
 use Rattle.c_tree.specs.declared.program.Base.TheVariants as base
 use Rattle.c_tree.specs.declared.program.ScalarType.{ScalarType}
 use Rattle.c_tree.specs.declared.program.VarRef.{VarRef}

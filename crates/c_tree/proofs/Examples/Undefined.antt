@@ -1,8 +1,8 @@
 -- What C leaves undefined, with its kind and its place: ISO 9899:1990 6.1.2.4, 6.3 and 6.3.2 to 6.3.16.
 use Rattle.std.specs.Prelude.{true, [], ◌∷◌, codes, Some}
 use Rattle.std.proofs.Common.{◌≡◌, refl}
-use Rattle.word_base.specs.declared.outcome.UndefinedKind.TheVariants.{Overflow, DivideByZero, ShiftCount, Indeterminate, BadPointer}
-use Rattle.word_base.specs.declared.outcome.Outcome.TheVariants.{Undefined}
+use Rattle.c_syntax.specs.word_base.declared.outcome.UndefinedKind.TheVariants.{Overflow, DivideByZero, ShiftCount, Indeterminate, BadPointer}
+use Rattle.c_syntax.specs.word_base.declared.outcome.Outcome.TheVariants.{Undefined}
 use Rattle.c_tree.specs.declared.program.VarRef.TheVariants.{Scalar, Local, Static}
 use Rattle.c_syntax.specs.declared.operator.UnaryOp.TheVariants.{Minus}
 use Rattle.c_syntax.specs.declared.operator.BinaryOp.TheVariants as op

@@ -6,7 +6,7 @@ use Rattle.std.proofs.Common.{refl, ap, sym, ◌∙◌, subst, inl, inr, arith}
 use Rattle.std.proofs.lemmas.List.Elements.{All-from_recursion}
 use Rattle.std.proofs.lemmas.List.Kept.{AllPairs-cons}
 use Rattle.std.proofs.lemmas.Option.{slice_get_within}
-use Rattle.word_base.specs.Name.{IsNameStart, IsName}
+use Rattle.c_syntax.specs.word_base.Name.{IsNameStart, IsName}
 use Rattle.c_tree.specs.declared.enclosing.Enclosing.TheVariants as around
 use Rattle.c_tree.specs.declared.program.VarRef.{VarRef}
 use Rattle.c_tree.specs.declared.program.VarRef.TheVariants.{Scalar, Local}

@@ -1,7 +1,7 @@
 use Rattle.std.proofs.Common.{◌≢◌, ◌<◌, ◌∙◌, length, ap, refl, sym, subst, arith, rules}
 use Rattle.std.specs.Prelude.{◌^◌}
 use Rattle.cc_report.specs.Report.{report_lines}
-use Rattle.frame_layouts.specs.Frames.{AreOptions}
+use Rattle.cc_text.specs.frame_layouts.Frames.{AreOptions}
 use Rattle.cc_text.specs.Refusals.{OfMemory, of_build_fault}
 use Rattle.cc_driver.specs.Build.{IsRefusedFor}
 use Rattle.cc_driver.specs.BuildTexts.{options_of}

@@ -5,13 +5,13 @@ use Rattle.std.specs.Prelude.{◌≤◌, slice_get}
 use Rattle.tree_code.specs.WordHelpers.{uses_helper}
 use Rattle.tree_code.specs.WordTree.{FunctionCode}
 use Rattle.acc_code.specs.AccTree.{FunctionItems}
-use Rattle.acc_select.specs.IsSelected.{object_cells, called_parameters}
+use Rattle.image_proof.specs.acc_select.IsSelected.{object_cells, called_parameters}
 use Rattle.mem_plan.specs.declared.data_plan.FramePlan.{FramePlan}
 use Rattle.mem_plan.specs.Plan.{frame_of}
 use Rattle.c25_isa.specs.Image.{Contents}
 use Rattle.c25_isa.specs.Pieces.{Linked, PiecesFit, piece_address, items_size, range_of}
 use Rattle.c25_code.specs.Links.{pieces_size}
-use Rattle.frame_emit.specs.Emitted.{function_piece}
+use Rattle.image_proof.specs.frame_emit.Emitted.{function_piece}
 use Rattle.image_proof.specs.ActiveSites.{parameters_of}
 use Rattle.image_proof.specs.Emissions.{Emission, IsEmission}
 use Rattle.image_proof.proofs.Frames.{FrameAt, frame_at}

@@ -2,7 +2,7 @@
 use Rattle.std.proofs.Common.{ℕ, refl, ap, ◌∙◌}
 use Rattle.c25_isa.specs.Pieces.{piece_address, items_size, range_of}
 use Rattle.c25_isa.specs.Walk.{Blocks}
-use Rattle.frame_emit.specs.Emitted.{function_piece}
+use Rattle.image_proof.specs.frame_emit.Emitted.{function_piece}
 use Rattle.lay_cost.specs.Cost.{block_cost}
 use Rattle.lay_cost.specs.Placements.{placement_of}
 use Rattle.image_proof.specs.ActiveSites.{parameters_of}
