@@ -10,8 +10,7 @@ use Rattle.c25_isa.specs.CodeAt.{CodeAt}
 use Rattle.c25_isa.specs.Pieces.{items_size, mark_address, items_code, ItemsAt}
 use Rattle.c25_code.specs.Straight.{code_size}
 use Rattle.c25_code.specs.Items.{entry_code, return_code}
-use Rattle.c25_code.specs.Structured.{Structured, End, Act, IfElse, IfLast, Block, BlockLast, Loop, Cycle, LeaveUnless, Leave, Invoke, Return, Cut, Emission, mark_count, structured_items, function_items}
-use Rattle.c25_code.specs.Links.{IsMarkOf, MarksDiffer, MarksAtWords, StepsOwnMarks, MarksAreFit}
+use Rattle.c25_code.specs.Links.{IsMarkOf, MarksDiffer, MarksAtWords, MarksAreFit}
 use Rattle.c25_code.proofs.Items.{items_size-append}
 use Rattle.c25_code.proofs.Returns.{return_size}
 

@@ -5,7 +5,6 @@ pub mod Items
 pub mod ItemRuns
 pub mod Routines
 pub mod Returns
-pub mod Structured
 pub mod Links
 pub mod Naming
 pub mod Startups

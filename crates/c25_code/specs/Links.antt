@@ -6,7 +6,6 @@ use Rattle.c25_isa.specs.declared.piece.PieceItem.TheVariants.{Do, Mark, Jump, C
 use Rattle.c25_isa.specs.Step.{wrap16}
 use Rattle.c25_isa.specs.State.{Memory}
 use Rattle.c25_isa.specs.Pieces.{Piece, items_size, mark_address, ItemsAt, piece_address}
-use Rattle.c25_code.specs.Structured.{Emission}
 
 abbrev pub IsMarkOf : ℕ → List PieceItem → Type 0
 IsMarkOf m [] = ⊥
@@ -35,10 +34,6 @@ MarksAtWords (CallTo name o ∷ items) = MarksAtWords items
 pub record OwnMarks (low high : ℕ) (items : List PieceItem) : Type 0 where
   pub apart : MarksDiffer items
   pub between : (m : ℕ) → IsMarkOf m items → (low ≤ m) × (m < high)
-
--- the marks of each step are its own
-abbrev pub StepsOwnMarks : {S T : Type 0} → Emission S T → Type 0
-StepsOwnMarks {S = S} e = (s : S) (fresh : ℕ) → OwnMarks fresh (fresh + e.own s) (e.code s fresh)
 
 -- the first piece of a name
 abbrev pub first_piece : List Piece → List ℕ → Option Piece
