@@ -19,8 +19,8 @@ use Rattle.c25_isa.specs.Image.{Contents}
 use Rattle.c25_isa.specs.Pieces.{Piece, Linked, PiecesFit, items_size}
 use Rattle.c25_code.specs.Links.{pieces_size}
 use Rattle.c25_link.specs.Linking.{pieces_words}
-use Rattle.walk_proof.specs.image_proof.Agreeing.{EndsInTime, emission_of}
-use Rattle.walk_proof.specs.image_proof.Keeping.{all_pieces as emission_pieces}
+use Rattle.image_proof.specs.Agreeing.{EndsInTime, emission_of}
+use Rattle.image_proof.specs.Keeping.{all_pieces as emission_pieces}
 use Rattle.frame_layouts.specs.declared.options.Options.{Options}
 use Rattle.frame_layouts.specs.Frames.{AreOptions}
 use Rattle.cc_image.specs.Images.{EndsWithin, HasImage, all_pieces, layouts}

@@ -14,9 +14,9 @@ use Rattle.mem_plan.specs.Plan.{AreArranged, IsPlan}
 use Rattle.c25_isa.specs.Image.{Contents}
 use Rattle.c25_isa.specs.Pieces.{Linked, PiecesFit}
 use Rattle.c25_code.specs.Links.{pieces_size}
-use Rattle.walk_proof.specs.image_proof.Agreeing.{emission_of}
-use Rattle.walk_proof.specs.image_proof.Keeping.{all_pieces as emission_pieces}
-use Rattle.walk_proof.specs.Directs.{AreDirect}
+use Rattle.image_proof.specs.Agreeing.{emission_of}
+use Rattle.image_proof.specs.Keeping.{all_pieces as emission_pieces}
+use Rattle.image_proof.specs.Directs.{AreDirect}
 use Rattle.frame_layouts.specs.declared.options.Options.{Options}
 use Rattle.frame_layouts.specs.Frames.{AreOptions}
 use Rattle.cc_image.specs.Images.{HasImage, IsDirect, all_pieces, layouts}

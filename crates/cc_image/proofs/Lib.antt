@@ -1,4 +1,4 @@
-pub use Rattle.walk_proof.proofs.image_proof as image_proof
+pub use Rattle.image_proof.proofs as image_proof
 pub mod OneImage
 mod LayoutLemmas
 mod NameLemmas

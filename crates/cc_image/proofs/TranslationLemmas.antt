@@ -10,10 +10,10 @@ use Rattle.c_tree.specs.TypedOfWords.{ProgramHasWords}
 use Rattle.acc_select.specs.Selected.{selected}
 use Rattle.ir_semantics.specs.Keeps.{acc_run, tree_run}
 use Rattle.ir_semantics.specs.Outside.{Places}
-use Rattle.walk_proof.specs.tree_code_proof.Lowering.{KeepsSource}
-use Rattle.walk_proof.specs.tree_code_proof.Surroundings.{ArePlaces}
+use Rattle.image_proof.specs.tree_code_proof.Lowering.{KeepsSource}
+use Rattle.image_proof.specs.tree_code_proof.Surroundings.{ArePlaces}
 use Rattle.mem_plan.specs.Plan.{AreArranged, IsPlan}
-use Rattle.walk_proof.specs.image_proof.PlanPlaces.{places_of}
+use Rattle.image_proof.specs.PlanPlaces.{places_of}
 use Rattle.tree_code.specs.WordTree.{ProgramCode}
 use Rattle.tree_code.specs.Lowered.{lowered_program}
 use Rattle.acc_code.specs.AccTree.{FunctionItems}

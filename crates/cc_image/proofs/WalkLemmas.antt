@@ -24,9 +24,9 @@ use Rattle.c25_isa.specs.Image.{Contents}
 use Rattle.c25_isa.specs.Pieces.{Linked, PiecesFit}
 use Rattle.c25_isa.specs.Walk.{Blocks}
 use Rattle.c25_code.specs.Links.{pieces_size}
-use Rattle.walk_proof.specs.image_proof.Agreeing.{emission_of}
-use Rattle.walk_proof.specs.image_proof.Keeping.{all_pieces as emission_pieces}
-use Rattle.walk_proof.specs.FunctionWalks.{HasWalk, IsFunctionOf, place_of}
+use Rattle.image_proof.specs.Agreeing.{emission_of}
+use Rattle.image_proof.specs.Keeping.{all_pieces as emission_pieces}
+use Rattle.image_proof.specs.FunctionWalks.{HasWalk, IsFunctionOf, place_of}
 use Rattle.frame_layouts.specs.declared.options.Options.{Options}
 use Rattle.frame_layouts.specs.Frames.{AreOptions, ClaimsHold, frame_of, frames_of, layout_of}
 use Rattle.cc_image.specs.Images.{AreWalked, HasFrames, HasImage, IsWalked, all_pieces, layouts}

@@ -12,13 +12,13 @@ use Rattle.mem_plan.specs.declared.data_plan.PlanFault.{PlanFault}
 use Rattle.mem_plan.specs.declared.data_plan.PlanFault.TheVariants as plan_faults
 use Rattle.mem_plan.specs.Plan.{IsPlan, IsTooLarge}
 use Rattle.frame_emit.specs.Emitted.{emitted}
-use Rattle.walk_proof.specs.acc_select_proof.SourceSequences.{source_sequence}
+use Rattle.image_proof.specs.acc_select_proof.SourceSequences.{source_sequence}
 use Rattle.ir_semantics.specs.Keeps.{acc_run, tree_run}
-use Rattle.walk_proof.specs.tree_code_proof.Lowering.{KeepsSource}
-use Rattle.walk_proof.specs.image_proof.PlanPlaces.{places_of}
-use Rattle.walk_proof.specs.image_proof.Agreeing.{EndsInTime, emission_of}
-use Rattle.walk_proof.specs.Directs.{AreDirect}
-use Rattle.walk_proof.specs.FunctionWalks.{place_of}
+use Rattle.image_proof.specs.tree_code_proof.Lowering.{KeepsSource}
+use Rattle.image_proof.specs.PlanPlaces.{places_of}
+use Rattle.image_proof.specs.Agreeing.{EndsInTime, emission_of}
+use Rattle.image_proof.specs.Directs.{AreDirect}
+use Rattle.image_proof.specs.FunctionWalks.{place_of}
 use Rattle.lay_cert.specs.Frames.{Frame}
 use Rattle.frame_layouts.specs.declared.options.Options.{Options}
 use Rattle.frame_layouts.specs.Frames.{layout_of, frames_of}

@@ -246,12 +246,12 @@ pub fn translate<R: Threads + Sync, G: Gate + Sync>(
     ensures claims { IfOk result (λ made. All ClaimsHold made.certificate) }
     ensures refused { IfErr result (Says options (program_of program.now)) }
 {
-    walk_proof::accesses_are_kept();
-    walk_proof::translation_keeps_runs();
-    walk_proof::lowering_keeps_runs();
-    walk_proof::images_agree();
-    walk_proof::programs_walk();
-    walk_proof::programs_are_direct();
+    image_proof::accesses_are_kept();
+    image_proof::translation_keeps_runs();
+    image_proof::lowering_keeps_runs();
+    image_proof::images_agree();
+    image_proof::programs_walk();
+    image_proof::programs_are_direct();
     let chosen = choose(alloc, program)?;
     finished(rt, alloc, gate, options, &chosen)
 }

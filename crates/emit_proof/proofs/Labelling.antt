@@ -21,7 +21,7 @@ use Rattle.emit_proof.specs.Calls.{IsJumpTo}
 use Rattle.emit_proof.proofs.Anywhere.{Later}
 use Rattle.emit_proof.proofs.Entries.{front_jump, back_jump, split_mark, plain_mark, close_mark, dispatch_mark}
 use Rattle.emit_proof.proofs.Keeping.{placed_any, no_cases_directly, no_case}
-use Rattle.emit_proof.proofs.EmitMatchLabels.{Places, Avoids, PlacesOnce, Apart, Between, labels_once}
+use Rattle.emit_proof.proofs.PieceLabels.{Places, Avoids, PlacesOnce, Apart, Between, labels_once}
 use Rattle.emit_proof.proofs.Pieces.{Ending, ending, entry_places, unmarked, piece_marked}
 use Rattle.emit_proof.proofs.Words.{Passed, Finishes, cut_word}
 use Rattle.emit_proof.specs.Entries.{Passes, HasLabel, EntryAt, EntriesAt}

@@ -1,7 +1,7 @@
 pub mod Anywhere
 pub mod Keeping
 pub mod Words
-pub mod EmitMatchLabels
+pub mod PieceLabels
 pub mod Names
 pub mod Entries
 pub mod Pieces
@@ -23,7 +23,7 @@ pub mod Operands
 pub mod Constants
 pub mod Directly
 pub mod Whole
-pub mod EmitMatchTaking
+pub mod TakingBeside
 pub mod Wording
 mod ReachExamples
 pub mod Holding

@@ -18,7 +18,7 @@ use Rattle.emit_proof.specs.Direct.{TakeReaches, StepsReady, behind_steps, outpu
 use Rattle.emit_proof.proofs.Counting.{all_few}
 use Rattle.emit_proof.proofs.Directly.{alike_itself}
 use Rattle.emit_proof.proofs.Whole.{steps_run, input_ends_soon, part_runs}
-use Rattle.emit_proof.proofs.EmitMatchTaking.{steps_take, steps_over}
+use Rattle.emit_proof.proofs.TakingBeside.{steps_take, steps_over}
 use Rattle.emit_proof.proofs.Wording.{steps_words}
 use Rattle.emit_proof.proofs.Made.{alike_again}
 use Rattle.emit_proof.specs.Standing.{StandsBeside}

@@ -25,7 +25,7 @@ use Rattle.emit_proof.specs.Calls.{IsJumpTo, CallsAre, IsNameOf}
 use Rattle.emit_proof.proofs.Anywhere.{Later, kept_anywhere}
 use Rattle.emit_proof.proofs.Keeping.{Any, Closes, IsClosed, Allowed, placed, placed_any, any, no_cases_directly, no_case, kept}
 use Rattle.emit_proof.proofs.Words.{Passed, Finishes, cut_word}
-use Rattle.emit_proof.proofs.EmitMatchLabels.{Places, Avoids, PlacesOnce, Apart, Between, labels_once}
+use Rattle.emit_proof.proofs.PieceLabels.{Places, Avoids, PlacesOnce, Apart, Between, labels_once}
 use Rattle.emit_proof.proofs.Names.{Ends, Names, IsHead, Bound, bound}
 use Rattle.emit_proof.proofs.Entries.{front_mark, back_mark, split_mark, front_jump, back_jump, split_jump, plain_mark, plain_jump, no_marks, name_here, name_more, name_cases, place_mark, place_jump, place_once, place_named, place_behind, place_keeps, place_marked, close_mark, close_jump, close_behind, close_keeps, close_closes, dispatch_mark, cases_keep, dispatch_jump, dispatch_behind}
 

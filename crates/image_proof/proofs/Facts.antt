@@ -24,7 +24,7 @@ use Rattle.image_proof.proofs.FrameWords.{address_there, object_word}
 use Rattle.image_proof.proofs.Sites.{present_object, present_address}
 use Rattle.image_proof.proofs.SiteStanding.{addresses_so}
 use Rattle.image_proof.proofs.Statics.{static_address, static_word}
-use Rattle.image_proof.proofs.SiteLawsWords.{word_within}
+use Rattle.image_proof.proofs.WordsOfSites.{word_within}
 use Rattle.mem_plan.specs.Ranges.{StaticObject, LocalObject}
 
 pub counts_same : (e : Emission) (g : ℕ) (fs : List ℕ) (code : FunctionCode) → slice_get e.code.functions g ≡ Some code → (f : ℕ) → site_counts e (g ∷ fs) f ≡ or_zero (called_parameters e.code code f)

@@ -19,7 +19,7 @@ use Rattle.image_proof.specs.Active.{back_in, back_of}
 use Rattle.image_proof.proofs.Lists.{mapped_there}
 use Rattle.image_proof.proofs.Frames.{FrameAt}
 use Rattle.image_proof.proofs.Placed.{PlacedScalar, placed_scalar}
-use Rattle.image_proof.proofs.SiteLawsWords.{WordOf, NameWord, scalar_names, word_within}
+use Rattle.image_proof.proofs.WordsOfSites.{WordOf, NameWord, scalar_names, word_within}
 
 -- each object of a list has an address, and each address is of an object
 pub address_there : (at : ℕ) (os : List ObjectTree) (n : ℕ) (o : ObjectTree) → slice_get os n ≡ Some o → (x : ℕ) × (slice_get (object_addresses at os) n ≡ Some x)

@@ -12,7 +12,7 @@ use Rattle.image_proof.specs.Active.{AreActive, IsAmong, back_of}
 use Rattle.image_proof.specs.ActiveSites.{site_places}
 use Rattle.image_proof.specs.Kept.{MayKeep, KeptAt, IsKept, number_at, known_of, is_word, kept_for}
 use Rattle.image_proof.proofs.Ways.{first_differs}
-use Rattle.image_proof.proofs.SiteLawsWords.{WordOf, IsOf, of_more, named, NameWord, name_of, words_apart, word_within}
+use Rattle.image_proof.proofs.WordsOfSites.{WordOf, IsOf, of_more, named, NameWord, name_of, words_apart, word_within}
 use Rattle.image_proof.proofs.FrameWords.{return_word}
 use Rattle.image_proof.proofs.Cells.{not_true}
 use Rattle.image_proof.proofs.KeptWords.{LiveAt, IsObjectPlace, kept_word, kept_of}

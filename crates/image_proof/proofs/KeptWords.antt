@@ -11,7 +11,7 @@ use Rattle.image_proof.specs.Active.{AreActive, IsAmong, behind_first}
 use Rattle.image_proof.specs.ActiveSites.{in_objects, locals_in, is_live}
 use Rattle.image_proof.specs.Kept.{MayKeep, KeptAt}
 use Rattle.image_proof.proofs.Frames.{FrameAt}
-use Rattle.image_proof.proofs.SiteLawsWords.{WordOf, IsOf, of_more, named, NameWord, name_of, words_apart, word_within}
+use Rattle.image_proof.proofs.WordsOfSites.{WordOf, IsOf, of_more, named, NameWord, name_of, words_apart, word_within}
 use Rattle.image_proof.proofs.FrameWords.{address_there, object_word}
 use Rattle.image_proof.proofs.Statics.{static_word, static_address}
 use Rattle.image_proof.proofs.Cells.{ObjectCell, object_cell, or_true}

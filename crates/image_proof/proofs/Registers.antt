@@ -17,7 +17,7 @@ use Rattle.image_proof.specs.Active.{AreActive}
 use Rattle.image_proof.specs.ActiveSites.{parameters_of, site_places}
 use Rattle.image_proof.proofs.Frames.{FrameAt, frame_at}
 use Rattle.image_proof.proofs.Placed.{is_placed}
-use Rattle.image_proof.proofs.SiteLawsWords.{name_within, word_within}
+use Rattle.image_proof.proofs.WordsOfSites.{name_within, word_within}
 use Rattle.image_proof.proofs.FrameWords.{object_there, local_word}
 use Rattle.image_proof.proofs.Statics.{static_word, static_object, are_words}
 use Rattle.image_proof.proofs.SiteWords.{frame_first, places_framed}

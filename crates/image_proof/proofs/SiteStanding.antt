@@ -11,7 +11,7 @@ use Rattle.image_proof.specs.Active.{AreActive, IsAmong}
 use Rattle.image_proof.specs.ActiveSites.{site_places, site_counts, site_addresses, is_live}
 use Rattle.image_proof.specs.Kept.{IsKept}
 use Rattle.image_proof.proofs.Ways.{first_differs}
-use Rattle.image_proof.proofs.SiteLawsWords.{name_within, names_apart}
+use Rattle.image_proof.proofs.WordsOfSites.{name_within, names_apart}
 use Rattle.image_proof.proofs.Cells.{not_true}
 use Rattle.image_proof.proofs.KeptWords.{AreMore, kept_apart, kept_within, live_at, live_no_kept, live_no_scalar, live_no_other, live_within}
 use Rattle.image_proof.proofs.SiteWords.{ParameterIn, first_among, behind_among, first_behind, scalar_in, parameter_in, names_differ, frame_first, places_framed}

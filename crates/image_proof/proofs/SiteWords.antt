@@ -21,7 +21,7 @@ use Rattle.image_proof.proofs.Lists.{element_there, listed_contained}
 use Rattle.image_proof.proofs.Ways.{first_differs, active_there}
 use Rattle.image_proof.proofs.Frames.{FrameAt, frame_at, calls_listed}
 use Rattle.image_proof.proofs.Placed.{place_there, places_long}
-use Rattle.image_proof.proofs.SiteLawsWords.{NameWord}
+use Rattle.image_proof.proofs.WordsOfSites.{NameWord}
 use Rattle.image_proof.proofs.FrameWords.{scalar_word, scalar_parameter, parameter_word, parameter_is, parameter_at, function_is}
 
 -- the function that runs

@@ -23,7 +23,7 @@ use Rattle.image_proof.specs.Kept.{IsKept}
 use Rattle.image_proof.proofs.Frames.{frame_at}
 use Rattle.image_proof.proofs.FrameWords.{address_there}
 use Rattle.image_proof.proofs.Statics.{static_address}
-use Rattle.image_proof.proofs.SiteLawsWords.{name_within}
+use Rattle.image_proof.proofs.WordsOfSites.{name_within}
 use Rattle.image_proof.proofs.KeptWords.{kept_within, live_at, live_within}
 use Rattle.image_proof.proofs.SiteWords.{scalar_in, parameter_in}
 use Rattle.image_proof.proofs.SiteStanding.{apart, dead_so, addresses_so}

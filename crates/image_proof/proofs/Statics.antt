@@ -8,7 +8,7 @@ use Rattle.mem_plan.specs.Ranges.{range, StaticObject, object_range}
 use Rattle.emit_proof.specs.Addressed.{AreWords}
 use Rattle.image_proof.specs.Emissions.{Emission, IsEmission}
 use Rattle.image_proof.proofs.FrameWords.{address_there, object_there}
-use Rattle.image_proof.proofs.SiteLawsWords.{WordOf}
+use Rattle.image_proof.proofs.WordsOfSites.{WordOf}
 
 module _ (e : Emission) (is : IsEmission e) where
   pub static_word : (n : ℕ) (o : ObjectTree) (x a : ℕ) → slice_get e.code.statics n ≡ Some o → slice_get e.plan.statics n ≡ Some x → x ≤ a → a < x + (o.length + 1) → WordOf e (StaticObject n) a

@@ -1,4 +1,4 @@
--- What the laws of translation, of selected items, of startups, of sites and of images say.
+-- What the laws of translation, selected items, startups, sites and images say, and what walks find in runs, in pieces and in images.
 pub use Rattle.acc_select.specs as acc_select
 pub use Rattle.acc_select_proof.specs as acc_select_proof
 pub use Rattle.emit_proof.specs as emit_proof
@@ -16,3 +16,11 @@ pub mod Beginnings
 pub mod Keeping
 pub mod Agreeing
 pub mod Telling
+pub mod RunWalks
+pub mod AgreeingWalks
+pub mod Outside
+pub mod PieceWalks
+pub mod DirectPieces
+pub mod DirectRuns
+pub mod FunctionWalks
+pub mod Directs

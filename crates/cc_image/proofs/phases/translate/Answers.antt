@@ -1,6 +1,6 @@
 use Rattle.std.proofs.Common.{◌≡◌, ◌∙◌, ap, subst, List, map}
 use Rattle.std.specs.Prelude.{IfOk}
-use Rattle.walk_proof.specs.acc_select_proof.SourceSequences.{source_sequence}
+use Rattle.image_proof.specs.acc_select_proof.SourceSequences.{source_sequence}
 use Rattle.acc_code.specs.AccView.{functions_of}
 use Rattle.acc_select.specs.Selected.{selected}
 use Rattle.lay_cert.specs.Frames.{Frame}
