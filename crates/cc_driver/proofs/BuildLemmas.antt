@@ -6,13 +6,13 @@ use Rattle.c25_image.specs.ImageText.{image_text}
 use Rattle.lay_cert.specs.Frames.{Frame}
 use Rattle.lay_cert.specs.CertText.{cert_text}
 use Rattle.cc_report.specs.Report.{report_lines}
-use Rattle.cc_text.specs.frame_layouts.Frames.{AreOptions}
-use Rattle.cc_text.specs.frame_layouts.Rows.{row_of}
+use Rattle.cc_files.specs.cc_text.frame_layouts.Frames.{AreOptions}
+use Rattle.cc_files.specs.cc_text.frame_layouts.Rows.{row_of}
 use Rattle.cc_words.specs.Asked.{ToBuild}
 use Rattle.cc_words.specs.Plain.{IsWithinBounds}
-use Rattle.cc_text.specs.Answers.{Answered}
+use Rattle.cc_files.specs.cc_text.Answers.{Answered}
 use Rattle.cc_driver.specs.declared.build.Texts.{Texts}
-use Rattle.cc_driver.specs.Stores.{Stored}
+use Rattle.cc_files.specs.Stores.{Stored}
 use Rattle.cc_driver.specs.Build.{chosen_options, certificate_name, built_texts, report_of}
 use Rattle.cc_driver.specs.BuildTexts.{stored_of, answer_of}
 

@@ -23,24 +23,24 @@ use Rattle.c25_asm.specs.declared.fault.AsmFault.{AsmFault}
 use Rattle.lay_text.specs.Lines.{filled}
 use Rattle.lay_text.proofs.Exact.{sequences_same, says_not_read}
 use Rattle.lay_tree.specs.Search.{search_answer}
-use Rattle.cc_text.specs.cc_image.Images.{HasImage, HasFrames}
+use Rattle.cc_files.specs.cc_text.cc_image.Images.{HasImage, HasFrames}
 use Rattle.lay_cert.specs.Frames.{Frame}
 use Rattle.lay_cert.proofs.Exact.{reads_same as certificates_same, says_not_read as no_certificate}
-use Rattle.cc_text.specs.frame_layouts.declared.options.Options.{Options}
-use Rattle.cc_text.proofs.cc_image.OneImage.{one as one_image, frames_same}
-use Rattle.cc_text.specs.cc_compile.SourceFaults.{HasProgram, IsAccepted}
-use Rattle.cc_text.proofs.cc_compile.OneFault.{accepted_no_fault, program_no_fault, same_program}
-use Rattle.cc_text.specs.cc_compile.Compiles.{IsBuilt}
+use Rattle.cc_files.specs.cc_text.frame_layouts.declared.options.Options.{Options}
+use Rattle.cc_files.proofs.cc_text.cc_image.OneImage.{one as one_image, frames_same}
+use Rattle.cc_files.specs.cc_text.cc_compile.SourceFaults.{HasProgram, IsAccepted}
+use Rattle.cc_files.proofs.cc_text.cc_compile.OneFault.{accepted_no_fault, program_no_fault, same_program}
+use Rattle.cc_files.specs.cc_text.cc_compile.Compiles.{IsBuilt}
 use Rattle.cc_gen.specs.Generated.{generated}
-use Rattle.cc_text.specs.Answers.{Answered}
-use Rattle.cc_text.specs.Refusals.{Why, refusal_status}
-use Rattle.cc_text.specs.RunText.{run_answer}
-use Rattle.cc_text.specs.MeansText.{means_answer}
-use Rattle.cc_text.specs.LayoutText.{layout_answer}
-use Rattle.cc_text.specs.GenText.{gen_answer}
-use Rattle.cc_driver.specs.World.{Shelves}
-use Rattle.cc_driver.specs.Fetches.{AreFetched}
-use Rattle.cc_driver.specs.Stores.{Stored, FailsAtOne}
+use Rattle.cc_files.specs.cc_text.Answers.{Answered}
+use Rattle.cc_files.specs.cc_text.Refusals.{Why, refusal_status}
+use Rattle.cc_files.specs.cc_text.RunText.{run_answer}
+use Rattle.cc_files.specs.cc_text.MeansText.{means_answer}
+use Rattle.cc_files.specs.cc_text.LayoutText.{layout_answer}
+use Rattle.cc_files.specs.cc_text.GenText.{gen_answer}
+use Rattle.cc_files.specs.World.{Shelves}
+use Rattle.cc_files.specs.Fetches.{AreFetched}
+use Rattle.cc_files.specs.Stores.{Stored, FailsAtOne}
 use Rattle.cc_driver.specs.Build.{plain_options, chosen_options, report_of, BuildsTo, IsRefusedFor}
 use Rattle.cc_driver.specs.Run.{IsImageOf, IsImageRefused, ImageRuns, RunsTo, RunRefused, BadImage, BadPorts, ArePortsRefused}
 use Rattle.cc_driver.specs.Means.{MeansTo, MeansRefused, PortsFirst, SourceThen}
@@ -53,7 +53,7 @@ use Rattle.cc_driver.specs.Asm.{AssemblesTo, AssembleRefused}
 use Rattle.cc_driver.specs.Dis.{ListsTo, listing_answer}
 use Rattle.cc_driver.specs.Gen.{Summarizes, GeneratesTo, GenerateRefused, gen_steps}
 use Rattle.cc_driver.specs.Commands.{files_of, stores_under, Comes, Rejects}
-use Rattle.cc_driver.specs.Puts.{IsStatus}
+use Rattle.cc_files.specs.Puts.{IsStatus}
 use Rattle.cc_driver.proofs.StatusLemmas.{of_report, of_stop, of_summary, of_outcome, of_check}
 use Rattle.cc_driver.proofs.FileLemmas.{one_file, two_files}
 

@@ -3,14 +3,14 @@ use Rattle.std.proofs.Common.{◌≡◌, ◌≢◌, ◌∙◌, ◌++◌, ℕ, Bo
 use Rattle.std.specs.Prelude.{◌⊎◌, IsSome}
 use Rattle.cc_shelf.specs.Counts.{FetchFailed, StoreFailed, Rose}
 use Rattle.cc_words.specs.Asked.{Asked}
-use Rattle.cc_text.specs.Answers.{Answered}
-use Rattle.cc_text.specs.declared.refusal.FileFault.{FileFault}
-use Rattle.cc_text.specs.declared.refusal.FileFault.TheVariants.{Read, TooLong, Image, Ports, Sequence, Certificate, Assembly}
-use Rattle.cc_text.specs.Refusals.{Why, file_status, refusal_status}
-use Rattle.cc_driver.specs.World.{Shelves, Sinks}
-use Rattle.cc_driver.specs.Puts.{PutsText, PutWhole, PutPart, PutNothing}
-use Rattle.cc_driver.specs.Fetches.{Wanted, AreFetched, FetchCause, NotFetched, AtFile, ForMemory}
-use Rattle.cc_driver.specs.Stores.{Stored}
+use Rattle.cc_files.specs.cc_text.Answers.{Answered}
+use Rattle.cc_files.specs.cc_text.declared.refusal.FileFault.{FileFault}
+use Rattle.cc_files.specs.cc_text.declared.refusal.FileFault.TheVariants.{Read, TooLong, Image, Ports, Sequence, Certificate, Assembly}
+use Rattle.cc_files.specs.cc_text.Refusals.{Why, file_status, refusal_status}
+use Rattle.cc_files.specs.World.{Shelves, Sinks}
+use Rattle.cc_files.specs.Puts.{PutsText, PutWhole, PutPart, PutNothing}
+use Rattle.cc_files.specs.Fetches.{Wanted, AreFetched, FetchCause, NotFetched, AtFile, ForMemory}
+use Rattle.cc_files.specs.Stores.{Stored}
 use Rattle.cc_driver.specs.Commands.{files_of, stores_under, Comes, Rejects}
 use Rattle.cc_driver.specs.Work.{WorkRefused, AtFetch, AtFiles, AtStore, AtMemory, AtStoreForMemory}
 use Rattle.cc_driver.specs.Answers.{Answers, IsDone, IsRefused, Decided, IsWrong, ToFile, ToRefusal, IsUnfetchable, NoFile, LongFile}

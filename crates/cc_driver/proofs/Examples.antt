@@ -3,12 +3,12 @@ use Rattle.std.proofs.Common.{◌≡◌, ◌≢◌, ◌++◌, ℕ, true, List, [
 use Rattle.cc_shelf.specs.Stock.{Stock, Fetch}
 use Rattle.cc_shelf.specs.Output.{Output}
 use Rattle.cc_words.specs.Asked.{ToBuild, ToRun}
-use Rattle.cc_text.specs.declared.refusal.FileFault.{FileFault}
-use Rattle.cc_text.specs.declared.refusal.FileFault.TheVariants.{Read}
-use Rattle.cc_text.specs.Refusals.{OfFile}
-use Rattle.cc_driver.specs.World.{Shelves, shelves, sinks}
-use Rattle.cc_driver.specs.Puts.{PutsLine, LinePut, Whole, Part, Nothing}
-use Rattle.cc_driver.specs.Fetches.{Wanted, AreFetched, FileRefused}
+use Rattle.cc_files.specs.cc_text.declared.refusal.FileFault.{FileFault}
+use Rattle.cc_files.specs.cc_text.declared.refusal.FileFault.TheVariants.{Read}
+use Rattle.cc_files.specs.cc_text.Refusals.{OfFile}
+use Rattle.cc_files.specs.World.{Shelves, shelves, sinks}
+use Rattle.cc_files.specs.Puts.{PutsLine, LinePut, Whole, Part, Nothing}
+use Rattle.cc_files.specs.Fetches.{Wanted, AreFetched, FileRefused}
 use Rattle.cc_driver.specs.Build.{source_file}
 use Rattle.cc_driver.specs.Run.{image_file, ports_file}
 use Rattle.cc_driver.specs.Commands.{files_of}

@@ -1,7 +1,7 @@
 -- Of the files that are told, one at most is the first that is missing.
 use Rattle.std.proofs.Common.{◌≡◌, ◌∙◌, ◌<◌, ◌≤◌, ◌++◌, ℕ, List, [], ◌∷◌, length, Option, Some, None, sym, ap, subst, arith, IsTrue}
-use Rattle.cc_driver.specs.World.{Shelves}
-use Rattle.cc_driver.specs.Fetches.{Wanted, IsFetched, AreFetched}
+use Rattle.cc_files.specs.World.{Shelves}
+use Rattle.cc_files.specs.Fetches.{Wanted, IsFetched, AreFetched}
 use Rattle.cc_driver.specs.Build.{FileHas}
 use Rattle.cc_driver.specs.Commands.{FilesHave}
 use Rattle.cc_driver.specs.Answers.{IsUnfetchable, NoFile, LongFile}

@@ -2,13 +2,13 @@
 use Rattle.std.proofs.Common.{inl, inr, ◌≡◌, ◌≢◌, ◌∙◌, ℕ, List, [], ◌∷◌, Option, Some, None, refl, sym, ap, append-nil, Ok, Err, arith}
 use Rattle.std.specs.Prelude.{◌⊎◌}
 use Rattle.cc_words.specs.Asked.{Asked}
-use Rattle.cc_text.specs.declared.answer.Answer.{Answer}
-use Rattle.cc_text.specs.declared.refusal.Refusal.{Refusal}
-use Rattle.cc_text.specs.Answers.{Answered, answered}
-use Rattle.cc_text.specs.Refusals.{Why, why_of, refusal_status}
-use Rattle.cc_driver.specs.World.{Shelves, Sinks}
-use Rattle.cc_driver.specs.Puts.{AnswerPut, PutsText, PutWhole, PutPart, PutNothing}
-use Rattle.cc_driver.specs.Stores.{NothingStored}
+use Rattle.cc_files.specs.cc_text.declared.answer.Answer.{Answer}
+use Rattle.cc_files.specs.cc_text.declared.refusal.Refusal.{Refusal}
+use Rattle.cc_files.specs.cc_text.Answers.{Answered, answered}
+use Rattle.cc_files.specs.cc_text.Refusals.{Why, why_of, refusal_status}
+use Rattle.cc_files.specs.World.{Shelves, Sinks}
+use Rattle.cc_files.specs.Puts.{AnswerPut, PutsText, PutWhole, PutPart, PutNothing}
+use Rattle.cc_files.specs.Stores.{NothingStored}
 use Rattle.cc_driver.specs.Commands.{stores_under}
 use Rattle.cc_driver.specs.Work.{WorkDone, WorkRefused, WorkLeaves, StoresStop, AtFetch, AtFiles, AtStore, AtMemory, AtStoreForMemory}
 use Rattle.cc_driver.specs.Answers.{Leaves}

@@ -3,23 +3,23 @@ use Rattle.std.proofs.Common.{◌≡◌, ℕ, Bool, true, false, List, Option, S
 use Rattle.std.specs.Prelude.{if◌then◌else◌}
 use Rattle.c25_isa.specs.Image.{Contents}
 use Rattle.cc_check.specs.CheckText.{all_pass}
-use Rattle.cc_text.specs.declared.refusal.FileFault.{FileFault}
-use Rattle.cc_text.specs.declared.refusal.FileFault.TheVariants.{Read, TooLong, Image, Ports, Sequence, Certificate, Assembly}
-use Rattle.cc_text.specs.Refusals.{Why, OfFile, OfSource, OfStore, OfMemory, file_status, refusal_status}
+use Rattle.cc_files.specs.cc_text.declared.refusal.FileFault.{FileFault}
+use Rattle.cc_files.specs.cc_text.declared.refusal.FileFault.TheVariants.{Read, TooLong, Image, Ports, Sequence, Certificate, Assembly}
+use Rattle.cc_files.specs.cc_text.Refusals.{Why, OfFile, OfSource, OfStore, OfMemory, file_status, refusal_status}
 use Rattle.c25_isa.specs.declared.event.Stop.{Stop}
 use Rattle.c25_isa.specs.declared.event.Stop.TheVariants as stop
 use Rattle.word_base.specs.declared.outcome.Outcome.{Outcome}
 use Rattle.word_base.specs.declared.outcome.Outcome.TheVariants as outcome
-use Rattle.cc_text.specs.Answers.{Answered}
+use Rattle.cc_files.specs.cc_text.Answers.{Answered}
 use Rattle.word_base.specs.Ports.{Outputs}
-use Rattle.cc_text.specs.RunText.{stop_status}
-use Rattle.cc_text.specs.GenText.{gen_answer}
-use Rattle.cc_text.specs.MeansText.{outcome_status}
-use Rattle.cc_driver.specs.World.{Sinks}
+use Rattle.cc_files.specs.cc_text.RunText.{stop_status}
+use Rattle.cc_files.specs.cc_text.GenText.{gen_answer}
+use Rattle.cc_files.specs.cc_text.MeansText.{outcome_status}
+use Rattle.cc_files.specs.World.{Sinks}
 use Rattle.lay_cert.specs.Frames.{Frame}
 use Rattle.cc_driver.specs.Build.{report_of}
 use Rattle.cc_driver.specs.Check.{check_answer}
-use Rattle.cc_driver.specs.Puts.{IsStatus, PutsText, PutWhole, PutPart, PutNothing}
+use Rattle.cc_files.specs.Puts.{IsStatus, PutsText, PutWhole, PutPart, PutNothing}
 
 of_file : (f : FileFault) → IsStatus (file_status f)
 of_file Read = (3, lit< tt, refl)

@@ -2,10 +2,10 @@
 use Rattle.std.proofs.Common.{inl, inr, ◌≡◌, ◌≢◌, ◌∙◌, ℕ, Bool, List, [], ◌∷◌, ◌++◌, Some, IsTrue, codes, refl, ap, subst, length, length-append, arith}
 use Rattle.cc_shelf.specs.Counts.{Rose}
 use Rattle.cc_shelf.specs.Stock.{Stock}
-use Rattle.cc_text.specs.Refusals.{Why}
-use Rattle.cc_driver.specs.World.{shelves}
+use Rattle.cc_files.specs.cc_text.Refusals.{Why}
+use Rattle.cc_files.specs.World.{shelves}
 use Rattle.cc_driver.specs.Build.{certificate_name}
-use Rattle.cc_driver.specs.Stores.{Stored, NothingStored, Hold, OnlyUnder, AreStored, FailsAtOne, StopsBehind, StoreStopped, StoresStopped, names_of}
+use Rattle.cc_files.specs.Stores.{Stored, NothingStored, Hold, OnlyUnder, AreStored, FailsAtOne, StopsBehind, StoreStopped, StoresStopped, names_of}
 
 -- the certificate has another name than its image
 pub other_name : (image : List ℕ) → image ≢ certificate_name image

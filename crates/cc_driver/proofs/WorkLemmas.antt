@@ -17,28 +17,23 @@ use Rattle.lay_text.specs.declared.fault.SeqFault.TheVariants as sequence_faults
 use Rattle.lay_cert.specs.CertReading.{Says as CertificateSays}
 use Rattle.lay_cert.specs.declared.fault.CertFault.{CertFault}
 use Rattle.lay_cert.specs.declared.fault.CertFault.TheVariants as certificate_faults
-use Rattle.cc_text.specs.cc_compile.declared.fault.BuildFault.{BuildFault}
-use Rattle.cc_text.specs.cc_compile.declared.fault.BuildFault.TheVariants as build_faults
-use Rattle.cc_text.specs.declared.answer.Answer.{Answer}
-use Rattle.cc_text.specs.declared.refusal.Refusal.{Refusal}
-use Rattle.cc_text.specs.Answers.{Answered, answered}
-use Rattle.cc_text.specs.Refusals.{Why, OfFile, OfSource, OfStore, OfMemory, why_of, of_build_fault, of_image_fault, of_port_fault, of_sequence_fault, of_certificate_fault}
-use Rattle.cc_driver.specs.World.{Shelves, shelves}
-use Rattle.cc_driver.specs.Fetches.{Wanted, IsFetched, AreFetched, NoneFailed, ForMemory}
+use Rattle.cc_files.specs.cc_text.cc_compile.declared.fault.BuildFault.{BuildFault}
+use Rattle.cc_files.specs.cc_text.cc_compile.declared.fault.BuildFault.TheVariants as build_faults
+use Rattle.cc_files.specs.cc_text.declared.answer.Answer.{Answer}
+use Rattle.cc_files.specs.cc_text.declared.refusal.Refusal.{Refusal}
+use Rattle.cc_files.specs.cc_text.Answers.{Answered, answered}
+use Rattle.cc_files.specs.cc_text.Refusals.{Why, OfFile, OfSource, OfStore, OfMemory, why_of, of_build_fault, of_image_fault, of_port_fault, of_sequence_fault, of_certificate_fault}
+use Rattle.cc_files.specs.World.{Shelves, shelves}
+use Rattle.cc_files.specs.Fetches.{Wanted, IsFetched, AreFetched, NoneFailed, ForMemory}
 use Rattle.cc_driver.specs.Run.{IsImageRefused, ArePortsRefused}
 use Rattle.cc_driver.specs.Layout.{LayoutRefused}
 use Rattle.cc_driver.specs.Check.{IsCertificateRefused}
-use Rattle.cc_driver.specs.Stores.{Stored, NothingStored, OnlyUnder, StoresStopped}
+use Rattle.cc_files.specs.Stores.{Stored, NothingStored, OnlyUnder, StoresStopped}
 use Rattle.cc_driver.specs.Commands.{files_of, stores_under, Comes, Rejects}
 use Rattle.cc_driver.specs.Work.{WorkRefused, WorkLeaves, AtFetch, AtFiles, AtStore, AtMemory, AtStoreForMemory}
 use Rattle.cc_driver.proofs.StoreLemmas.{still_fails, still_stops}
 
 -- ---- refusals that are passed on
-
--- as they are
-pub passed_on : {A : Type 0} (r : Result A Refusal) (given : Refusal) (P : Why → Type 0) → IsErrAnd r (λ e. e ≡ given) → P (why_of given) → IfErr r (λ e. P (why_of e))
-passed_on (Ok a) given P is h = absurd is
-passed_on (Err e) given P is h = subst (λ x. P (why_of x)) (sym is) h
 
 -- as a refusal that says the same
 pub passed_for : {A : Type 0} (r : Result A Refusal) (why : Why) (P : Why → Type 0) → IsErrAnd r (λ e. why_of e ≡ why) → P why → IfErr r (λ e. P (why_of e))

@@ -4,13 +4,13 @@ use Rattle.std.specs.declared.alloc.Global.{Global}
 use Rattle.cc_shelf.specs.Counts.{FetchFailed, StoreFailed, Rose}
 use Rattle.cc_shelf.specs.Files.{Files}
 use Rattle.cc_words.specs.Asked.{Asked, Asks, asked, texts_of}
-use Rattle.cc_text.specs.Answers.{Answered}
-use Rattle.cc_text.specs.Refusals.{Why, refusal_status}
-use Rattle.cc_driver.specs.World.{Shelves, Sinks}
-use Rattle.cc_driver.specs.Puts.{PutsLine, AnswerPut, Refused, memory_line}
-use Rattle.cc_driver.specs.Fetches.{Wanted, AreFetched}
+use Rattle.cc_files.specs.cc_text.Answers.{Answered}
+use Rattle.cc_files.specs.cc_text.Refusals.{Why, refusal_status}
+use Rattle.cc_files.specs.World.{Shelves, Sinks}
+use Rattle.cc_files.specs.Puts.{PutsLine, AnswerPut, Refused, memory_line}
+use Rattle.cc_files.specs.Fetches.{Wanted, AreFetched}
 use Rattle.cc_driver.specs.Commands.{files_of, stores_under, Comes, Rejects}
-use Rattle.cc_driver.specs.Stores.{Stored, NothingStored, OnlyUnder}
+use Rattle.cc_files.specs.Stores.{Stored, NothingStored, OnlyUnder}
 use Rattle.cc_driver.specs.Work.{WorkDone, WorkRefused, StoresStop}
 
 -- a fact of what the words ask for, where they ask for something

@@ -6,11 +6,11 @@ use Rattle.c25_image.specs.ImageFaults.{IsWhole}
 use Rattle.c25_asm.specs.AssemblerText.{assembled}
 use Rattle.c25_asm.specs.declared.fault.AsmFault.{AsmFault}
 use Rattle.c25_asm.specs.declared.fault.AsmFault.TheVariants as assembly_faults
-use Rattle.cc_text.specs.declared.refusal.FileFault.TheVariants.{Assembly}
-use Rattle.cc_text.specs.Answers.{Answered}
-use Rattle.cc_text.specs.Refusals.{Why, OfFile}
-use Rattle.cc_driver.specs.Fetches.{Wanted, wanted}
-use Rattle.cc_driver.specs.Stores.{Stored}
+use Rattle.cc_files.specs.cc_text.declared.refusal.FileFault.TheVariants.{Assembly}
+use Rattle.cc_files.specs.cc_text.Answers.{Answered}
+use Rattle.cc_files.specs.cc_text.Refusals.{Why, OfFile}
+use Rattle.cc_files.specs.Fetches.{Wanted, wanted}
+use Rattle.cc_files.specs.Stores.{Stored}
 
 -- an assembler text, of at most 4,194,304 bytes
 abbrev pub text_file : List ℕ → Wanted

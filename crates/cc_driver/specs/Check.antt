@@ -7,10 +7,10 @@ use Rattle.lay_cert.specs.declared.fault.CertFault.{CertFault}
 use Rattle.lay_cert.specs.declared.fault.CertFault.TheVariants as certificate_faults
 use Rattle.cc_check.specs.CheckText.{check_text, all_pass}
 use Rattle.cc_check.specs.Checks.{OptimalHolds}
-use Rattle.cc_text.specs.declared.refusal.FileFault.TheVariants.{Certificate}
-use Rattle.cc_text.specs.Answers.{Answered}
-use Rattle.cc_text.specs.Refusals.{Why, OfFile}
-use Rattle.cc_driver.specs.Fetches.{Wanted, wanted}
+use Rattle.cc_files.specs.cc_text.declared.refusal.FileFault.TheVariants.{Certificate}
+use Rattle.cc_files.specs.cc_text.Answers.{Answered}
+use Rattle.cc_files.specs.cc_text.Refusals.{Why, OfFile}
+use Rattle.cc_files.specs.Fetches.{Wanted, wanted}
 use Rattle.cc_driver.specs.Run.{IsImageOf, IsImageRefused}
 
 -- the text of a certificate, of at most 536,870,912 bytes

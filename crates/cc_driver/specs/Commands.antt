@@ -2,11 +2,11 @@
 -- (docs/COMMANDS.md).
 use Rattle.std.specs.Prelude.{◌≡◌, ℕ, List, [], ◌∷◌}
 use Rattle.cc_words.specs.Asked.{Asked, ToBuild, ToRun, ToEvaluate, ToExecute, ToLayOut, ToCheck, ToAssemble, ToList, ToGenerate}
-use Rattle.cc_text.specs.Answers.{Answered}
-use Rattle.cc_text.specs.Refusals.{Why}
-use Rattle.cc_driver.specs.World.{Shelves}
-use Rattle.cc_driver.specs.Fetches.{Wanted, IsFetched}
-use Rattle.cc_driver.specs.Stores.{Stored}
+use Rattle.cc_files.specs.cc_text.Answers.{Answered}
+use Rattle.cc_files.specs.cc_text.Refusals.{Why}
+use Rattle.cc_files.specs.World.{Shelves}
+use Rattle.cc_files.specs.Fetches.{Wanted, IsFetched}
+use Rattle.cc_files.specs.Stores.{Stored}
 use Rattle.cc_driver.specs.Build.{source_file, chosen_options, certificate_name, FileHas, BuildsTo, IsRefusedFor}
 use Rattle.cc_driver.specs.Run.{image_file, ports_file, IsImageRefused, RunsTo, RunRefused}
 use Rattle.cc_driver.specs.Means.{MeansTo, MeansRefused}

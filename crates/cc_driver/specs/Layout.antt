@@ -5,11 +5,11 @@ use Rattle.lay_text.specs.SequenceReading.{Reads, Says}
 use Rattle.lay_text.specs.declared.fault.SeqFault.{SeqFault}
 use Rattle.lay_text.specs.declared.fault.SeqFault.TheVariants as sequence_faults
 use Rattle.lay_tree.specs.Search.{search_answer}
-use Rattle.cc_text.specs.declared.refusal.FileFault.TheVariants.{Sequence as OfSequence}
-use Rattle.cc_text.specs.Answers.{Answered}
-use Rattle.cc_text.specs.LayoutText.{layout_answer}
-use Rattle.cc_text.specs.Refusals.{Why, OfFile}
-use Rattle.cc_driver.specs.Fetches.{Wanted, wanted}
+use Rattle.cc_files.specs.cc_text.declared.refusal.FileFault.TheVariants.{Sequence as OfSequence}
+use Rattle.cc_files.specs.cc_text.Answers.{Answered}
+use Rattle.cc_files.specs.cc_text.LayoutText.{layout_answer}
+use Rattle.cc_files.specs.cc_text.Refusals.{Why, OfFile}
+use Rattle.cc_files.specs.Fetches.{Wanted, wanted}
 
 -- a sequence file, of at most 16,777,216 bytes
 abbrev pub sequence_file : List ℕ → Wanted

@@ -14,11 +14,11 @@ use Rattle.c25_image.specs.declared.fault.PortFault.TheVariants as port_faults
 use Rattle.c25_image.specs.ImageText.{image_text}
 use Rattle.c25_image.specs.ImageFaults.{IsWhole, Says}
 use Rattle.c25_image.specs.PortText.{PortText, PortSays}
-use Rattle.cc_text.specs.declared.refusal.FileFault.TheVariants.{Image, Ports}
-use Rattle.cc_text.specs.Answers.{Answered}
-use Rattle.cc_text.specs.Refusals.{Why, OfFile}
-use Rattle.cc_text.specs.RunText.{run_answer}
-use Rattle.cc_driver.specs.Fetches.{Wanted, wanted}
+use Rattle.cc_files.specs.cc_text.declared.refusal.FileFault.TheVariants.{Image, Ports}
+use Rattle.cc_files.specs.cc_text.Answers.{Answered}
+use Rattle.cc_files.specs.cc_text.Refusals.{Why, OfFile}
+use Rattle.cc_files.specs.cc_text.RunText.{run_answer}
+use Rattle.cc_files.specs.Fetches.{Wanted, wanted}
 
 -- the text of an image, of at most 4,194,304 bytes
 abbrev pub image_file : List ℕ → Wanted

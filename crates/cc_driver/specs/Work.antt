@@ -1,13 +1,13 @@
 -- What a command does with the shelf, before anything is put: the same for each command, over its row.
 use Rattle.std.specs.Prelude.{◌≡◌, ◌≢◌, IfOk, List, [], Result}
 use Rattle.cc_words.specs.Asked.{Asked}
-use Rattle.cc_text.specs.declared.answer.Answer.{Answer}
-use Rattle.cc_text.specs.declared.refusal.Refusal.{Refusal}
-use Rattle.cc_text.specs.Answers.{Answered, answered}
-use Rattle.cc_text.specs.Refusals.{Why, OfStore, OfMemory}
-use Rattle.cc_driver.specs.World.{Shelves}
-use Rattle.cc_driver.specs.Fetches.{AreFetched, NoneFailed, NotFetched}
-use Rattle.cc_driver.specs.Stores.{Stored, NothingStored, OnlyUnder, AreStored, FailsAtOne, StopsBehind}
+use Rattle.cc_files.specs.cc_text.declared.answer.Answer.{Answer}
+use Rattle.cc_files.specs.cc_text.declared.refusal.Refusal.{Refusal}
+use Rattle.cc_files.specs.cc_text.Answers.{Answered, answered}
+use Rattle.cc_files.specs.cc_text.Refusals.{Why, OfStore, OfMemory}
+use Rattle.cc_files.specs.World.{Shelves}
+use Rattle.cc_files.specs.Fetches.{AreFetched, NoneFailed, NotFetched}
+use Rattle.cc_files.specs.Stores.{Stored, NothingStored, OnlyUnder, AreStored, FailsAtOne, StopsBehind}
 use Rattle.cc_driver.specs.Commands.{files_of, stores_under, Comes, Rejects}
 
 -- the command is done: its files were fetched, and what they come to is stored

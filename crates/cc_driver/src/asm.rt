@@ -1,20 +1,19 @@
 //! `asm TEXT IMG`.
 ghost use Rattle.std.specs.Prelude.{◌≡◌, ◌≢◌, IfOk, IfErr};
 ghost use Rattle.cc_words.specs.Asked.{ToAssemble};
-ghost use Rattle.cc_text.specs.Refusals.{why_of, OfMemory};
-ghost use Rattle.cc_text.specs.Answers.{answered};
-ghost use Rattle.cc_driver.specs.World.{shelves};
+ghost use Rattle.cc_files.specs.cc_text.Refusals.{why_of, OfMemory};
+ghost use Rattle.cc_files.specs.cc_text.Answers.{answered};
+ghost use Rattle.cc_files.specs.World.{shelves};
 ghost use Rattle.cc_driver.specs.Asm.{AssemblesTo, AssembleRefused, one_text, silent_answer};
 ghost use Rattle.cc_driver.specs.Commands.{stores_under};
-ghost use Rattle.cc_driver.specs.Stores.{OnlyUnder};
+ghost use Rattle.cc_files.specs.Stores.{OnlyUnder};
 ghost use Rattle.cc_driver.specs.Work.{WorkDone, WorkRefused};
 
-use crate::shelf::{TEXT_LIMIT, fetch, store};
 use c25_asm::assemble;
 use c25_image::write_image;
 use c25_isa::Image;
+use cc_files::{Answer, Refusal, TEXT_LIMIT, fetch, store};
 use cc_shelf::Shelf;
-use cc_text::{Answer, Refusal};
 use cc_words::Asm;
 use std::alloc::Global;
 

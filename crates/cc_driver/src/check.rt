@@ -1,18 +1,17 @@
 //! `check IMG CERT`.
 ghost use Rattle.std.specs.Prelude.{◌≡◌, ◌≢◌, ◌≤◌, Some, if◌then◌else◌, length, IfOk, IfErr};
 ghost use Rattle.cc_words.specs.Asked.{ToCheck};
-ghost use Rattle.cc_text.specs.Refusals.{why_of, OfMemory};
-ghost use Rattle.cc_text.specs.Answers.{answered};
-ghost use Rattle.cc_driver.specs.World.{shelves};
+ghost use Rattle.cc_files.specs.cc_text.Refusals.{why_of, OfMemory};
+ghost use Rattle.cc_files.specs.cc_text.Answers.{answered};
+ghost use Rattle.cc_files.specs.World.{shelves};
 ghost use Rattle.cc_driver.specs.Check.{ChecksTo, CheckRefused};
 ghost use Rattle.cc_driver.specs.Work.{WorkDone, WorkRefused};
-ghost use Rattle.cc_driver.specs.Stores.{NothingStored};
+ghost use Rattle.cc_files.specs.Stores.{NothingStored};
 
-use crate::shelf::{CERTIFICATE_LIMIT, Fetched, IMAGE_LIMIT, fetch_both};
 use c25_image::read_image;
 use cc_check::{Checked, check};
+use cc_files::{Answer, CERTIFICATE_LIMIT, Fetched, IMAGE_LIMIT, Refusal, fetch_both};
 use cc_shelf::Shelf;
-use cc_text::{Answer, Refusal};
 use cc_words::Check;
 use std::alloc::Global;
 

@@ -1,19 +1,18 @@
 //! `dis IMG`.
 ghost use Rattle.std.specs.Prelude.{◌≢◌, IfOk, IfErr};
 ghost use Rattle.cc_words.specs.Asked.{ToList};
-ghost use Rattle.cc_text.specs.Refusals.{why_of, OfMemory};
-ghost use Rattle.cc_text.specs.Answers.{answered};
-ghost use Rattle.cc_driver.specs.World.{shelves};
+ghost use Rattle.cc_files.specs.cc_text.Refusals.{why_of, OfMemory};
+ghost use Rattle.cc_files.specs.cc_text.Answers.{answered};
+ghost use Rattle.cc_files.specs.World.{shelves};
 ghost use Rattle.cc_driver.specs.Run.{IsImageRefused};
 ghost use Rattle.cc_driver.specs.Dis.{ListsTo};
-ghost use Rattle.cc_driver.specs.Stores.{NothingStored};
+ghost use Rattle.cc_files.specs.Stores.{NothingStored};
 ghost use Rattle.cc_driver.specs.Work.{WorkDone, WorkRefused};
 
-use crate::shelf::{IMAGE_LIMIT, fetch};
 use c25_dis::listing;
 use c25_image::read_image;
+use cc_files::{Answer, IMAGE_LIMIT, Refusal, fetch};
 use cc_shelf::Shelf;
-use cc_text::{Answer, Refusal};
 use cc_words::Dis;
 use std::alloc::Global;
 

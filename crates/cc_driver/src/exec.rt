@@ -1,19 +1,18 @@
 //! `exec SRC PORTS [--steps M]`.
 ghost use Rattle.std.specs.Prelude.{◌≢◌, ◌<◌, ◌^◌, length, IfOk, IfErr};
 ghost use Rattle.cc_words.specs.Asked.{ToExecute};
-ghost use Rattle.cc_text.specs.Refusals.{why_of, OfMemory};
-ghost use Rattle.cc_text.specs.Answers.{answered};
-ghost use Rattle.cc_driver.specs.World.{shelves};
+ghost use Rattle.cc_files.specs.cc_text.Refusals.{why_of, OfMemory};
+ghost use Rattle.cc_files.specs.cc_text.Answers.{answered};
+ghost use Rattle.cc_files.specs.World.{shelves};
 ghost use Rattle.cc_driver.specs.Exec.{ExecutesTo, ExecuteRefused};
 ghost use Rattle.cc_driver.specs.Work.{WorkDone, WorkRefused};
-ghost use Rattle.cc_driver.specs.Stores.{NothingStored};
+ghost use Rattle.cc_files.specs.Stores.{NothingStored};
 
 use crate::build::plain_options;
 use crate::run::run_image;
-use crate::shelf::{Fetched, PORTS_LIMIT, SOURCE_LIMIT, fetch_both};
 use c25_image::read_ports;
+use cc_files::{Answer, Fetched, PORTS_LIMIT, Refusal, SOURCE_LIMIT, compile, fetch_both};
 use cc_shelf::Shelf;
-use cc_text::{Answer, Refusal, compile};
 use cc_words::Exec;
 use std::alloc::Global;
 use std::thread::Threads;

@@ -1,19 +1,19 @@
 //! `gen N`.
 ghost use Rattle.std.specs.Prelude.{◌≢◌, ◌≤◌, length, [], IfOk, IfErr};
-ghost use Rattle.cc_text.specs.cc_compile.Compiles.{IsBuilt};
+ghost use Rattle.cc_files.specs.cc_text.cc_compile.Compiles.{IsBuilt};
 ghost use Rattle.cc_gen.specs.Generated.{generated};
 ghost use Rattle.cc_words.specs.Asked.{ToGenerate};
 ghost use Rattle.cc_words.specs.Plain.{IsWithinBounds};
-ghost use Rattle.cc_text.specs.Refusals.{why_of, OfMemory};
-ghost use Rattle.cc_text.specs.Answers.{answered};
+ghost use Rattle.cc_files.specs.cc_text.Refusals.{why_of, OfMemory};
+ghost use Rattle.cc_files.specs.cc_text.Answers.{answered};
 ghost use Rattle.cc_driver.specs.Build as build;
 ghost use Rattle.cc_driver.specs.Gen.{Summarizes, GeneratesTo, GenerateRefused};
 
 use crate::build::plain_options;
 use crate::run::run_from_zeros;
 use c25_isa::Image;
+use cc_files::{Answer, Built, Refusal, compile, gen_answer};
 use cc_gen::generate;
-use cc_text::{Answer, Built, Refusal, compile, gen_answer};
 use cc_words::Gen;
 use std::alloc::Global;
 use std::thread::Threads;

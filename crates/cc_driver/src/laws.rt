@@ -2,11 +2,11 @@
 ghost use Rattle.std.specs.Prelude.{◌≡◌, ◌<◌, ◌≤◌, ◌^◌, ◌++◌, ℕ, List, [], Some, codes, decimal};
 ghost use Rattle.word_base.specs.Ports.{input_of};
 ghost use Rattle.c25_sim.specs.Taken.{of_sixteen};
-ghost use Rattle.cc_text.specs.image_proof.Telling.{TellsOf};
+ghost use Rattle.cc_files.specs.cc_text.image_proof.Telling.{TellsOf};
 ghost use Rattle.lay_model.specs.Sequences.{Sequence};
 ghost use Rattle.lay_cost.specs.Cost.{Least};
 ghost use Rattle.lay_text.specs.SequenceReading.{Reads};
-ghost use Rattle.cc_text.specs.Answers.{Answered};
+ghost use Rattle.cc_files.specs.cc_text.Answers.{Answered};
 ghost use Rattle.cc_driver.specs.Exec.{ExecutesTo};
 ghost use Rattle.cc_driver.specs.Gen.{GeneratesTo, gen_steps};
 ghost use Rattle.cc_driver.specs.Layout.{LaysOutTo};
@@ -30,7 +30,7 @@ pub fn executions_tell()
     ensures tell { (source ports : List ℕ) (steps : ℕ) (answer : Answered) (h : ExecutesTo source ports steps answer) → ∥ TellsOf h.built.program h.built.has.plan (of_sixteen (input_of h.lines)) steps h.runs.outs h.runs.stands ∥₁ }
     ensures statuses { (source ports : List ℕ) (steps : ℕ) (answer : Answered) (h : ExecutesTo source ports steps answer) → ∥ StatusTells h.built.program h.built.has.plan (of_sixteen (input_of h.lines)) steps h.runs.outs h.runs.stands answer.status ∥₁ }
 {
-    cc_text::runs_tell();
+    cc_files::runs_tell();
 }
 
 /// What the run of a generated program tells of it, in the same way. It does nothing: its clauses are what callers cite.
@@ -38,5 +38,5 @@ pub fn generated_programs_tell()
     ensures tell { (number : ℕ) (answer : Answered) (h : GeneratesTo number answer) → ∥ TellsOf h.built.program h.built.has.plan (of_sixteen (input_of [])) gen_steps h.summarizes.outs h.summarizes.stands ∥₁ }
     ensures statuses { (number : ℕ) (answer : Answered) (h : GeneratesTo number answer) → ∥ StatusTells h.built.program h.built.has.plan (of_sixteen (input_of [])) gen_steps h.summarizes.outs h.summarizes.stands answer.status ∥₁ }
 {
-    cc_text::runs_tell();
+    cc_files::runs_tell();
 }

@@ -1,16 +1,15 @@
 //! `layout SEQ [-r N] [--budget B]`.
 ghost use Rattle.std.specs.Prelude.{◌≢◌, ◌≤◌, IfOk, IfErr};
 ghost use Rattle.cc_words.specs.Asked.{ToLayOut};
-ghost use Rattle.cc_text.specs.Refusals.{why_of, OfMemory};
-ghost use Rattle.cc_text.specs.Answers.{answered};
-ghost use Rattle.cc_driver.specs.World.{shelves};
+ghost use Rattle.cc_files.specs.cc_text.Refusals.{why_of, OfMemory};
+ghost use Rattle.cc_files.specs.cc_text.Answers.{answered};
+ghost use Rattle.cc_files.specs.World.{shelves};
 ghost use Rattle.cc_driver.specs.Layout.{LaysOutTo, LayoutRefused};
-ghost use Rattle.cc_driver.specs.Stores.{NothingStored};
+ghost use Rattle.cc_files.specs.Stores.{NothingStored};
 ghost use Rattle.cc_driver.specs.Work.{WorkDone, WorkRefused};
 
-use crate::shelf::{SEQUENCE_LIMIT, fetch};
+use cc_files::{Answer, Refusal, SEQUENCE_LIMIT, fetch, layout_answer};
 use cc_shelf::Shelf;
-use cc_text::{Answer, Refusal, layout_answer};
 use cc_words::Layout;
 use lay_search::search;
 use lay_text::read_sequence;

@@ -1,18 +1,19 @@
 //! `means SRC PORTS [--turns N]`.
 ghost use Rattle.std.specs.Prelude.{◌≢◌, ◌<◌, ◌^◌, length, IfOk, IfErr};
 ghost use Rattle.cc_words.specs.Asked.{ToEvaluate};
-ghost use Rattle.cc_text.specs.Refusals.{why_of, OfMemory};
-ghost use Rattle.cc_text.specs.Answers.{answered};
-ghost use Rattle.cc_driver.specs.World.{shelves};
+ghost use Rattle.cc_files.specs.cc_text.Refusals.{why_of, OfMemory};
+ghost use Rattle.cc_files.specs.cc_text.Answers.{answered};
+ghost use Rattle.cc_files.specs.World.{shelves};
 ghost use Rattle.cc_driver.specs.Means.{MeansTo, MeansRefused};
 ghost use Rattle.cc_driver.specs.Work.{WorkDone, WorkRefused};
-ghost use Rattle.cc_driver.specs.Stores.{NothingStored};
+ghost use Rattle.cc_files.specs.Stores.{NothingStored};
 
-use crate::shelf::{Fetched, PORTS_LIMIT, SOURCE_LIMIT, fetch_both};
 use c_means::evaluate;
 use c25_image::read_ports;
+use cc_files::{
+    Answer, Fetched, PORTS_LIMIT, Refusal, SOURCE_LIMIT, fetch_both, means_answer, typed_program,
+};
 use cc_shelf::Shelf;
-use cc_text::{Answer, Refusal, means_answer, typed_program};
 use cc_words::Means;
 use std::alloc::Global;
 

@@ -1,10 +1,11 @@
 use Rattle.cc_words.specs.Asked.{ToAssemble}
-use Rattle.cc_driver.specs.World.{shelves}
+use Rattle.cc_files.specs.World.{shelves}
 use Rattle.cc_driver.specs.Asm.{one_text, silent_answer}
-use Rattle.cc_driver.specs.Stores.{Stored}
+use Rattle.cc_files.specs.Stores.{Stored}
 use Rattle.cc_driver.specs.Work.{WorkRefused}
 use Rattle.cc_driver.proofs.StoreLemmas.{one_stopped}
-use Rattle.cc_driver.proofs.WorkLemmas.{passed_on, stores_refused}
+use Rattle.cc_driver.proofs.WorkLemmas.{stores_refused}
+use Rattle.cc_files.proofs.PassedOn.{passed_on}
 use Rattle.cc_driver.proofs.asm.answer.Goals as goal
 
 pub returns-in_err-store-clause-refused : goal.returns-in_err-store-clause-refused

@@ -1,12 +1,13 @@
 use Rattle.std.proofs.Common.{ap, subst, ◌∷◌, [], List, length, arith}
 use Rattle.std.specs.Prelude.{string_bytes}
-use Rattle.cc_driver.specs.World.{shelves}
+use Rattle.cc_files.specs.World.{shelves}
 use Rattle.cc_driver.specs.Build.{source_file}
 use Rattle.cc_driver.specs.BuildTexts.{asked_of, options_of, stored_of, answer_of}
-use Rattle.cc_driver.specs.Stores.{OnlyUnder}
+use Rattle.cc_files.specs.Stores.{OnlyUnder}
 use Rattle.cc_driver.specs.Work.{WorkRefused, AtFetch}
 use Rattle.cc_driver.proofs.StoreLemmas.{still_stored, still_under}
-use Rattle.cc_driver.proofs.WorkLemmas.{files_refuse, still_none_failed, stores_refused, passed_on}
+use Rattle.cc_driver.proofs.WorkLemmas.{files_refuse, still_none_failed, stores_refused}
+use Rattle.cc_files.proofs.PassedOn.{passed_on}
 use Rattle.cc_driver.proofs.build.answer.Goals as goal
 
 pub returns-in_err-source-clause-refused : goal.returns-in_err-source-clause-refused

@@ -1,11 +1,11 @@
 use Rattle.std.proofs.Common.{◌≡◌, ◌≢◌, ◌∙◌, ap}
 use Rattle.std.specs.Prelude.{Some, string_bytes}
 use Rattle.std.proofs.lemmas.Result.{IfErr-weaker}
-use Rattle.cc_driver.specs.World.{shelves}
-use Rattle.cc_driver.specs.Stores.{Stored, StoresStopped}
+use Rattle.cc_files.specs.World.{shelves}
+use Rattle.cc_files.specs.Stores.{Stored, StoresStopped}
 use Rattle.cc_driver.specs.BuildTexts.{stored_of}
 use Rattle.cc_driver.proofs.StoreLemmas.{other_name, first_stopped, second_stopped}
-use Rattle.cc_driver.proofs.WorkLemmas.{passed_on}
+use Rattle.cc_files.proofs.PassedOn.{passed_on}
 use Rattle.cc_driver.proofs.build.store_texts.Goals as goal
 
 pub returns-in_err-store-clause-refused : goal.returns-in_err-store-clause-refused

@@ -1,7 +1,7 @@
 use Rattle.std.proofs.Common.{lit<, refl, subst, rules}
 use Rattle.cc_words.specs.Asked.{Asked, texts_of}
-use Rattle.cc_text.specs.Refusals.{OfMemory}
-use Rattle.cc_driver.specs.World.{shelves, sinks}
+use Rattle.cc_files.specs.cc_text.Refusals.{OfMemory}
+use Rattle.cc_files.specs.World.{shelves, sinks}
 use Rattle.cc_driver.specs.Answers.{Answers, IsRefused}
 use Rattle.cc_driver.proofs.DecidedLemmas.{answers_decide}
 use Rattle.cc_driver.proofs.WorkLemmas.{bounded, one_asked, stopped_first}

@@ -1,10 +1,11 @@
 use Rattle.std.proofs.Common.{[], refl}
 use Rattle.std.proofs.lemmas.Result.{IfOk-weaker, IfErr-weaker}
 use Rattle.cc_words.specs.Asked.{ToList}
-use Rattle.cc_driver.specs.World.{shelves}
+use Rattle.cc_files.specs.World.{shelves}
 use Rattle.cc_driver.specs.Work.{WorkRefused, AtFetch}
 use Rattle.cc_driver.proofs.StoreLemmas.{none_stored}
-use Rattle.cc_driver.proofs.WorkLemmas.{files_refuse, passed_on}
+use Rattle.cc_driver.proofs.WorkLemmas.{files_refuse}
+use Rattle.cc_files.proofs.PassedOn.{passed_on}
 use Rattle.cc_driver.proofs.dis.answer.Goals as goal
 
 pub returns-in_err-bytes-clause-refused : goal.returns-in_err-bytes-clause-refused

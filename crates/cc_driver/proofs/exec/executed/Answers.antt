@@ -1,5 +1,5 @@
 use Rattle.std.proofs.Common.{◌≢◌, refl}
-use Rattle.cc_text.specs.Refusals.{OfMemory, of_build_fault}
+use Rattle.cc_files.specs.cc_text.Refusals.{OfMemory, of_build_fault}
 use Rattle.cc_driver.specs.Exec.{ExecuteRefused, SourceThen}
 use Rattle.cc_driver.proofs.WorkLemmas.{build_fault_of, passed_for}
 use Rattle.cc_driver.proofs.exec.executed.Goals as goal

@@ -1,5 +1,5 @@
 use Rattle.std.proofs.Common.{◌≢◌, ◌<◌, ◌^◌, ◌∙◌, ap, length, refl, arith, rules}
-use Rattle.cc_text.specs.Refusals.{OfMemory, of_build_fault}
+use Rattle.cc_files.specs.cc_text.Refusals.{OfMemory, of_build_fault}
 use Rattle.cc_gen.proofs.Short.{generated_short}
 use Rattle.cc_driver.specs.Gen.{GenerateRefused}
 use Rattle.cc_driver.proofs.WorkLemmas.{build_fault_of, passed_for}

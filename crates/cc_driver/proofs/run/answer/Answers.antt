@@ -1,7 +1,7 @@
 use Rattle.std.proofs.Common.{[], refl}
 use Rattle.std.proofs.lemmas.Result.{IfOk-weaker, IfErr-weaker}
 use Rattle.cc_words.specs.Asked.{ToRun}
-use Rattle.cc_driver.specs.World.{shelves}
+use Rattle.cc_files.specs.World.{shelves}
 use Rattle.cc_driver.proofs.StoreLemmas.{none_stored}
 use Rattle.cc_driver.proofs.WorkLemmas.{files_refuse}
 use Rattle.cc_driver.proofs.run.answer.Goals as goal

@@ -3,7 +3,7 @@ use Rattle.std.specs.Prelude.{◌≡◌, ◌≢◌, ◌⊎◌, ℕ, IsTrue, List
 use Rattle.cc_shelf.specs.Counts.{StoreFailed}
 use Rattle.cc_shelf.specs.Files.{Unchanged}
 use Rattle.cc_text.specs.Refusals.{Why, OfStore, OfMemory}
-use Rattle.cc_driver.specs.World.{Shelves}
+use Rattle.cc_files.specs.World.{Shelves}
 
 -- a text, and the name under which it is stored
 pub record Stored : Type 0 where

@@ -11,8 +11,8 @@ use Rattle.cc_shelf.specs.declared.shelf.ShelfFault.TheVariants as shelf_faults
 use Rattle.cc_text.specs.declared.refusal.FileFault.{FileFault}
 use Rattle.cc_text.specs.declared.refusal.FileFault.TheVariants.{Read, TooLong, Image, Ports, Sequence, Certificate, Assembly}
 use Rattle.cc_text.specs.Refusals.{Why, OfFile, OfMemory}
-use Rattle.cc_driver.specs.World.{Shelves, shelves}
-use Rattle.cc_driver.specs.Fetches.{Wanted, wanted, of_shelf_fault, fetch_of, IsFetched, AreFetched, AreAsked, NoneFailed, FetchCause, NotFetched, AtFile, ForMemory}
+use Rattle.cc_files.specs.World.{Shelves, shelves}
+use Rattle.cc_files.specs.Fetches.{Wanted, wanted, of_shelf_fault, fetch_of, IsFetched, AreFetched, AreAsked, NoneFailed, FetchCause, NotFetched, AtFile, ForMemory}
 
 -- what rose by so many rose by fewer
 rose_less : (m n a b : ℕ) → m ≤ n → RoseBy n a b → RoseBy m a b

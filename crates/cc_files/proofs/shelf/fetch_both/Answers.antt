@@ -1,9 +1,9 @@
 use Rattle.std.proofs.Common.{◌∷◌, []}
-use Rattle.cc_driver.specs.World.{shelves}
-use Rattle.cc_driver.specs.Fetches.{wanted, NotFetched}
-use Rattle.cc_driver.proofs.ShelfLemmas.{first_refused, second_refused, both_asked, fetched_before}
-use Rattle.cc_driver.proofs.WorkLemmas.{passed_on}
-use Rattle.cc_driver.proofs.shelf.fetch_both.Goals as goal
+use Rattle.cc_files.specs.World.{shelves}
+use Rattle.cc_files.specs.Fetches.{wanted, NotFetched}
+use Rattle.cc_files.proofs.ShelfLemmas.{first_refused, second_refused, both_asked, fetched_before}
+use Rattle.cc_files.proofs.PassedOn.{passed_on}
+use Rattle.cc_files.proofs.shelf.fetch_both.Goals as goal
 
 pub returns-in_err-bytes-clause-refused : goal.returns-in_err-bytes-clause-refused
 returns-in_err-bytes-clause-refused g c =

@@ -1,7 +1,7 @@
 use Rattle.std.proofs.Common.{ℕ, List, subst}
-use Rattle.cc_driver.specs.World.{sinks}
-use Rattle.cc_driver.specs.Puts.{TextPut}
-use Rattle.cc_driver.proofs.output.put.Goals as goal
+use Rattle.cc_files.specs.World.{sinks}
+use Rattle.cc_files.specs.Puts.{TextPut}
+use Rattle.cc_files.proofs.output.put.Goals as goal
 
 pub returns-in-Some : goal.returns-in-Some
 returns-in-Some g c =

@@ -7,7 +7,7 @@ use Rattle.cc_shelf.specs.Output.{Output}
 use Rattle.cc_text.specs.Answers.{Answered}
 use Rattle.cc_text.specs.Refusals.{Why, OfFile, OfSource, OfStore, OfMemory, file_line, refusal_status}
 use Rattle.cc_text.specs.SourceText.{source_line}
-use Rattle.cc_driver.specs.World.{Sinks}
+use Rattle.cc_files.specs.World.{Sinks}
 
 -- what a put of a line made of a sink that tells
 pub data LinePut (line : List ℕ) (before now : Output) : Type 0 where

@@ -8,7 +8,7 @@ use Rattle.cc_shelf.specs.declared.shelf.ShelfFault.TheVariants as shelf_faults
 use Rattle.cc_text.specs.declared.refusal.FileFault.{FileFault}
 use Rattle.cc_text.specs.declared.refusal.FileFault.TheVariants.{Read, TooLong, Image, Ports, Sequence, Certificate, Assembly}
 use Rattle.cc_text.specs.Refusals.{Why, OfFile, OfMemory}
-use Rattle.cc_driver.specs.World.{Shelves}
+use Rattle.cc_files.specs.World.{Shelves}
 
 -- a file that is wanted: its name, and the greatest length that it may have, in bytes
 pub record Wanted : Type 0 where

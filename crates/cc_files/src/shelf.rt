@@ -2,31 +2,31 @@
 ghost use Rattle.std.specs.Prelude.{◌≡◌, ◌≢◌, [], ◌∷◌, List, ℕ, Some, IfOk, OnOk, IfErr, IsTrue};
 ghost use Rattle.cc_shelf.specs.ShelfAnswers.{AfterFetch};
 ghost use Rattle.cc_text.specs.Refusals.{why_of};
-ghost use Rattle.cc_driver.specs.World.{shelves};
-ghost use Rattle.cc_driver.specs.Fetches.{wanted, of_shelf_fault, IsFetched, NoneFailed, NotFetched};
-ghost use Rattle.cc_driver.specs.Stores.{NothingStored, StoreStopped};
+ghost use Rattle.cc_files.specs.World.{shelves};
+ghost use Rattle.cc_files.specs.Fetches.{wanted, of_shelf_fault, IsFetched, NoneFailed, NotFetched};
+ghost use Rattle.cc_files.specs.Stores.{NothingStored, StoreStopped};
 
 use cc_shelf::{Shelf, ShelfFault};
 use cc_text::{FileFault, Refusal};
 use std::alloc::Global;
 
 /// The greatest length of a source, in bytes.
-pub(crate) const SOURCE_LIMIT: u64 = 1_048_576;
+pub const SOURCE_LIMIT: u64 = 1_048_576;
 
 /// The greatest length of an image's text, in bytes.
-pub(crate) const IMAGE_LIMIT: u64 = 4_194_304;
+pub const IMAGE_LIMIT: u64 = 4_194_304;
 
 /// The greatest length of an assembler text, in bytes.
-pub(crate) const TEXT_LIMIT: u64 = 4_194_304;
+pub const TEXT_LIMIT: u64 = 4_194_304;
 
 /// The greatest length of a sequence file, in bytes.
-pub(crate) const SEQUENCE_LIMIT: u64 = 16_777_216;
+pub const SEQUENCE_LIMIT: u64 = 16_777_216;
 
 /// The greatest length of a port file, in bytes.
-pub(crate) const PORTS_LIMIT: u64 = 16_777_216;
+pub const PORTS_LIMIT: u64 = 16_777_216;
 
 /// The greatest length of a certificate, in bytes.
-pub(crate) const CERTIFICATE_LIMIT: u64 = 536_870_912;
+pub const CERTIFICATE_LIMIT: u64 = 536_870_912;
 
 // Why a command is refused whose file of this name can't be fetched.
 fn not_fetched<'a>(name: &'a str, fault: ShelfFault) -> Refusal<'a>
@@ -45,8 +45,8 @@ fn not_fetched<'a>(name: &'a str, fault: ShelfFault) -> Refusal<'a>
     }
 }
 
-/// Fetches a file of at most so many bytes.
-pub(crate) fn fetch<'a, F: Shelf>(
+/// Fetches a file of at most so many bytes. It is refused where the file can't be read, isn't there or is longer, and for want of memory.
+pub fn fetch<'a, F: Shelf>(
     alloc: Global,
     shelf: &mut F,
     name: &'a str,
@@ -66,13 +66,15 @@ pub(crate) fn fetch<'a, F: Shelf>(
 
 /// The bytes of two files.
 #[derive(Debug, Drop)]
-pub(crate) struct Fetched {
-    pub(crate) bytes: Vec<u8>,
-    pub(crate) more: Vec<u8>,
+pub struct Fetched {
+    /// The bytes of the one that was fetched first.
+    pub bytes: Vec<u8>,
+    /// The bytes of the other one.
+    pub more: Vec<u8>,
 }
 
-/// Fetches a file of at most so many bytes, and then another one.
-pub(crate) fn fetch_both<'a, F: Shelf>(
+/// Fetches a file of at most so many bytes, and then another one. A fetch that is refused is the last; its file is named.
+pub fn fetch_both<'a, F: Shelf>(
     alloc: Global,
     shelf: &mut F,
     name: &'a str,
@@ -91,8 +93,8 @@ pub(crate) fn fetch_both<'a, F: Shelf>(
     Ok(Fetched { bytes, more })
 }
 
-/// Stores a file.
-pub(crate) fn store<'a, F: Shelf>(
+/// Stores a file. It is refused where it can't be written, and for want of memory; no other file changes.
+pub fn store<'a, F: Shelf>(
     alloc: Global,
     shelf: &mut F,
     name: &str,

@@ -1,8 +1,8 @@
 //! What commands put, and their statuses.
 ghost use Rattle.cc_text.specs.Refusals.{why_of};
 ghost use Rattle.cc_text.specs.Answers.{answered};
-ghost use Rattle.cc_driver.specs.World.{sinks};
-ghost use Rattle.cc_driver.specs.Puts.{PutsLine, PutsWhere, TextPut, AnswerPut, Refused};
+ghost use Rattle.cc_files.specs.World.{sinks};
+ghost use Rattle.cc_files.specs.Puts.{PutsLine, PutsWhere, TextPut, AnswerPut, Refused};
 
 use cc_shelf::{Sink, SinkFault};
 use cc_text::{Answer, Refusal, file_line, source_line};
@@ -10,7 +10,7 @@ use std::alloc::Global;
 use word_base::NoMemory;
 
 /// Puts a line. A failure changes no status.
-pub(crate) fn say<K: Sink>(alloc: Global, out: &mut K, line: &[u8])
+pub fn say<K: Sink>(alloc: Global, out: &mut K, line: &[u8])
     ensures { PutsLine line.now (sinks K.tells (K.output out.old) (K.output out.new)) }
 {
     let _ = out.put(alloc, line);
@@ -26,7 +26,7 @@ fn say_made<K: Sink>(alloc: Global, out: &mut K, line: &Result<String, NoMemory>
 }
 
 /// Puts the line of a refusal, where it has one, and gives its status.
-pub(crate) fn refuse<K: Sink>(alloc: Global, out: &mut K, refusal: &Refusal<'_>) -> u8
+pub fn refuse<K: Sink>(alloc: Global, out: &mut K, refusal: &Refusal<'_>) -> u8
     ensures { Refused (why_of refusal.now) (sinks K.tells (K.output out.old) (K.output out.new)) result }
 {
     match refusal {
@@ -53,7 +53,7 @@ fn put_text<K: Sink>(alloc: Global, out: &mut K, text: &[u8], status: u8) -> u8
 }
 
 /// Puts an answer, where it has a text, and gives the status.
-pub(crate) fn put<K: Sink>(alloc: Global, out: &mut K, answer: &Answer) -> u8
+pub fn put<K: Sink>(alloc: Global, out: &mut K, answer: &Answer) -> u8
     ensures { AnswerPut (answered answer.now) (sinks K.tells (K.output out.old) (K.output out.new)) result }
 {
     match &answer.text {

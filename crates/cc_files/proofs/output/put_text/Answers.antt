@@ -1,8 +1,8 @@
 use Rattle.std.proofs.Common.{◌∙◌, ap, refl}
 use Rattle.cc_shelf.specs.Counts.{raised}
-use Rattle.cc_driver.specs.Puts.{PutNothing}
-use Rattle.cc_driver.proofs.PutLemmas.{line_behind}
-use Rattle.cc_driver.proofs.output.put_text.Goals as goal
+use Rattle.cc_files.specs.Puts.{PutNothing}
+use Rattle.cc_files.proofs.PutLemmas.{line_behind}
+use Rattle.cc_files.proofs.output.put_text.Goals as goal
 
 pub returns-in-Err-NoMemory : goal.returns-in-Err-NoMemory
 returns-in-Err-NoMemory g c =

@@ -1,5 +1,5 @@
-use Rattle.cc_driver.proofs.ShelfLemmas.{fetch_refused}
-use Rattle.cc_driver.proofs.shelf.fetch.Goals as goal
+use Rattle.cc_files.proofs.ShelfLemmas.{fetch_refused}
+use Rattle.cc_files.proofs.shelf.fetch.Goals as goal
 
 pub returns-in-Err-clause-refused : goal.returns-in-Err-clause-refused
 returns-in-Err-clause-refused g c =

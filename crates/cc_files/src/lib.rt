@@ -1,0 +1,16 @@
+//! What commands do with files and with the output: files that are fetched or why not, files that are stored, and the line or the text that is put,
+//! with its status. Which files a command wants, and what it makes of them, isn't known here.
+#![tactic(auto)]
+
+mod output;
+mod shelf;
+
+pub use cc_text::{
+    Answer, Built, Options, Refusal, compile, gen_answer, layout_answer, means_answer, run_answer,
+    runs_tell, typed_program,
+};
+pub use output::{put, refuse, say};
+pub use shelf::{
+    CERTIFICATE_LIMIT, Fetched, IMAGE_LIMIT, PORTS_LIMIT, SEQUENCE_LIMIT, SOURCE_LIMIT, TEXT_LIMIT,
+    fetch, fetch_both, store,
+};
