@@ -10,7 +10,7 @@ use Rattle.cc_files.specs.cc_text.frame_layouts.Frames.{AreOptions}
 use Rattle.cc_files.specs.cc_text.frame_layouts.Rows.{row_of}
 use Rattle.cc_words.specs.Asked.{ToBuild}
 use Rattle.cc_words.specs.Plain.{IsWithinBounds}
-use Rattle.cc_files.specs.cc_text.Answers.{Answered}
+use Rattle.cc_answers.specs.Answers.{Answered}
 use Rattle.cc_driver.specs.declared.build.Texts.{Texts}
 use Rattle.cc_files.specs.Stores.{Stored}
 use Rattle.cc_driver.specs.Build.{chosen_options, certificate_name, built_texts, report_of}

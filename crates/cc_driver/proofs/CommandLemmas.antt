@@ -32,12 +32,12 @@ use Rattle.cc_files.specs.cc_text.cc_compile.SourceFaults.{HasProgram, IsAccepte
 use Rattle.cc_files.proofs.cc_text.cc_compile.OneFault.{accepted_no_fault, program_no_fault, same_program}
 use Rattle.cc_files.specs.cc_text.cc_compile.Compiles.{IsBuilt}
 use Rattle.cc_gen.specs.Generated.{generated}
-use Rattle.cc_files.specs.cc_text.Answers.{Answered}
+use Rattle.cc_answers.specs.Answers.{Answered}
 use Rattle.cc_files.specs.cc_text.Refusals.{Why, refusal_status}
-use Rattle.cc_files.specs.cc_text.RunText.{run_answer}
-use Rattle.cc_files.specs.cc_text.MeansText.{means_answer}
-use Rattle.cc_files.specs.cc_text.LayoutText.{layout_answer}
-use Rattle.cc_files.specs.cc_text.GenText.{gen_answer}
+use Rattle.cc_answers.specs.RunText.{run_answer}
+use Rattle.cc_answers.specs.MeansText.{means_answer}
+use Rattle.cc_answers.specs.LayoutText.{layout_answer}
+use Rattle.cc_answers.specs.GenText.{gen_answer}
 use Rattle.cc_files.specs.World.{Shelves}
 use Rattle.cc_files.specs.Fetches.{AreFetched}
 use Rattle.cc_files.specs.Stores.{Stored, FailsAtOne}

@@ -3,7 +3,7 @@ use Rattle.std.proofs.Common.{◌≡◌, ◌≢◌, ◌∙◌, ◌++◌, ℕ, Bo
 use Rattle.std.specs.Prelude.{◌⊎◌, IsSome}
 use Rattle.cc_shelf.specs.Counts.{FetchFailed, StoreFailed, Rose}
 use Rattle.cc_words.specs.Asked.{Asked}
-use Rattle.cc_files.specs.cc_text.Answers.{Answered}
+use Rattle.cc_answers.specs.Answers.{Answered}
 use Rattle.cc_files.specs.cc_text.declared.refusal.FileFault.{FileFault}
 use Rattle.cc_files.specs.cc_text.declared.refusal.FileFault.TheVariants.{Read, TooLong, Image, Ports, Sequence, Certificate, Assembly}
 use Rattle.cc_files.specs.cc_text.Refusals.{Why, file_status, refusal_status}

@@ -2,9 +2,9 @@
 use Rattle.std.proofs.Common.{inl, inr, ◌≡◌, ◌≢◌, ◌∙◌, ℕ, List, [], ◌∷◌, Option, Some, None, refl, sym, ap, append-nil, Ok, Err, arith}
 use Rattle.std.specs.Prelude.{◌⊎◌}
 use Rattle.cc_words.specs.Asked.{Asked}
-use Rattle.cc_files.specs.cc_text.declared.answer.Answer.{Answer}
+use Rattle.cc_answers.specs.declared.answer.Answer.{Answer}
 use Rattle.cc_files.specs.cc_text.declared.refusal.Refusal.{Refusal}
-use Rattle.cc_files.specs.cc_text.Answers.{Answered, answered}
+use Rattle.cc_answers.specs.Answers.{Answered, answered}
 use Rattle.cc_files.specs.cc_text.Refusals.{Why, why_of, refusal_status}
 use Rattle.cc_files.specs.World.{Shelves, Sinks}
 use Rattle.cc_files.specs.Puts.{AnswerPut, PutsText, PutWhole, PutPart, PutNothing}

@@ -6,7 +6,7 @@ use Rattle.lay_tree.specs.declared.answer.Mark.{Mark}
 use Rattle.lay_tree.specs.declared.answer.Answer.{Answer}
 use Rattle.lay_tree.specs.declared.answer.Answer.TheVariants.{Certified, Exhausted}
 use Rattle.lay_tree.specs.Search.{answer_cost}
-use Rattle.cc_files.specs.cc_text.LayoutText.{layout_answer, register_lines}
+use Rattle.cc_answers.specs.LayoutText.{layout_answer, register_lines}
 
 -- behind the same front
 same_behind : (front x y : List ℕ) → front ++ x ≡ front ++ y → x ≡ y

@@ -10,11 +10,11 @@ use Rattle.c25_isa.specs.declared.event.Stop.{Stop}
 use Rattle.c25_isa.specs.declared.event.Stop.TheVariants as stop
 use Rattle.word_base.specs.declared.outcome.Outcome.{Outcome}
 use Rattle.word_base.specs.declared.outcome.Outcome.TheVariants as outcome
-use Rattle.cc_files.specs.cc_text.Answers.{Answered}
+use Rattle.cc_answers.specs.Answers.{Answered}
 use Rattle.word_base.specs.Ports.{Outputs}
-use Rattle.cc_files.specs.cc_text.RunText.{stop_status}
-use Rattle.cc_files.specs.cc_text.GenText.{gen_answer}
-use Rattle.cc_files.specs.cc_text.MeansText.{outcome_status}
+use Rattle.cc_answers.specs.RunText.{stop_status}
+use Rattle.cc_answers.specs.GenText.{gen_answer}
+use Rattle.cc_answers.specs.MeansText.{outcome_status}
 use Rattle.cc_files.specs.World.{Sinks}
 use Rattle.lay_cert.specs.Frames.{Frame}
 use Rattle.cc_driver.specs.Build.{report_of}

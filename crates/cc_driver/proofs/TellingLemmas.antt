@@ -11,8 +11,8 @@ use Rattle.cc_files.specs.cc_text.image_proof.PlanPlaces.{places_of}
 use Rattle.c25_isa.specs.declared.event.Stop.{Stop}
 use Rattle.c25_isa.specs.declared.event.Stop.TheVariants as stop
 use Rattle.cc_files.specs.cc_text.image_proof.Telling.{TellsOf}
-use Rattle.cc_files.specs.cc_text.GenText.{gen_answer}
-use Rattle.cc_files.specs.cc_text.RunText.{stop_status}
+use Rattle.cc_answers.specs.GenText.{gen_answer}
+use Rattle.cc_answers.specs.RunText.{stop_status}
 use Rattle.cc_driver.specs.Telling.{StatusTells}
 
 -- what the word tree does on this input is what the program does

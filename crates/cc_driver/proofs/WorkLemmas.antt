@@ -19,9 +19,9 @@ use Rattle.lay_cert.specs.declared.fault.CertFault.{CertFault}
 use Rattle.lay_cert.specs.declared.fault.CertFault.TheVariants as certificate_faults
 use Rattle.cc_files.specs.cc_text.cc_compile.declared.fault.BuildFault.{BuildFault}
 use Rattle.cc_files.specs.cc_text.cc_compile.declared.fault.BuildFault.TheVariants as build_faults
-use Rattle.cc_files.specs.cc_text.declared.answer.Answer.{Answer}
+use Rattle.cc_answers.specs.declared.answer.Answer.{Answer}
 use Rattle.cc_files.specs.cc_text.declared.refusal.Refusal.{Refusal}
-use Rattle.cc_files.specs.cc_text.Answers.{Answered, answered}
+use Rattle.cc_answers.specs.Answers.{Answered, answered}
 use Rattle.cc_files.specs.cc_text.Refusals.{Why, OfFile, OfSource, OfStore, OfMemory, why_of, of_build_fault, of_image_fault, of_port_fault, of_sequence_fault, of_certificate_fault}
 use Rattle.cc_files.specs.World.{Shelves, shelves}
 use Rattle.cc_files.specs.Fetches.{Wanted, IsFetched, AreFetched, NoneFailed, ForMemory}

@@ -4,7 +4,7 @@ use Rattle.std.specs.declared.alloc.Global.{Global}
 use Rattle.cc_shelf.specs.Counts.{FetchFailed, StoreFailed, Rose}
 use Rattle.cc_shelf.specs.Files.{Files}
 use Rattle.cc_words.specs.Asked.{Asked, Asks, asked, texts_of}
-use Rattle.cc_files.specs.cc_text.Answers.{Answered}
+use Rattle.cc_answers.specs.Answers.{Answered}
 use Rattle.cc_files.specs.cc_text.Refusals.{Why, refusal_status}
 use Rattle.cc_files.specs.World.{Shelves, Sinks}
 use Rattle.cc_files.specs.Puts.{PutsLine, AnswerPut, Refused, memory_line}

@@ -7,7 +7,7 @@ use Rattle.c25_asm.specs.AssemblerText.{assembled}
 use Rattle.c25_asm.specs.declared.fault.AsmFault.{AsmFault}
 use Rattle.c25_asm.specs.declared.fault.AsmFault.TheVariants as assembly_faults
 use Rattle.cc_files.specs.cc_text.declared.refusal.FileFault.TheVariants.{Assembly}
-use Rattle.cc_files.specs.cc_text.Answers.{Answered}
+use Rattle.cc_answers.specs.Answers.{Answered}
 use Rattle.cc_files.specs.cc_text.Refusals.{Why, OfFile}
 use Rattle.cc_files.specs.Fetches.{Wanted, wanted}
 use Rattle.cc_files.specs.Stores.{Stored}

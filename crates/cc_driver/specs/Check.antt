@@ -8,7 +8,7 @@ use Rattle.lay_cert.specs.declared.fault.CertFault.TheVariants as certificate_fa
 use Rattle.cc_check.specs.CheckText.{check_text, all_pass}
 use Rattle.cc_check.specs.Checks.{OptimalHolds}
 use Rattle.cc_files.specs.cc_text.declared.refusal.FileFault.TheVariants.{Certificate}
-use Rattle.cc_files.specs.cc_text.Answers.{Answered}
+use Rattle.cc_answers.specs.Answers.{Answered}
 use Rattle.cc_files.specs.cc_text.Refusals.{Why, OfFile}
 use Rattle.cc_files.specs.Fetches.{Wanted, wanted}
 use Rattle.cc_driver.specs.Run.{IsImageOf, IsImageRefused}

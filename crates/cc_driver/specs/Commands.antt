@@ -2,7 +2,7 @@
 -- (docs/COMMANDS.md).
 use Rattle.std.specs.Prelude.{◌≡◌, ℕ, List, [], ◌∷◌}
 use Rattle.cc_words.specs.Asked.{Asked, ToBuild, ToRun, ToEvaluate, ToExecute, ToLayOut, ToCheck, ToAssemble, ToList, ToGenerate}
-use Rattle.cc_files.specs.cc_text.Answers.{Answered}
+use Rattle.cc_answers.specs.Answers.{Answered}
 use Rattle.cc_files.specs.cc_text.Refusals.{Why}
 use Rattle.cc_files.specs.World.{Shelves}
 use Rattle.cc_files.specs.Fetches.{Wanted, IsFetched}

@@ -2,7 +2,7 @@
 use Rattle.std.specs.Prelude.{◌≡◌, ℕ, List, Some}
 use Rattle.c25_isa.specs.Image.{Contents}
 use Rattle.c25_dis.specs.Listing.{listing_text}
-use Rattle.cc_files.specs.cc_text.Answers.{Answered}
+use Rattle.cc_answers.specs.Answers.{Answered}
 use Rattle.cc_driver.specs.Run.{IsImageOf}
 
 -- the listing of words is put

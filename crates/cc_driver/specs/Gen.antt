@@ -6,8 +6,8 @@ use Rattle.c25_isa.specs.Image.{Contents}
 use Rattle.lay_cert.specs.Frames.{Frame}
 use Rattle.cc_files.specs.cc_text.cc_compile.Compiles.{IsBuilt}
 use Rattle.cc_gen.specs.Generated.{generated}
-use Rattle.cc_files.specs.cc_text.Answers.{Answered}
-use Rattle.cc_files.specs.cc_text.GenText.{gen_answer}
+use Rattle.cc_answers.specs.Answers.{Answered}
+use Rattle.cc_answers.specs.GenText.{gen_answer}
 use Rattle.cc_files.specs.cc_text.Refusals.{Why}
 use Rattle.cc_driver.specs.Build.{plain_options, IsRefusedFor}
 use Rattle.cc_driver.specs.Run.{Reaches}

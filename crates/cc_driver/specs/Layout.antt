@@ -6,8 +6,8 @@ use Rattle.lay_text.specs.declared.fault.SeqFault.{SeqFault}
 use Rattle.lay_text.specs.declared.fault.SeqFault.TheVariants as sequence_faults
 use Rattle.lay_tree.specs.Search.{search_answer}
 use Rattle.cc_files.specs.cc_text.declared.refusal.FileFault.TheVariants.{Sequence as OfSequence}
-use Rattle.cc_files.specs.cc_text.Answers.{Answered}
-use Rattle.cc_files.specs.cc_text.LayoutText.{layout_answer}
+use Rattle.cc_answers.specs.Answers.{Answered}
+use Rattle.cc_answers.specs.LayoutText.{layout_answer}
 use Rattle.cc_files.specs.cc_text.Refusals.{Why, OfFile}
 use Rattle.cc_files.specs.Fetches.{Wanted, wanted}
 

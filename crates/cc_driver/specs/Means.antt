@@ -6,9 +6,9 @@ use Rattle.c_tree.specs.SourceRun.{source_run}
 use Rattle.c25_image.specs.PortText.{PortText}
 use Rattle.cc_files.specs.cc_text.cc_compile.declared.fault.BuildFault.{BuildFault}
 use Rattle.cc_files.specs.cc_text.cc_compile.SourceFaults.{HasProgram, HasNoProgramFor}
-use Rattle.cc_files.specs.cc_text.Answers.{Answered}
+use Rattle.cc_answers.specs.Answers.{Answered}
 use Rattle.cc_files.specs.cc_text.Refusals.{Why, OfSource}
-use Rattle.cc_files.specs.cc_text.MeansText.{means_answer}
+use Rattle.cc_answers.specs.MeansText.{means_answer}
 use Rattle.cc_driver.specs.Run.{ArePortsRefused}
 
 -- the source has a typed program, whose run on what the port lines give is answered, with so many turns

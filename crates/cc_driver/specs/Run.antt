@@ -15,9 +15,9 @@ use Rattle.c25_image.specs.ImageText.{image_text}
 use Rattle.c25_image.specs.ImageFaults.{IsWhole, Says}
 use Rattle.c25_image.specs.PortText.{PortText, PortSays}
 use Rattle.cc_files.specs.cc_text.declared.refusal.FileFault.TheVariants.{Image, Ports}
-use Rattle.cc_files.specs.cc_text.Answers.{Answered}
+use Rattle.cc_answers.specs.Answers.{Answered}
 use Rattle.cc_files.specs.cc_text.Refusals.{Why, OfFile}
-use Rattle.cc_files.specs.cc_text.RunText.{run_answer}
+use Rattle.cc_answers.specs.RunText.{run_answer}
 use Rattle.cc_files.specs.Fetches.{Wanted, wanted}
 
 -- the text of an image, of at most 4,194,304 bytes

@@ -1,9 +1,9 @@
 -- What a command does with the shelf, before anything is put: the same for each command, over its row.
 use Rattle.std.specs.Prelude.{◌≡◌, ◌≢◌, IfOk, List, [], Result}
 use Rattle.cc_words.specs.Asked.{Asked}
-use Rattle.cc_files.specs.cc_text.declared.answer.Answer.{Answer}
+use Rattle.cc_answers.specs.declared.answer.Answer.{Answer}
 use Rattle.cc_files.specs.cc_text.declared.refusal.Refusal.{Refusal}
-use Rattle.cc_files.specs.cc_text.Answers.{Answered, answered}
+use Rattle.cc_answers.specs.Answers.{Answered, answered}
 use Rattle.cc_files.specs.cc_text.Refusals.{Why, OfStore, OfMemory}
 use Rattle.cc_files.specs.World.{Shelves}
 use Rattle.cc_files.specs.Fetches.{AreFetched, NoneFailed, NotFetched}

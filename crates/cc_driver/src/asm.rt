@@ -2,7 +2,7 @@
 ghost use Rattle.std.specs.Prelude.{◌≡◌, ◌≢◌, IfOk, IfErr};
 ghost use Rattle.cc_words.specs.Asked.{ToAssemble};
 ghost use Rattle.cc_files.specs.cc_text.Refusals.{why_of, OfMemory};
-ghost use Rattle.cc_files.specs.cc_text.Answers.{answered};
+ghost use Rattle.cc_answers.specs.Answers.{answered};
 ghost use Rattle.cc_files.specs.World.{shelves};
 ghost use Rattle.cc_driver.specs.Asm.{AssemblesTo, AssembleRefused, one_text, silent_answer};
 ghost use Rattle.cc_driver.specs.Commands.{stores_under};
@@ -12,7 +12,8 @@ ghost use Rattle.cc_driver.specs.Work.{WorkDone, WorkRefused};
 use c25_asm::assemble;
 use c25_image::write_image;
 use c25_isa::Image;
-use cc_files::{Answer, Refusal, TEXT_LIMIT, fetch, store};
+use cc_answers::Answer;
+use cc_files::{Refusal, TEXT_LIMIT, fetch, store};
 use cc_shelf::Shelf;
 use cc_words::Asm;
 use std::alloc::Global;

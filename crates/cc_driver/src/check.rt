@@ -2,15 +2,16 @@
 ghost use Rattle.std.specs.Prelude.{◌≡◌, ◌≢◌, ◌≤◌, Some, if◌then◌else◌, length, IfOk, IfErr};
 ghost use Rattle.cc_words.specs.Asked.{ToCheck};
 ghost use Rattle.cc_files.specs.cc_text.Refusals.{why_of, OfMemory};
-ghost use Rattle.cc_files.specs.cc_text.Answers.{answered};
+ghost use Rattle.cc_answers.specs.Answers.{answered};
 ghost use Rattle.cc_files.specs.World.{shelves};
 ghost use Rattle.cc_driver.specs.Check.{ChecksTo, CheckRefused};
 ghost use Rattle.cc_driver.specs.Work.{WorkDone, WorkRefused};
 ghost use Rattle.cc_files.specs.Stores.{NothingStored};
 
 use c25_image::read_image;
+use cc_answers::Answer;
 use cc_check::{Checked, check};
-use cc_files::{Answer, CERTIFICATE_LIMIT, Fetched, IMAGE_LIMIT, Refusal, fetch_both};
+use cc_files::{CERTIFICATE_LIMIT, Fetched, IMAGE_LIMIT, Refusal, fetch_both};
 use cc_shelf::Shelf;
 use cc_words::Check;
 use std::alloc::Global;

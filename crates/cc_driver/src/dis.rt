@@ -2,7 +2,7 @@
 ghost use Rattle.std.specs.Prelude.{◌≢◌, IfOk, IfErr};
 ghost use Rattle.cc_words.specs.Asked.{ToList};
 ghost use Rattle.cc_files.specs.cc_text.Refusals.{why_of, OfMemory};
-ghost use Rattle.cc_files.specs.cc_text.Answers.{answered};
+ghost use Rattle.cc_answers.specs.Answers.{answered};
 ghost use Rattle.cc_files.specs.World.{shelves};
 ghost use Rattle.cc_driver.specs.Run.{IsImageRefused};
 ghost use Rattle.cc_driver.specs.Dis.{ListsTo};
@@ -11,7 +11,8 @@ ghost use Rattle.cc_driver.specs.Work.{WorkDone, WorkRefused};
 
 use c25_dis::listing;
 use c25_image::read_image;
-use cc_files::{Answer, IMAGE_LIMIT, Refusal, fetch};
+use cc_answers::Answer;
+use cc_files::{IMAGE_LIMIT, Refusal, fetch};
 use cc_shelf::Shelf;
 use cc_words::Dis;
 use std::alloc::Global;

@@ -2,7 +2,7 @@
 ghost use Rattle.std.specs.Prelude.{◌≢◌, ◌<◌, ◌^◌, length, IfOk, IfErr};
 ghost use Rattle.cc_words.specs.Asked.{ToExecute};
 ghost use Rattle.cc_files.specs.cc_text.Refusals.{why_of, OfMemory};
-ghost use Rattle.cc_files.specs.cc_text.Answers.{answered};
+ghost use Rattle.cc_answers.specs.Answers.{answered};
 ghost use Rattle.cc_files.specs.World.{shelves};
 ghost use Rattle.cc_driver.specs.Exec.{ExecutesTo, ExecuteRefused};
 ghost use Rattle.cc_driver.specs.Work.{WorkDone, WorkRefused};
@@ -11,7 +11,8 @@ ghost use Rattle.cc_files.specs.Stores.{NothingStored};
 use crate::build::plain_options;
 use crate::run::run_image;
 use c25_image::read_ports;
-use cc_files::{Answer, Fetched, PORTS_LIMIT, Refusal, SOURCE_LIMIT, compile, fetch_both};
+use cc_answers::Answer;
+use cc_files::{Fetched, PORTS_LIMIT, Refusal, SOURCE_LIMIT, compile, fetch_both};
 use cc_shelf::Shelf;
 use cc_words::Exec;
 use std::alloc::Global;

@@ -5,14 +5,15 @@ ghost use Rattle.cc_gen.specs.Generated.{generated};
 ghost use Rattle.cc_words.specs.Asked.{ToGenerate};
 ghost use Rattle.cc_words.specs.Plain.{IsWithinBounds};
 ghost use Rattle.cc_files.specs.cc_text.Refusals.{why_of, OfMemory};
-ghost use Rattle.cc_files.specs.cc_text.Answers.{answered};
+ghost use Rattle.cc_answers.specs.Answers.{answered};
 ghost use Rattle.cc_driver.specs.Build as build;
 ghost use Rattle.cc_driver.specs.Gen.{Summarizes, GeneratesTo, GenerateRefused};
 
 use crate::build::plain_options;
 use crate::run::run_from_zeros;
 use c25_isa::Image;
-use cc_files::{Answer, Built, Refusal, compile, gen_answer};
+use cc_answers::{Answer, gen_answer};
+use cc_files::{Built, Refusal, compile};
 use cc_gen::generate;
 use cc_words::Gen;
 use std::alloc::Global;

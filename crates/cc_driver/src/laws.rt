@@ -6,7 +6,7 @@ ghost use Rattle.cc_files.specs.cc_text.image_proof.Telling.{TellsOf};
 ghost use Rattle.lay_model.specs.Sequences.{Sequence};
 ghost use Rattle.lay_cost.specs.Cost.{Least};
 ghost use Rattle.lay_text.specs.SequenceReading.{Reads};
-ghost use Rattle.cc_files.specs.cc_text.Answers.{Answered};
+ghost use Rattle.cc_answers.specs.Answers.{Answered};
 ghost use Rattle.cc_driver.specs.Exec.{ExecutesTo};
 ghost use Rattle.cc_driver.specs.Gen.{GeneratesTo, gen_steps};
 ghost use Rattle.cc_driver.specs.Layout.{LaysOutTo};

@@ -2,13 +2,14 @@
 ghost use Rattle.std.specs.Prelude.{◌≢◌, ◌≤◌, IfOk, IfErr};
 ghost use Rattle.cc_words.specs.Asked.{ToLayOut};
 ghost use Rattle.cc_files.specs.cc_text.Refusals.{why_of, OfMemory};
-ghost use Rattle.cc_files.specs.cc_text.Answers.{answered};
+ghost use Rattle.cc_answers.specs.Answers.{answered};
 ghost use Rattle.cc_files.specs.World.{shelves};
 ghost use Rattle.cc_driver.specs.Layout.{LaysOutTo, LayoutRefused};
 ghost use Rattle.cc_files.specs.Stores.{NothingStored};
 ghost use Rattle.cc_driver.specs.Work.{WorkDone, WorkRefused};
 
-use cc_files::{Answer, Refusal, SEQUENCE_LIMIT, fetch, layout_answer};
+use cc_answers::{Answer, layout_answer};
+use cc_files::{Refusal, SEQUENCE_LIMIT, fetch};
 use cc_shelf::Shelf;
 use cc_words::Layout;
 use lay_search::search;

@@ -2,7 +2,7 @@
 ghost use Rattle.std.specs.Prelude.{◌≢◌, ◌<◌, ◌^◌, length, IfOk, IfErr};
 ghost use Rattle.cc_words.specs.Asked.{ToEvaluate};
 ghost use Rattle.cc_files.specs.cc_text.Refusals.{why_of, OfMemory};
-ghost use Rattle.cc_files.specs.cc_text.Answers.{answered};
+ghost use Rattle.cc_answers.specs.Answers.{answered};
 ghost use Rattle.cc_files.specs.World.{shelves};
 ghost use Rattle.cc_driver.specs.Means.{MeansTo, MeansRefused};
 ghost use Rattle.cc_driver.specs.Work.{WorkDone, WorkRefused};
@@ -10,9 +10,8 @@ ghost use Rattle.cc_files.specs.Stores.{NothingStored};
 
 use c_means::evaluate;
 use c25_image::read_ports;
-use cc_files::{
-    Answer, Fetched, PORTS_LIMIT, Refusal, SOURCE_LIMIT, fetch_both, means_answer, typed_program,
-};
+use cc_answers::{Answer, means_answer};
+use cc_files::{Fetched, PORTS_LIMIT, Refusal, SOURCE_LIMIT, fetch_both, typed_program};
 use cc_shelf::Shelf;
 use cc_words::Means;
 use std::alloc::Global;

@@ -2,7 +2,7 @@
 ghost use Rattle.std.specs.Prelude.{◌≢◌, IfOk, IfErr};
 ghost use Rattle.cc_words.specs.Asked.{ToRun};
 ghost use Rattle.cc_files.specs.cc_text.Refusals.{why_of, OfMemory};
-ghost use Rattle.cc_files.specs.cc_text.Answers.{answered};
+ghost use Rattle.cc_answers.specs.Answers.{answered};
 ghost use Rattle.cc_files.specs.World.{shelves};
 ghost use Rattle.cc_driver.specs.Run.{Reaches, ImageRuns, RunsTo, RunRefused};
 ghost use Rattle.cc_driver.specs.Work.{WorkDone, WorkRefused};
@@ -11,7 +11,8 @@ ghost use Rattle.cc_files.specs.Stores.{NothingStored};
 use c25_image::{read_image, read_ports};
 use c25_isa::{Image, RunOutcome, Start};
 use c25_sim::Machine;
-use cc_files::{Answer, Fetched, IMAGE_LIMIT, PORTS_LIMIT, Refusal, fetch_both, run_answer};
+use cc_answers::{Answer, run_answer};
+use cc_files::{Fetched, IMAGE_LIMIT, PORTS_LIMIT, Refusal, fetch_both};
 use cc_shelf::Shelf;
 use cc_words::Run;
 use std::alloc::Global;

@@ -4,7 +4,7 @@ use Rattle.std.specs.declared.alloc.Global.{Global}
 use Rattle.word_base.specs.declared.text.NoMemory.{NoMemory}
 use Rattle.cc_shelf.specs.Counts.{Rose, raised}
 use Rattle.cc_shelf.specs.Output.{Output}
-use Rattle.cc_text.specs.Answers.{Answered}
+use Rattle.cc_answers.specs.Answers.{Answered}
 use Rattle.cc_text.specs.Refusals.{Why, OfFile, OfSource, OfStore, OfMemory, file_line, refusal_status}
 use Rattle.cc_text.specs.SourceText.{source_line}
 use Rattle.cc_files.specs.World.{Sinks}

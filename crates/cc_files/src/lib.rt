@@ -5,10 +5,7 @@
 mod output;
 mod shelf;
 
-pub use cc_text::{
-    Answer, Built, Options, Refusal, compile, gen_answer, layout_answer, means_answer, run_answer,
-    runs_tell, typed_program,
-};
+pub use cc_text::{Built, Options, Refusal, compile, runs_tell, typed_program};
 pub use output::{put, refuse, say};
 pub use shelf::{
     CERTIFICATE_LIMIT, Fetched, IMAGE_LIMIT, PORTS_LIMIT, SEQUENCE_LIMIT, SOURCE_LIMIT, TEXT_LIMIT,

@@ -1,11 +1,12 @@
 //! What commands put, and their statuses.
 ghost use Rattle.cc_text.specs.Refusals.{why_of};
-ghost use Rattle.cc_text.specs.Answers.{answered};
+ghost use Rattle.cc_answers.specs.Answers.{answered};
 ghost use Rattle.cc_files.specs.World.{sinks};
 ghost use Rattle.cc_files.specs.Puts.{PutsLine, PutsWhere, TextPut, AnswerPut, Refused};
 
+use cc_answers::Answer;
 use cc_shelf::{Sink, SinkFault};
-use cc_text::{Answer, Refusal, file_line, source_line};
+use cc_text::{Refusal, file_line, source_line};
 use std::alloc::Global;
 use word_base::NoMemory;
 

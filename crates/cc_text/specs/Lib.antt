@@ -6,8 +6,3 @@ pub use Rattle.cc_compile.specs.image_proof as image_proof
 pub use Rattle.cc_compile.specs.tree_code_proof as tree_code_proof
 pub mod SourceText
 pub mod Refusals
-pub mod Answers
-pub mod RunText
-pub mod MeansText
-pub mod LayoutText
-pub mod GenText

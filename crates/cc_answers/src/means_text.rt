@@ -1,7 +1,7 @@
 //! The text of what a source means.
 ghost use Rattle.std.specs.Prelude.{◌≡◌, ◌++◌, IfOk, OnOk};
-ghost use Rattle.cc_text.specs.MeansText.{undefined_kind_name, undefined_line, outcome_line, outcome_status, means_answer};
-ghost use Rattle.cc_text.specs.Answers.{answered};
+ghost use Rattle.cc_answers.specs.MeansText.{undefined_kind_name, undefined_line, outcome_line, outcome_status, means_answer};
+ghost use Rattle.cc_answers.specs.Answers.{answered};
 ghost use Rattle.word_base.specs.Outcome.{outputs_of};
 
 use crate::answer::Answer;

@@ -1,9 +1,9 @@
 //! The summary of a generated program's run.
 ghost use Rattle.std.specs.Prelude.{◌≡◌, ◌++◌, decimal, IfOk, OnOk};
 ghost use Rattle.c25_image.specs.Lines.{with_feed};
-ghost use Rattle.cc_text.specs.GenText as summary;
-ghost use Rattle.cc_text.specs.GenText.{summary_line, summary_answer, gen_answer};
-ghost use Rattle.cc_text.specs.Answers.{answered};
+ghost use Rattle.cc_answers.specs.GenText as summary;
+ghost use Rattle.cc_answers.specs.GenText.{summary_line, summary_answer, gen_answer};
+ghost use Rattle.cc_answers.specs.Answers.{answered};
 
 use crate::answer::Answer;
 use crate::run_text::{push_ending, run_answer};

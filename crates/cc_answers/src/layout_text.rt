@@ -1,7 +1,7 @@
 //! The text of a layout.
 ghost use Rattle.std.specs.Prelude.{◌≡◌, ◌++◌, IfOk, OnOk};
-ghost use Rattle.cc_text.specs.LayoutText.{cost_line, register_line, register_lines, layout_answer};
-ghost use Rattle.cc_text.specs.Answers.{answered};
+ghost use Rattle.cc_answers.specs.LayoutText.{cost_line, register_line, register_lines, layout_answer};
+ghost use Rattle.cc_answers.specs.Answers.{answered};
 ghost use Rattle.lay_tree.specs.Search.{answer_lists};
 
 use crate::answer::Answer;

@@ -5,7 +5,7 @@ use Rattle.lay_text.specs.SequenceText.{spaced}
 use Rattle.lay_tree.specs.declared.answer.Answer.{Answer}
 use Rattle.lay_tree.specs.declared.answer.Answer.TheVariants.{Certified, Exhausted}
 use Rattle.lay_tree.specs.Search.{answer_lists}
-use Rattle.cc_text.specs.Answers.{Answered}
+use Rattle.cc_answers.specs.Answers.{Answered}
 
 -- what it costs, and whether nothing costs less
 abbrev pub cost_line : Answer → List ℕ

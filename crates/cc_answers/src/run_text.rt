@@ -1,7 +1,7 @@
 //! The text that a run puts.
 ghost use Rattle.std.specs.Prelude.{◌≡◌, ◌++◌, IfOk, OnOk};
-ghost use Rattle.cc_text.specs.RunText.{trap_name, ending_line, trap_line, running_line, stop_line, stop_status, run_answer};
-ghost use Rattle.cc_text.specs.Answers.{answered};
+ghost use Rattle.cc_answers.specs.RunText.{trap_name, ending_line, trap_line, running_line, stop_line, stop_status, run_answer};
+ghost use Rattle.cc_answers.specs.Answers.{answered};
 
 use crate::answer::Answer;
 use c25_image::{push_decimal, push_hex, write_outs};
@@ -25,7 +25,7 @@ fn trap_name(kind: TrapKind) -> &'static str
 }
 
 /// The line of an ending, without its line feed.
-pub fn push_ending(text: &mut Vec<u8>, ending: Ending) -> Result<(), NoMemory>
+pub(crate) fn push_ending(text: &mut Vec<u8>, ending: Ending) -> Result<(), NoMemory>
     ensures { OnOk result (text.new.items ≡ text.old.items ++ ending_line ending) }
 {
     match ending {
@@ -54,7 +54,7 @@ fn push_trap(text: &mut Vec<u8>, kind: TrapKind, at: u16) -> Result<(), NoMemory
 }
 
 /// The line of a run that went on behind so many of its steps or turns, without its line feed.
-pub fn push_running(text: &mut Vec<u8>, count: u64, what: &str) -> Result<(), NoMemory>
+pub(crate) fn push_running(text: &mut Vec<u8>, count: u64, what: &str) -> Result<(), NoMemory>
     ensures { OnOk result (text.new.items ≡ text.old.items ++ running_line count what.now) }
 {
     text.extend_from_slice(b"running after ")?;

@@ -10,7 +10,7 @@ use Rattle.c25_isa.specs.declared.event.Stop.TheVariants as stop
 use Rattle.c25_image.specs.Hex.{hex4}
 use Rattle.c25_image.specs.Lines.{with_feed}
 use Rattle.c25_image.specs.OutsText.{outs_text}
-use Rattle.cc_text.specs.Answers.{Answered}
+use Rattle.cc_answers.specs.Answers.{Answered}
 
 abbrev pub trap_name : TrapKind → List ℕ
 trap_name trap.BadWord = codes "bad-word"

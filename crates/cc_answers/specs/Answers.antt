@@ -1,6 +1,6 @@
 -- What a command answers that isn't refused: the text that it puts, where it puts one, and its status where all of that is put.
 use Rattle.std.specs.Prelude.{ℕ, List, Option, option_map}
-use Rattle.cc_text.specs.declared.answer.Answer.{Answer}
+use Rattle.cc_answers.specs.declared.answer.Answer.{Answer}
 
 pub record Answered : Type 0 where
   pub text : Option (List ℕ)

@@ -1,6 +1,6 @@
 use Rattle.std.proofs.Common.{◌∙◌, ◌++◌, ap, append_assoc}
 use Rattle.std.specs.Prelude.{decimal}
-use Rattle.cc_text.proofs.run_text.push_running.Goals as goal
+use Rattle.cc_answers.proofs.run_text.push_running.Goals as goal
 
 pub returns : goal.returns
 returns c =

@@ -1,0 +1,5 @@
+pub mod Answers
+pub mod GenText
+pub mod LayoutText
+pub mod MeansText
+pub mod RunText
