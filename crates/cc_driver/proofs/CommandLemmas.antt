@@ -23,14 +23,14 @@ use Rattle.c25_asm.specs.declared.fault.AsmFault.{AsmFault}
 use Rattle.lay_text.specs.Lines.{filled}
 use Rattle.lay_text.proofs.Exact.{sequences_same, says_not_read}
 use Rattle.lay_tree.specs.Search.{search_answer}
-use Rattle.cc_files.specs.cc_text.cc_image.Images.{HasImage, HasFrames}
+use Rattle.cc_files.specs.cc_image.Images.{HasImage, HasFrames}
 use Rattle.lay_cert.specs.Frames.{Frame}
 use Rattle.lay_cert.proofs.Exact.{reads_same as certificates_same, says_not_read as no_certificate}
-use Rattle.cc_files.specs.cc_text.frame_layouts.declared.options.Options.{Options}
-use Rattle.cc_files.proofs.cc_text.cc_image.OneImage.{one as one_image, frames_same}
-use Rattle.cc_files.specs.cc_text.cc_compile.SourceFaults.{HasProgram, IsAccepted}
-use Rattle.cc_files.proofs.cc_text.cc_compile.OneFault.{accepted_no_fault, program_no_fault, same_program}
-use Rattle.cc_files.specs.cc_text.cc_compile.Compiles.{IsBuilt}
+use Rattle.cc_files.specs.frame_layouts.declared.options.Options.{Options}
+use Rattle.cc_files.proofs.cc_image.OneImage.{one as one_image, frames_same}
+use Rattle.cc_files.specs.cc_compile.SourceFaults.{HasProgram, IsAccepted}
+use Rattle.cc_files.proofs.cc_compile.OneFault.{accepted_no_fault, program_no_fault, same_program}
+use Rattle.cc_files.specs.cc_compile.Compiles.{IsBuilt}
 use Rattle.cc_gen.specs.Generated.{generated}
 use Rattle.cc_answers.specs.Answers.{Answered}
 use Rattle.cc_files.specs.cc_text.Refusals.{Why, refusal_status}

@@ -5,12 +5,12 @@ use Rattle.c_tree.specs.SourceRun.{source_run}
 use Rattle.c_tree.specs.TypedTree.{ProgramTree}
 use Rattle.tree_code.specs.Lowered.{lowered_program}
 use Rattle.ir_semantics.specs.Keeps.{tree_run}
-use Rattle.cc_files.specs.cc_text.tree_code_proof.Lowering.{KeepsSource}
+use Rattle.cc_files.specs.tree_code_proof.Lowering.{KeepsSource}
 use Rattle.mem_plan.specs.declared.data_plan.DataPlan.{DataPlan}
-use Rattle.cc_files.specs.cc_text.image_proof.PlanPlaces.{places_of}
+use Rattle.cc_files.specs.image_proof.PlanPlaces.{places_of}
 use Rattle.c25_isa.specs.declared.event.Stop.{Stop}
 use Rattle.c25_isa.specs.declared.event.Stop.TheVariants as stop
-use Rattle.cc_files.specs.cc_text.image_proof.Telling.{TellsOf}
+use Rattle.cc_files.specs.image_proof.Telling.{TellsOf}
 use Rattle.cc_answers.specs.GenText.{gen_answer}
 use Rattle.cc_answers.specs.RunText.{stop_status}
 use Rattle.cc_driver.specs.Telling.{StatusTells}

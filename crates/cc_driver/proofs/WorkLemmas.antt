@@ -17,8 +17,8 @@ use Rattle.lay_text.specs.declared.fault.SeqFault.TheVariants as sequence_faults
 use Rattle.lay_cert.specs.CertReading.{Says as CertificateSays}
 use Rattle.lay_cert.specs.declared.fault.CertFault.{CertFault}
 use Rattle.lay_cert.specs.declared.fault.CertFault.TheVariants as certificate_faults
-use Rattle.cc_files.specs.cc_text.cc_compile.declared.fault.BuildFault.{BuildFault}
-use Rattle.cc_files.specs.cc_text.cc_compile.declared.fault.BuildFault.TheVariants as build_faults
+use Rattle.cc_files.specs.cc_compile.declared.fault.BuildFault.{BuildFault}
+use Rattle.cc_files.specs.cc_compile.declared.fault.BuildFault.TheVariants as build_faults
 use Rattle.cc_answers.specs.declared.answer.Answer.{Answer}
 use Rattle.cc_files.specs.cc_text.declared.refusal.Refusal.{Refusal}
 use Rattle.cc_answers.specs.Answers.{Answered, answered}

@@ -2,7 +2,7 @@
 use Rattle.std.specs.Prelude.{ℕ, List, [], ◌∷◌, Some, string_bytes}
 use Rattle.cc_words.specs.Asked.{Asked, ToBuild}
 use Rattle.cc_words.specs.declared.build.Build.{Build}
-use Rattle.cc_files.specs.cc_text.frame_layouts.declared.options.Options.{Options}
+use Rattle.cc_files.specs.frame_layouts.declared.options.Options.{Options}
 use Rattle.cc_answers.specs.Answers.{Answered}
 use Rattle.cc_driver.specs.declared.build.Texts.{Texts}
 use Rattle.cc_files.specs.Stores.{Stored}

@@ -3,9 +3,9 @@ use Rattle.std.specs.Prelude.{◌≡◌, ℕ, List}
 use Rattle.c25_isa.specs.Image.{Contents}
 use Rattle.c25_image.specs.PortText.{PortText}
 use Rattle.lay_cert.specs.Frames.{Frame}
-use Rattle.cc_files.specs.cc_text.cc_compile.declared.fault.BuildFault.{BuildFault}
-use Rattle.cc_files.specs.cc_text.cc_compile.SourceFaults.{HasFault}
-use Rattle.cc_files.specs.cc_text.cc_compile.Compiles.{IsBuilt}
+use Rattle.cc_files.specs.cc_compile.declared.fault.BuildFault.{BuildFault}
+use Rattle.cc_files.specs.cc_compile.SourceFaults.{HasFault}
+use Rattle.cc_files.specs.cc_compile.Compiles.{IsBuilt}
 use Rattle.cc_answers.specs.Answers.{Answered}
 use Rattle.cc_files.specs.cc_text.Refusals.{Why, OfSource}
 use Rattle.cc_driver.specs.Build.{plain_options}

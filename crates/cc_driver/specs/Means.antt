@@ -4,8 +4,8 @@ use Rattle.word_base.specs.Ports.{input_of}
 use Rattle.c_tree.specs.TypedTree.{ProgramTree}
 use Rattle.c_tree.specs.SourceRun.{source_run}
 use Rattle.c25_image.specs.PortText.{PortText}
-use Rattle.cc_files.specs.cc_text.cc_compile.declared.fault.BuildFault.{BuildFault}
-use Rattle.cc_files.specs.cc_text.cc_compile.SourceFaults.{HasProgram, HasNoProgramFor}
+use Rattle.cc_files.specs.cc_compile.declared.fault.BuildFault.{BuildFault}
+use Rattle.cc_files.specs.cc_compile.SourceFaults.{HasProgram, HasNoProgramFor}
 use Rattle.cc_answers.specs.Answers.{Answered}
 use Rattle.cc_files.specs.cc_text.Refusals.{Why, OfSource}
 use Rattle.cc_answers.specs.MeansText.{means_answer}

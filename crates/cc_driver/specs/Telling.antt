@@ -10,9 +10,9 @@ use Rattle.c25_isa.specs.declared.event.Stop.{Stop}
 use Rattle.c25_isa.specs.declared.event.Stop.TheVariants as stop
 use Rattle.ir_semantics.specs.Keeps.{Ended, tree_run}
 use Rattle.mem_plan.specs.declared.data_plan.DataPlan.{DataPlan}
-use Rattle.cc_files.specs.cc_text.frame_emit.Startup.{static_words}
-use Rattle.cc_files.specs.cc_text.image_proof.PlanPlaces.{places_of}
-use Rattle.cc_files.specs.cc_text.image_proof.Telling.{EndsSo, IsUndefined}
+use Rattle.cc_files.specs.frame_emit.Startup.{static_words}
+use Rattle.cc_files.specs.image_proof.PlanPlaces.{places_of}
+use Rattle.cc_files.specs.image_proof.Telling.{EndsSo, IsUndefined}
 
 -- so many steps are within the bound for a program that ends so: 1,000, 16 for each word of static objects and their spare words, and 64 for each unit of
 -- work, which is that of the program's word tree

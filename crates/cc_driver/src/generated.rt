@@ -1,6 +1,6 @@
 //! `gen N`.
 ghost use Rattle.std.specs.Prelude.{◌≢◌, ◌≤◌, length, [], IfOk, IfErr};
-ghost use Rattle.cc_files.specs.cc_text.cc_compile.Compiles.{IsBuilt};
+ghost use Rattle.cc_files.specs.cc_compile.Compiles.{IsBuilt};
 ghost use Rattle.cc_gen.specs.Generated.{generated};
 ghost use Rattle.cc_words.specs.Asked.{ToGenerate};
 ghost use Rattle.cc_words.specs.Plain.{IsWithinBounds};

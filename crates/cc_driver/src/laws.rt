@@ -2,7 +2,7 @@
 ghost use Rattle.std.specs.Prelude.{◌≡◌, ◌<◌, ◌≤◌, ◌^◌, ◌++◌, ℕ, List, [], Some, codes, decimal};
 ghost use Rattle.word_base.specs.Ports.{input_of};
 ghost use Rattle.c25_sim.specs.Taken.{of_sixteen};
-ghost use Rattle.cc_files.specs.cc_text.image_proof.Telling.{TellsOf};
+ghost use Rattle.cc_files.specs.image_proof.Telling.{TellsOf};
 ghost use Rattle.lay_model.specs.Sequences.{Sequence};
 ghost use Rattle.lay_cost.specs.Cost.{Least};
 ghost use Rattle.lay_text.specs.SequenceReading.{Reads};

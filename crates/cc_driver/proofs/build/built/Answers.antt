@@ -1,7 +1,7 @@
 use Rattle.std.proofs.Common.{◌≢◌, ◌<◌, ◌∙◌, length, ap, refl, sym, subst, arith, rules}
 use Rattle.std.specs.Prelude.{◌^◌}
 use Rattle.cc_report.specs.Report.{report_lines}
-use Rattle.cc_files.specs.cc_text.frame_layouts.Frames.{AreOptions}
+use Rattle.cc_files.specs.frame_layouts.Frames.{AreOptions}
 use Rattle.cc_files.specs.cc_text.Refusals.{OfMemory, of_build_fault}
 use Rattle.cc_driver.specs.Build.{IsRefusedFor}
 use Rattle.cc_driver.specs.BuildTexts.{options_of}
