@@ -7,5 +7,4 @@ mod pieces;
 mod search;
 
 pub use job::Job;
-pub use lay_search::search;
 pub use search::search_all;

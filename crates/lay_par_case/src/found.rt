@@ -1,6 +1,7 @@
 //! What the two searches find.
 use lay_model::Sequence;
-use lay_par::{Job, search, search_all};
+use lay_par::{Job, search_all};
+use lay_search::search;
 use lay_text::{SeqFault, read_sequence};
 use lay_tree::Answer;
 use meeting_gate::Meeting;
