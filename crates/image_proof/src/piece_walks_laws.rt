@@ -1,5 +1,5 @@
 //! Laws of the walks of pieces. The calls do nothing: their clauses are what crates above cite.
-ghost use Rattle.std.specs.Prelude.{◌≡◌, ℕ, Bool, true, List, map, sum_by, Option, None};
+ghost use Rattle.std.specs.Prelude.{[], ◌≡◌, ℕ, Bool, true, List, map, sum_by, Option, None};
 ghost use Rattle.c_tree.specs.declared.program.VarRef.{VarRef};
 ghost use Rattle.c25_isa.specs.Image.{Contents};
 ghost use Rattle.c25_isa.specs.Pieces.{Piece, mark_address, piece_address, items_code};
