@@ -6,7 +6,7 @@ use Rattle.std.specs.Char.{digit_value}
 use Rattle.std.proofs.Math.Nat.{mul-le-mul_right, pow-le-pow_right, pow-zero, pow-succ', mul_assoc}
 use Rattle.c_syntax.specs.Constants.{AreDigits, number_of, greatest_value, beside, escapes, IsItem, Plain, Escape, OctalEscape, HexEscape, IsCharacter}
 use Rattle.c_syntax.proofs.Digits.{same_run, no_digit}
-use Rattle.c_lexer.proofs.ListLemmas.{first_is, rest_is}
+use Rattle.c_spellings.proofs.ListLemmas.{first_is, rest_is}
 use Rattle.c_lexer.specs.Front.{HasNoQuote, IsHeadSize, HasNoItem, IsQuoted, IsBehindCharacter}
 
 -- so many digits of a base stand for less than this power of it

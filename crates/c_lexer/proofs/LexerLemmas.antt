@@ -7,7 +7,8 @@ use Rattle.c_syntax.specs.Lexes.{pieces_text, ReadsTo, Lexes, most_tokens}
 use Rattle.c_syntax.proofs.Reading.{reads_blank, reads_token}
 use Rattle.c_lexer.specs.declared.fault.LexFault.{LexFault}
 use Rattle.c_lexer.specs.declared.fault.LexFault.TheVariants as faults
-use Rattle.c_lexer.specs.Front.{IsBehindBlank, IsToken}
+use Rattle.c_spellings.specs.Front.{IsBehindBlank}
+use Rattle.c_lexer.specs.Front.{IsToken}
 use Rattle.c_lexer.specs.LexFaults.{HasTooMany, Says}
 use Rattle.c_lexer.proofs.OneAnswer.{lexes_not_says}
 

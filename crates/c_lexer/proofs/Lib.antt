@@ -1,9 +1,4 @@
-pub mod ListLemmas
 pub mod OneAnswer
-pub mod MarkLemmas
-pub mod BlankLemmas
-pub mod DigitLemmas
-pub mod NumberLemmas
 pub mod CharacterLemmas
 pub mod ScannerLemmas
 pub mod LexerLemmas

@@ -13,9 +13,10 @@ use Rattle.c_syntax.specs.Lexes.{OpensComment, IsLongest}
 use Rattle.c_syntax.proofs.Characters.{character_one}
 use Rattle.c_syntax.proofs.Sorts.{Letter, Digit, Quote, Sign, sort_of, text_sort, letter_sort, digit_sort, mark_sort}
 use Rattle.c_syntax.proofs.Spellings.{character_sort, word_text_sort, number_text_sort, spelling_front, quote_spelling}
-use Rattle.c_lexer.specs.Front.{BeginsWith, IsQuote, IsSign, HasNoBlank, IsFrontRun, IsBehindCharacter, IsBehindMark, IsToken}
+use Rattle.c_spellings.specs.Front.{HasNoBlank, IsBehindMark}
+use Rattle.c_lexer.specs.Front.{BeginsWith, IsQuote, IsSign, IsFrontRun, IsBehindCharacter, IsToken}
 use Rattle.c_lexer.specs.LexFaults.{HasBadByte, HasOpenComment, HasBadNumber, HasBadQuote, HasLongName}
-use Rattle.c_lexer.proofs.BlankLemmas.{no_blank_no_end}
+use Rattle.c_spellings.proofs.BlankLemmas.{no_blank_no_end}
 
 -- each spelling at the front begins with a byte of the same sort
 other_sort : (text other behind : List ℕ) → text ≡ other ++ behind → IsSpelling other → text_sort other ≡ text_sort text

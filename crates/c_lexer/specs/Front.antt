@@ -1,13 +1,11 @@
 -- What stands at the front of a text, and what is behind it: the parts in which a text is read.
-use Rattle.std.specs.Prelude.{◌≡◌, ◌≢◌, ◌⊎◌, ℕ, ◌≤◌, Bool, true, List, [], ◌∷◌, ◌++◌, length}
+use Rattle.std.specs.Prelude.{◌≡◌, ◌≢◌, ◌⊎◌, ℕ, List, [], ◌∷◌, ◌++◌, length}
 use Rattle.std.specs.List.{AllByRecursion}
 use Rattle.word_base.specs.Name.{IsNamePart}
-use Rattle.c_syntax.specs.declared.token.Punct.{Punct}
 use Rattle.c_syntax.specs.declared.token.TokenKind.{TokenKind}
-use Rattle.c_syntax.specs.FixedTexts.{mark_text}
-use Rattle.c_syntax.specs.Constants.{IsItem, IsCharacter, IsSuffix}
+use Rattle.c_syntax.specs.Constants.{IsItem, IsCharacter}
 use Rattle.c_syntax.specs.Spelling.{Means}
-use Rattle.c_syntax.specs.Lexes.{HasNoCommentEnd, IsBlank, IsLongest}
+use Rattle.c_syntax.specs.Lexes.{IsLongest}
 
 -- the first byte is of a kind
 abbrev pub BeginsWith : (ℕ → Type 0) → List ℕ → Type 0
@@ -19,22 +17,6 @@ IsQuote c = c ≡ 39
 -- neither a part of a name nor a quote
 abbrev pub IsSign : ℕ → Type 0
 IsSign c = (IsNamePart c → ⊥) × (c ≢ 39)
-
--- no blank stands at the front
-abbrev pub HasNoBlank : List ℕ → Type 0
-HasNoBlank text = (blank rest : List ℕ) → text ≡ blank ++ rest → IsBlank blank → ⊥
-
--- behind the first `*/`
-pub record IsBehindCommentEnd (text rest : List ℕ) : Type 0 where
-  pub inside : List ℕ
-  pub whole : text ≡ inside ++ 42 ∷ 47 ∷ rest
-  pub next : HasNoCommentEnd (inside ++ 42 ∷ [])
-
--- behind a blank
-pub record IsBehindBlank (text rest : List ℕ) : Type 0 where
-  pub blank : List ℕ
-  pub front : text ≡ blank ++ rest
-  pub is : IsBlank blank
 
 -- no byte is a quote
 abbrev pub HasNoQuote : List ℕ → Type 0
@@ -59,11 +41,6 @@ pub record IsBehindCharacter (text : List ℕ) (value : ℕ) (rest : List ℕ) :
   pub front : text ≡ spelling ++ rest
   pub is : IsCharacter spelling value
 
--- behind a mark, and no longer mark stands at the front
-pub record IsBehindMark (text : List ℕ) (mark : Punct) (rest : List ℕ) : Type 0 where
-  pub front : text ≡ mark_text mark ++ rest
-  pub longest : (other : Punct) (behind : List ℕ) → text ≡ mark_text other ++ behind → length (mark_text other) ≤ length (mark_text mark)
-
 -- the longest spelling at the front has so many bytes, and this meaning
 pub record IsToken (text : List ℕ) (kind : TokenKind) (size : ℕ) : Type 0 where
   pub spelling : List ℕ
@@ -72,24 +49,6 @@ pub record IsToken (text : List ℕ) (kind : TokenKind) (size : ℕ) : Type 0 wh
   pub sized : size ≡ length spelling
   pub longest : IsLongest spelling rest
   pub means : Means spelling kind
-
--- a mark of so many characters stands before a rest
-pub record IsMarkOf (size : ℕ) (text : List ℕ) (mark : Punct) (rest : List ℕ) : Type 0 where
-  pub sized : length (mark_text mark) ≡ size
-  pub front : text ≡ mark_text mark ++ rest
-
--- a text without the u or U at its end, and whether there is one
-pub record IsWithoutSuffix (text bare : List ℕ) (marked : Bool) : Type 0 where
-  pub suffix : List ℕ
-  pub joined : text ≡ bare ++ suffix
-  pub ends : IsSuffix marked suffix
-  pub all : (front last : List ℕ) → text ≡ front ++ last → IsSuffix true last → marked ≡ true
-
--- the digits of a text and their base, by how the text begins
-pub data IsWithoutPrefix (text digits : List ℕ) (base : ℕ) : Type 0 where
-  Sixteen : (x : ℕ) → text ≡ 48 ∷ x ∷ digits → (x ≡ 120) ⊎ (x ≡ 88) → base ≡ 16 → IsWithoutPrefix text digits base
-  Eight : (rest : List ℕ) → text ≡ 48 ∷ rest → ((tail : List ℕ) → text ≢ 48 ∷ 120 ∷ tail) → ((tail : List ℕ) → text ≢ 48 ∷ 88 ∷ tail) → digits ≡ text → base ≡ 8 → IsWithoutPrefix text digits base
-  Ten : ((rest : List ℕ) → text ≢ 48 ∷ rest) → digits ≡ text → base ≡ 10 → IsWithoutPrefix text digits base
 
 -- bytes of a kind stand at the front, and none behind them
 pub record IsFrontRun (Part : ℕ → Type 0) (text run rest : List ℕ) : Type 0 where

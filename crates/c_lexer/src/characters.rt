@@ -3,8 +3,7 @@ ghost use Rattle.std.specs.Prelude.{◌≡◌, ◌≢◌, ◌≤◌, ◌^◌, []
 ghost use Rattle.c_syntax.specs.Constants.{AreDigits, number_of, beside, escapes, IsItem, IsCharacter};
 ghost use Rattle.c_lexer.specs.Front.{HasNoQuote, IsHeadSize, HasNoItem, IsQuoted, IsBehindCharacter};
 
-use crate::digits::digits_value;
-use crate::prefix::behind;
+use c_spellings::{behind, digits_value};
 
 /// The most octal digits of an escape.
 const OCTAL_DIGITS: usize = 3;

@@ -2,14 +2,14 @@
 ghost use Rattle.std.specs.Prelude.{◌≡◌, ◌≢◌, ◌<◌, ◌≤◌, ◌^◌, ℕ, List, length, IfOk, IfErr, MatchResult};
 ghost use Rattle.c_syntax.specs.declared.token.Token.{Token};
 ghost use Rattle.c_syntax.specs.Lexes.{Lexes, ReadsTo, most_tokens};
-ghost use Rattle.c_lexer.specs.Front.{HasNoBlank};
+ghost use Rattle.c_spellings.specs.Front.{HasNoBlank};
 ghost use Rattle.c_lexer.specs.LexFaults.{Says};
 ghost use Rattle.c_lexer.specs.declared.fault.LexFault.{LexFault};
 ghost use Rattle.c_lexer.specs.declared.fault.LexFault.TheVariants as lex_faults;
 
-use crate::blank::behind_blank;
 use crate::fault::LexFault;
 use crate::scanner::token;
+use c_spellings::behind_blank;
 use c_syntax::{MOST_TOKENS, Token};
 use std::alloc::Global;
 

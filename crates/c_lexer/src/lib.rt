@@ -4,26 +4,18 @@
 //! each spelling is the longest that begins at its place. A refusal names the first fault in the text.
 #![tactic(auto)]
 
-mod blank;
 mod characters;
-mod digits;
 mod fault;
-mod keywords;
 mod laws;
 mod lexer;
-mod marks;
-mod numbers;
-mod prefix;
 mod runs;
 mod scanner;
 mod words;
 
-pub use blank::behind_blank;
+pub use c_fixed_texts::keyword;
+pub use c_spellings::{behind_blank, mark, number};
 pub use characters::character;
 pub use fault::LexFault;
-pub use keywords::keyword;
 pub use laws::one_outcome;
 pub use lexer::lex;
-pub use marks::mark;
-pub use numbers::number;
 pub use words::word;

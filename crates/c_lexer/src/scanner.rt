@@ -2,16 +2,15 @@
 ghost use Rattle.std.specs.Prelude.{◌<◌, length, IfOk, IfErr};
 ghost use Rattle.word_base.specs.Name.{IsNameStart};
 ghost use Rattle.c_syntax.specs.Spelling.{IsDigit};
-ghost use Rattle.c_lexer.specs.Front.{HasNoBlank, BeginsWith, IsToken, IsQuote, IsSign};
+ghost use Rattle.c_spellings.specs.Front.{HasNoBlank};
+ghost use Rattle.c_lexer.specs.Front.{BeginsWith, IsToken, IsQuote, IsSign};
 ghost use Rattle.c_lexer.specs.LexFaults.{HasFlaw};
 
 use crate::characters::character;
 use crate::fault::Flaw;
-use crate::marks::mark;
-use crate::numbers::number;
-use crate::prefix::behind;
 use crate::runs::{name_run, number_run};
 use crate::words::word;
+use c_spellings::{behind, mark, number};
 use c_syntax::TokenKind;
 use std::alloc::Global;
 use word_base::is_name_start;

@@ -2,7 +2,7 @@
 ghost use Rattle.std.specs.Prelude.{◌<◌, length, IfOk, MatchOption};
 ghost use Rattle.c_syntax.specs.Spelling.{IsNameRun, Means};
 
-use crate::keywords::keyword;
+use c_fixed_texts::keyword;
 use c_syntax::TokenKind;
 use std::alloc::Global;
 use word_base::{NoMemory, Text, name_text};

@@ -1,5 +1,5 @@
-use Rattle.c_lexer.proofs.NumberLemmas.{lower_x, upper_x, zero_first}
-use Rattle.c_lexer.proofs.numbers.without_prefix.Goals as goal
+use Rattle.c_spellings.proofs.NumberLemmas.{lower_x, upper_x, zero_first}
+use Rattle.c_spellings.proofs.numbers.without_prefix.Goals as goal
 
 pub returns-in-Some : goal.returns-in-Some
 returns-in-Some c = lower_x c.args.text.now c.in-Some.digits.now c.in-Some.ensures

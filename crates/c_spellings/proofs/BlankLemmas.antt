@@ -5,8 +5,8 @@ use Rattle.std.proofs.str.Laws.{order}
 use Rattle.std.proofs.lemmas.Bool.{cases_eq}
 use Rattle.c_syntax.specs.Lexes.{HasNoCommentEnd, IsSpace, OpensComment}
 use Rattle.c_syntax.proofs.Spellings.{same_length_fronts}
-use Rattle.c_lexer.proofs.ListLemmas.{first_is, rest_is}
-use Rattle.c_lexer.specs.Front.{HasNoBlank, IsBehindCommentEnd, IsBehindBlank}
+use Rattle.c_spellings.proofs.ListLemmas.{first_is, rest_is}
+use Rattle.c_spellings.specs.Front.{HasNoBlank, IsBehindCommentEnd, IsBehindBlank}
 
 -- each `*/` in the text stands in its rest
 pub record PassesNoEnd (text rest : List ℕ) : Type 0 where

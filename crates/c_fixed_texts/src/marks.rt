@@ -1,13 +1,12 @@
-//! Marks.
-ghost use Rattle.std.specs.Prelude.{◌≡◌, ◌≢◌, ◌++◌, ℕ, List, length, MatchOption};
+//! Marks, by how many characters they have.
+ghost use Rattle.std.specs.Prelude.{ℕ, List, MatchOption};
 ghost use Rattle.c_syntax.specs.declared.token.Punct.{Punct};
-ghost use Rattle.c_syntax.specs.FixedTexts.{mark_text};
-ghost use Rattle.c_lexer.specs.Front.{IsBehindMark, IsMarkOf};
+ghost use Rattle.c_fixed_texts.specs.Marks.{IsMarkOf};
 
 use c_syntax::Punct;
 
-// The mark of three characters at the front, and what stands behind it.
-fn mark_of_three(bytes: &[u8]) -> Option<(Punct, &[u8])>
+/// The mark of three characters at the front, and what stands behind it.
+pub fn mark_of_three(bytes: &[u8]) -> Option<(Punct, &[u8])>
     ensures { MatchOption result
         ((p : Punct) (rest : List ℕ) → IsMarkOf 3 bytes.now p rest → ⊥)
         (λ found. IsMarkOf 3 bytes.now found.0 found.1.now) }
@@ -20,8 +19,8 @@ fn mark_of_three(bytes: &[u8]) -> Option<(Punct, &[u8])>
     }
 }
 
-// The mark of two characters at the front, and what stands behind it.
-fn mark_of_two(bytes: &[u8]) -> Option<(Punct, &[u8])>
+/// The mark of two characters at the front, and what stands behind it.
+pub fn mark_of_two(bytes: &[u8]) -> Option<(Punct, &[u8])>
     ensures { MatchOption result
         ((p : Punct) (rest : List ℕ) → IsMarkOf 2 bytes.now p rest → ⊥)
         (λ found. IsMarkOf 2 bytes.now found.0 found.1.now) }
@@ -50,8 +49,8 @@ fn mark_of_two(bytes: &[u8]) -> Option<(Punct, &[u8])>
     }
 }
 
-// The mark of one character at the front, and what stands behind it.
-fn mark_of_one(bytes: &[u8]) -> Option<(Punct, &[u8])>
+/// The mark of one character at the front, and what stands behind it.
+pub fn mark_of_one(bytes: &[u8]) -> Option<(Punct, &[u8])>
     ensures { MatchOption result
         ((p : Punct) (rest : List ℕ) → IsMarkOf 1 bytes.now p rest → ⊥)
         (λ found. IsMarkOf 1 bytes.now found.0 found.1.now) }
@@ -83,20 +82,4 @@ fn mark_of_one(bytes: &[u8]) -> Option<(Punct, &[u8])>
         [b'=', rest @ ..] => Some((Punct::Assign, rest)),
         _ => None,
     }
-}
-
-/// The longest mark at the front, and what stands behind it.
-#[tactic(auto, using(crate::proofs::MarkLemmas::mark_size))]
-pub fn mark(bytes: &[u8]) -> Option<(Punct, &[u8])>
-    ensures { MatchOption result
-        ((p : Punct) (rest : List ℕ) → bytes.now ≢ mark_text p ++ rest)
-        (λ found. IsBehindMark bytes.now found.0 found.1.now) }
-{
-    if let Some(found) = mark_of_three(bytes) {
-        return Some(found);
-    }
-    if let Some(found) = mark_of_two(bytes) {
-        return Some(found);
-    }
-    mark_of_one(bytes)
 }

@@ -1,7 +1,7 @@
 //! Blanks: spaces and comments.
 ghost use Rattle.std.specs.Prelude.{◌↔◌, MatchOption, IsTrue};
 ghost use Rattle.c_syntax.specs.Lexes.{HasNoCommentEnd, IsSpace};
-ghost use Rattle.c_lexer.specs.Front.{HasNoBlank, IsBehindCommentEnd, IsBehindBlank};
+ghost use Rattle.c_spellings.specs.Front.{HasNoBlank, IsBehindCommentEnd, IsBehindBlank};
 
 use crate::prefix::behind;
 

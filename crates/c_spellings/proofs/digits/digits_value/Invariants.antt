@@ -1,6 +1,6 @@
 use Rattle.std.proofs.Common.{length}
-use Rattle.c_lexer.proofs.DigitLemmas.{DigitsSoFar}
-use Rattle.c_lexer.proofs.digits.digits_value.Given as goal
+use Rattle.c_spellings.proofs.DigitLemmas.{DigitsSoFar}
+use Rattle.c_spellings.proofs.digits.digits_value.Given as goal
 
 abbrev pub invariant-loop-first : goal.invariant-loop-first
 invariant-loop-first l = DigitsSoFar l.radix l.text l.value l.rest

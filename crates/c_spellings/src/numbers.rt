@@ -2,7 +2,7 @@
 ghost use Rattle.std.specs.Prelude.{ℕ, Bool, MatchOption};
 ghost use Rattle.c_syntax.specs.Constants.{IsNumber};
 ghost use Rattle.c_syntax.specs.Spelling.{Means};
-ghost use Rattle.c_lexer.specs.Front.{IsWithoutSuffix, IsWithoutPrefix};
+ghost use Rattle.c_spellings.specs.Front.{IsWithoutSuffix, IsWithoutPrefix};
 
 use crate::digits::digits_value;
 use crate::prefix::behind;

@@ -5,9 +5,9 @@ use Rattle.std.specs.List.{AllByRecursion}
 use Rattle.std.specs.Char.{digit_value}
 use Rattle.c_syntax.specs.Constants.{AreDigits, number_of, Radix, Decimal, Octal, Hexadecimal, IsBare, IsSuffix, greatest_value, IsNumber}
 use Rattle.c_syntax.proofs.Digits.{no_digit}
-use Rattle.c_lexer.specs.Front.{IsWithoutSuffix, IsWithoutPrefix, Sixteen, Eight, Ten}
+use Rattle.c_spellings.specs.Front.{IsWithoutSuffix, IsWithoutPrefix, Sixteen, Eight, Ten}
 use Rattle.c_syntax.proofs.Spellings.{same_length_fronts}
-use Rattle.c_lexer.proofs.ListLemmas.{first_is, rest_is}
+use Rattle.c_spellings.proofs.ListLemmas.{first_is, rest_is}
 
 -- 0x and 0X stand before digits of base 16, and another 0 is an octal digit
 pub lower_x : (text digits : List ℕ) → text ≡ 48 ∷ 120 ∷ digits → IsWithoutPrefix text digits 16

@@ -4,7 +4,7 @@ ghost use Rattle.c_syntax.specs.Constants.{AreDigits, number_of, greatest_value}
 
 /// The number that the digits stand for, or 4,294,967,295 where that is greater.
 #[tactic(auto, using(crate::proofs::DigitLemmas::nothing_read, crate::proofs::DigitLemmas::reads_one, crate::proofs::DigitLemmas::reads_all, crate::proofs::DigitLemmas::stops_reading, crate::proofs::DigitLemmas::none_to_read))]
-pub(crate) fn digits_value(text: &[u8], radix: u32) -> Option<u32>
+pub fn digits_value(text: &[u8], radix: u32) -> Option<u32>
     requires at_least_two { 2 ≤ radix }
     requires at_most_36 { radix ≤ 36 }
     ensures { MatchOption result (AreDigits radix text.now → ⊥)

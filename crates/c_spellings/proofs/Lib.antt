@@ -1,0 +1,5 @@
+pub mod ListLemmas
+pub mod MarkLemmas
+pub mod BlankLemmas
+pub mod DigitLemmas
+pub mod NumberLemmas
