@@ -14,7 +14,7 @@ use Rattle.c_syntax.specs.SyntaxView.{expression_of, trees_of}
 use Rattle.c_syntax.proofs.Parsing.ReadsOne.{one_reading}
 use Rattle.c_expressions.specs.declared.parser.Parsed.{Parsed}
 use Rattle.c_expressions.specs.declared.parser.Arguments.{Arguments}
-use Rattle.c_expressions.specs.Front.{behind, kind_mark, mark_at}
+use Rattle.c_cursor.specs.Front.{behind, kind_mark, mark_at}
 use Rattle.c_expressions.specs.Parses.{read, IsParsed, AreRead}
 use Rattle.c_expressions.proofs.Words.{is_first, behind_shorter}
 

@@ -19,14 +19,14 @@ use Rattle.c_syntax.specs.Measures.{expression_height, form_height, greatest_hei
 use Rattle.c_syntax.specs.SyntaxView.{expression_of, form_of, trees_of}
 use Rattle.c_expressions.specs.declared.parser.Parsed.{Parsed}
 use Rattle.c_expressions.specs.declared.parser.Arguments.{Arguments}
-use Rattle.c_expressions.specs.Front.{behind, kind_at, kind_mark, kind_word, mark_at, word_at, name_at, is_open, is_there, opens, opens_type}
+use Rattle.c_cursor.specs.Front.{behind, kind_at, kind_mark, kind_word, mark_at, word_at, name_at, is_open, is_there, opens, opens_type}
 use Rattle.c_expressions.specs.Operators.{step_at, prefix_at}
 use Rattle.c_expressions.specs.Parses.{AtPrimary, Up, read, IsMeasured, IsParsed, IsOperand, IsBehind, IsNode, IsConstant, constant_form, constant_at, ReadsType, ReadsClosed, AreRead}
 use Rattle.c_expressions.proofs.Words.{is_first, behind_shorter}
 use Rattle.c_expressions.proofs.Nexts.{next_at, next_is, no_cast, no_unary, no_primary, step_stands}
 use Rattle.c_expressions.proofs.Rows.{node_measured}
 use Rattle.c_expressions.proofs.Parens.{operand_by}
-use Rattle.c_expressions.proofs.TakesLemmas.{kind_worded, kind_named}
+use Rattle.c_cursor.proofs.TakesLemmas.{kind_worded, kind_named}
 
 -- ---- a type in parentheses
 

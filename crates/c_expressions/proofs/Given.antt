@@ -1,11 +1,11 @@
 -- How a refusal goes out of a function that reads a part of an expression.
 use Rattle.std.proofs.Common.{◌≡◌, sym, subst}
 use Rattle.std.specs.Prelude.{Result, Ok, Err, IsErrAnd}
-use Rattle.c_expressions.specs.declared.fault.Refusal.{Refusal}
-use Rattle.c_expressions.specs.declared.fault.Refusal.TheVariants as refusals
+use Rattle.c_cursor.specs.declared.fault.Refusal.{Refusal}
+use Rattle.c_cursor.specs.declared.fault.Refusal.TheVariants as refusals
 use Rattle.c_expressions.specs.Yields.{Yields}
-use Rattle.c_expressions.specs.Refusals.{Refuses}
-use Rattle.c_expressions.proofs.Refusals.{refuses, refuses_all}
+use Rattle.c_cursor.specs.Refusals.{Refuses}
+use Rattle.c_cursor.proofs.Refusals.{refuses, refuses_all}
 
 -- by `?`: a part's refusal, a refusal for what is known, and want of memory
 pub given_refused : {T : Type 0} {R : T → Type 0} {P Q : Type 0} (f : Refusal) (r : Result T Refusal) → IsErrAnd r (λ e. e ≡ f) → Refuses P f → (P → Q) → Yields R Q r

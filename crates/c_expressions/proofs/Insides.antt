@@ -8,7 +8,7 @@ use Rattle.c_syntax.specs.Lookahead.{IndexNext, StepNext, next_mark, next_kind, 
 use Rattle.c_syntax.specs.Reads.{Reading, reading, PassTo, first_of, Reads, Both, Starts, PassFirst, More, Stop, CommaMore, AssignMore, AssignOpMore, QuestionMore, OrMore, AndMore, BinaryMore, IndexMore, StepMore}
 use Rattle.c_syntax.specs.Measures.{expression_height}
 use Rattle.c_syntax.proofs.Parsing.ReadsOne.{one_more}
-use Rattle.c_expressions.specs.Front.{behind, kind_mark, mark_at}
+use Rattle.c_cursor.specs.Front.{behind, kind_mark, mark_at}
 use Rattle.c_expressions.specs.Operators.{step_at}
 use Rattle.c_expressions.proofs.Words.{is_first}
 use Rattle.c_expressions.proofs.Nexts.{step_stands}

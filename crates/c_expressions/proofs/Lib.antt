@@ -1,4 +1,3 @@
-pub mod Refusals
 pub mod Parts
 pub mod Arguments
 pub mod Firsts
@@ -10,5 +9,4 @@ pub mod Words
 pub mod Insides
 pub mod OperandsRefuse
 pub mod WholeWays
-pub mod TakesLemmas
 pub mod Given

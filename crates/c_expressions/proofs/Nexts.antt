@@ -18,7 +18,7 @@ use Rattle.c_expressions.specs.declared.operators.Infix.{Infix}
 use Rattle.c_expressions.specs.declared.operators.Infix.TheVariants as between
 use Rattle.c_expressions.specs.declared.operators.Assignment.{Assignment}
 use Rattle.c_expressions.specs.declared.operators.Assignment.TheVariants as assignment
-use Rattle.c_expressions.specs.Front.{behind, kind_mark, mark_at}
+use Rattle.c_cursor.specs.Front.{behind, kind_mark, mark_at}
 use Rattle.c_expressions.specs.Operators.{level_row, binary_level, next_infix, infix_form, next_assignment, assignment_form, IsInfix, step_at}
 use Rattle.c_expressions.proofs.Words.{is_first}
 

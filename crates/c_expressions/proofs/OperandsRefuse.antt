@@ -21,7 +21,7 @@ use Rattle.c_syntax.proofs.Parsing.Lookahead.{is_next, call_starts, paren_starts
 use Rattle.c_syntax.proofs.Parsing.Types.{NoStarNext, no_star_other, specs_one, stars_one}
 use Rattle.c_syntax.proofs.Parsing.ReadsOne.{one_reading, one_start}
 use Rattle.c_expressions.specs.declared.parser.Parsed.{Parsed}
-use Rattle.c_expressions.specs.Front.{behind, kind_mark, kind_name, mark_at, word_at, name_at, opens_type}
+use Rattle.c_cursor.specs.Front.{behind, kind_mark, kind_name, mark_at, word_at, name_at, opens_type}
 use Rattle.c_expressions.specs.Operators.{step_at, prefix_at}
 use Rattle.c_expressions.specs.Parses.{Climbs, AtPrimary, Up, read, IsMeasured, IsParsed, IsOperand, constant_form, constant_at, ReadsType, ReadsClosed, Opened, NoneOpened, OneOpened, NoReading, NoOperand, NoneBehind, NoArguments, NotClosed}
 use Rattle.c_expressions.proofs.Words.{is_first}
@@ -31,7 +31,7 @@ use Rattle.c_expressions.proofs.Rows.{BehindSoFar}
 use Rattle.c_expressions.proofs.Insides.{expression_some, more_higher, alone_same, stands_alone, passes_to, Indexed, index_inside, step_inside}
 use Rattle.c_expressions.proofs.Parens.{last_opened, some_not_none, ParenState, Inside, Closed, closed_by}
 use Rattle.c_expressions.proofs.Arguments.{ArgumentsSoFar, ArgumentsFrom, first_argument}
-use Rattle.c_expressions.proofs.TakesLemmas.{kind_named, kind_worded}
+use Rattle.c_cursor.proofs.TakesLemmas.{kind_named, kind_worded}
 
 -- ---- one part behind the first token
 

@@ -10,7 +10,7 @@ use Rattle.c_syntax.specs.Lookahead.{next_of, going_of, spec_of, Start, ParenSta
 use Rattle.c_syntax.specs.Reads.{Reading, reading, or_primary, PassTo, Takes, first_of, postfix_first, primary_first, Reads, Both, Starts, PassFirst, ParenFirst, More, Stop}
 use Rattle.c_syntax.specs.SyntaxView.{expression_of}
 use Rattle.c_expressions.specs.declared.parser.Parsed.{Parsed}
-use Rattle.c_expressions.specs.Front.{behind, kind_mark, mark_at, is_open, is_there, opens, opens_type}
+use Rattle.c_cursor.specs.Front.{behind, kind_mark, mark_at, is_open, is_there, opens, opens_type}
 use Rattle.c_expressions.specs.Parses.{Climbs, AtPrimary, Up, read, IsMeasured, IsParsed, IsOperand, Opened, NoneOpened, OneOpened}
 use Rattle.c_expressions.proofs.Words.{is_first, behind_shorter}
 use Rattle.c_expressions.proofs.Nexts.{no_primary}

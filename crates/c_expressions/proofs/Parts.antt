@@ -2,13 +2,13 @@
 use Rattle.std.proofs.Common.{◌≡◌, sym, subst}
 use Rattle.std.specs.Prelude.{ℕ, List, Result, Ok, Err, IsErrAnd}
 use Rattle.c_syntax.specs.declared.token.Token.{Token}
-use Rattle.c_expressions.specs.declared.fault.Refusal.{Refusal}
-use Rattle.c_expressions.specs.declared.fault.Refusal.TheVariants as refusals
+use Rattle.c_cursor.specs.declared.fault.Refusal.{Refusal}
+use Rattle.c_cursor.specs.declared.fault.Refusal.TheVariants as refusals
 use Rattle.c_expressions.specs.declared.parser.Tall.{Tall}
 use Rattle.c_expressions.specs.Fronts.{NoFront}
 use Rattle.c_expressions.specs.Parts.{ReadsPart, ReadsWhole, ReadsAny}
-use Rattle.c_expressions.specs.Refusals.{Refuses}
-use Rattle.c_expressions.proofs.Refusals.{refuses, refuses_all}
+use Rattle.c_cursor.specs.Refusals.{Refuses}
+use Rattle.c_cursor.proofs.Refusals.{refuses, refuses_all}
 
 -- by `?`: a part's refusal, a refusal for what is known, and want of memory
 err_refused : {Q P : Type 0} {e f : Refusal} → e ≡ f → Refuses P f → (P → Q) → Refuses Q e

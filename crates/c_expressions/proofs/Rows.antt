@@ -14,7 +14,7 @@ use Rattle.c_expressions.specs.declared.operators.Infix.{Infix}
 use Rattle.c_expressions.specs.declared.operators.Infix.TheVariants as between
 use Rattle.c_expressions.specs.declared.operators.Assignment.{Assignment}
 use Rattle.c_expressions.specs.declared.operators.Assignment.TheVariants as assignment
-use Rattle.c_expressions.specs.Front.{behind, mark_at}
+use Rattle.c_cursor.specs.Front.{behind, mark_at}
 use Rattle.c_expressions.specs.Operators.{infix_form, next_assignment, assignment_form, step_at}
 use Rattle.c_syntax.proofs.Parsing.ReadsOne.{one_reading}
 use Rattle.c_expressions.proofs.Insides.{Indexed, index_inside, step_inside}

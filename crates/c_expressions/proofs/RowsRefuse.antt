@@ -20,7 +20,7 @@ use Rattle.c_expressions.specs.declared.operators.Infix.{Infix}
 use Rattle.c_expressions.specs.declared.operators.Infix.TheVariants as between
 use Rattle.c_expressions.specs.declared.operators.Assignment.{Assignment}
 use Rattle.c_expressions.specs.declared.operators.Assignment.TheVariants as assignment
-use Rattle.c_expressions.specs.Front.{behind, kind_mark, mark_at, opens_type}
+use Rattle.c_cursor.specs.Front.{behind, kind_mark, mark_at, opens_type}
 use Rattle.c_expressions.specs.Operators.{level_row, row_at, binary_level, infix_form, next_assignment, assignment_form, IsInfix}
 use Rattle.c_expressions.specs.Parses.{Climbs, AtPrimary, Up, read, ReadBy, place_from, IsMeasured, IsParsed, IsMore, IsNode, ReadsClosed, NoReading, NoMore, NotClosed}
 use Rattle.c_expressions.proofs.Nexts.{next_at, next_is, binary_row, pair_of, level_passes, same_level, assignment_back, level_goes, no_cast, no_comma, comma_goes}

@@ -21,9 +21,9 @@ use Rattle.c_syntax.proofs.Parsing.Types.{specs_one}
 use Rattle.c_syntax.proofs.Rows.Fronts.{StarMark, TypeWord, mark_sort, keyword_sort, kind_sort, first}
 use Rattle.c_syntax.proofs.Rows.SpecsAndStars.{specs_first, stars_one}
 use Rattle.c_expressions.specs.declared.parser.Parsed.{Parsed}
-use Rattle.c_expressions.specs.Front.{kind_mark, mark_at}
+use Rattle.c_cursor.specs.Front.{kind_mark, mark_at}
 use Rattle.c_expressions.specs.Parses.{IsParsed, NoReading, ReadsSpecs, ReadsStars, read}
-use Rattle.c_expressions.specs.Takes.{Takes}
+use Rattle.c_cursor.specs.Takes.{Takes}
 use Rattle.c_expressions.specs.Fronts.{NoFront, OnlyTo, ExpressionFront, SpecsFront, StarsFront}
 
 -- ---- the words of a type

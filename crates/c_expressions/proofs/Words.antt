@@ -11,9 +11,9 @@ use Rattle.c_syntax.specs.declared.syntax.SpecWord.{SpecWord}
 use Rattle.c_syntax.specs.SyntaxTree.{SpecsTree, TypeTree}
 use Rattle.c_syntax.specs.Grammar.{spec_keyword, IsMark, IsKeyword, place_of, AreSpecs, LastSpec, MoreSpecs, AreStars, NoStar, MoreStars}
 use Rattle.c_syntax.specs.Lookahead.{keyword_spec, kind_spec, spec_of}
-use Rattle.c_expressions.specs.Front.{behind, mark_at}
+use Rattle.c_cursor.specs.Front.{behind, mark_at}
 use Rattle.c_expressions.specs.Parses.{ReadsSpecs, ReadsStars, ReadsType}
-use Rattle.c_expressions.proofs.TakesLemmas.{kind_marked}
+use Rattle.c_cursor.proofs.TakesLemmas.{kind_marked}
 
 -- ---- what stands first
 

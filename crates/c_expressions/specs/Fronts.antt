@@ -6,7 +6,7 @@ use Rattle.c_syntax.specs.Grammar.{Row, Derives, AreStars}
 use Rattle.c_syntax.specs.Derives.{DerivesSpecs}
 use Rattle.c_syntax.specs.Lookahead.{Ends, spec_of}
 use Rattle.c_syntax.specs.Measures.{expression_height, greatest_height}
-use Rattle.c_expressions.specs.Front.{mark_at}
+use Rattle.c_cursor.specs.Front.{mark_at}
 
 -- tokens of a row are at the front, with a tree that may stand under so many nodes, before what may follow them
 pub record Front {X : Type 0} (Row : List Token → X → Type 0) (After : List Token → Type 0) (height : X → ℕ) (depth : ℕ) (before after : List Token) : Type 0 where

@@ -12,7 +12,7 @@ use Rattle.c_syntax.specs.Measures.{expression_height, arguments_height, greates
 use Rattle.c_syntax.specs.SyntaxView.{expression_of, trees_of}
 use Rattle.c_expressions.specs.declared.parser.Parsed.{Parsed}
 use Rattle.c_expressions.specs.declared.parser.Arguments.{Arguments}
-use Rattle.c_expressions.specs.Front.{behind, mark_at}
+use Rattle.c_cursor.specs.Front.{behind, mark_at}
 
 -- a primary that was read goes on through the rows up to one: that which it begins at a place, and all that is read
 pub data Climbs : Row → ℕ → Reading → Reading → Type 0 where

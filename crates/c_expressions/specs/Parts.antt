@@ -2,11 +2,11 @@
 use Rattle.std.specs.Prelude.{◌≡◌, ◌+◌, ◌<◌, ◌≤◌, ℕ, List, length, Result, IfOk, IfErr}
 use Rattle.c_syntax.specs.declared.token.Token.{Token}
 use Rattle.c_syntax.specs.Measures.{greatest_height}
-use Rattle.c_expressions.specs.declared.fault.Refusal.{Refusal}
+use Rattle.c_cursor.specs.declared.fault.Refusal.{Refusal}
 use Rattle.c_expressions.specs.declared.parser.Tall.{Tall}
 use Rattle.c_expressions.specs.Fronts.{NoFront, OnlyTo}
-use Rattle.c_expressions.specs.Refusals.{Refuses}
-use Rattle.c_expressions.specs.Takes.{Takes}
+use Rattle.c_cursor.specs.Refusals.{Refuses}
+use Rattle.c_cursor.specs.Takes.{Takes}
 
 -- a part was read under so many nodes, or is refused: the tokens that its tree takes, the way that none of a refused part leads, the height of its tree
 pub record ReadsPart {T : Type 0} (Row : T → List Token → Type 0) (Way : List Token → List Token → Type 0) (height_of : T → ℕ) (depth : ℕ) (before after : List Token) (result : Result (Tall T) Refusal) : Type 0 where

@@ -9,15 +9,15 @@ ghost use Rattle.c_syntax.specs.Lookahead.{next_of, going_of, Stops};
 ghost use Rattle.c_syntax.specs.Measures.{greatest_height};
 ghost use Rattle.c_syntax.specs.SyntaxView.{expression_of, form_of, type_of};
 ghost use Rattle.c_syntax.specs.declared.token.Punct.TheVariants as marks;
-ghost use Rattle.c_expressions.specs.Front.{mark_at};
+ghost use Rattle.c_cursor.specs.Front.{mark_at};
 ghost use Rattle.c_expressions.specs.Operators.{level_row, row_at, infix_form, assignment_form, next_assignment, IsInfix};
-ghost use Rattle.c_expressions.specs.declared.fault.Refusal.TheVariants as refusals;
+ghost use Rattle.c_cursor.specs.declared.fault.Refusal.TheVariants as refusals;
 ghost use Rattle.c_expressions.specs.Parses.{MayStart, IsMeasured, IsParsed, IsMore, IsNode, NoReading, NoMore};
 ghost use Rattle.c_expressions.specs.Yields.{Yields};
 
-use crate::fault::Refusal;
 use crate::operators::{Assignment, Infix, Level, assignment_of, infix_of};
 use crate::parser::{Parsed, Parser};
+use c_cursor::Refusal;
 use c_syntax::{Expr, ExprKind, Punct, TypeName};
 
 impl<'a> Parser<'a> {

@@ -4,14 +4,13 @@
 //! A part takes the tokens of a row of the grammar, or says that no way of the row leads on from there.
 #![tactic(auto)]
 
-mod cursor;
 mod expressions;
-mod fault;
 mod operands;
 mod operators;
 mod parser;
+mod steps;
 mod wholes;
 
-pub use cursor::Cursor;
-pub use fault::Refusal;
+pub use c_cursor::{Cursor, Refusal};
 pub use parser::{Parser, Tall};
+pub use steps::{add, both, boxed, ended, kept, separated};

@@ -3,19 +3,19 @@ ghost use Rattle.std.specs.Prelude.{◌≡◌, ◌+◌, ◌<◌, max, true, leng
 ghost use Rattle.c_syntax.specs.declared.token.Keyword.TheVariants as keywords;
 ghost use Rattle.c_syntax.specs.SyntaxTree.{StepBefore, Prefix, SizeofValue, SizeofType, Index, StepAfter, Call};
 ghost use Rattle.c_syntax.specs.declared.token.Punct.TheVariants as marks;
-ghost use Rattle.c_expressions.specs.declared.fault.Refusal.TheVariants as refusals;
+ghost use Rattle.c_cursor.specs.declared.fault.Refusal.TheVariants as refusals;
 ghost use Rattle.c_syntax.specs.Grammar.{UnaryRow};
 ghost use Rattle.c_syntax.specs.Measures.{greatest_height};
 ghost use Rattle.c_syntax.specs.SyntaxView.{expression_of, form_of, type_of};
-ghost use Rattle.c_expressions.specs.Front.{mark_at, word_at, name_at, opens_type};
+ghost use Rattle.c_cursor.specs.Front.{mark_at, word_at, name_at, opens_type};
 ghost use Rattle.c_expressions.specs.Operators.{step_at, prefix_at};
 ghost use Rattle.c_expressions.specs.Parses.{MayStart, IsMeasured, IsParsed, IsOperand, IsBehind, IsOneBehind, IsConstant, constant_form, constant_at, IsNode, ReadsClosed, Opened, AreRead, NoReading, NoOperand, NoneBehind, NoArguments, NotClosed};
-ghost use Rattle.c_expressions.specs.Refusals.{Refuses};
+ghost use Rattle.c_cursor.specs.Refusals.{Refuses};
 ghost use Rattle.c_expressions.specs.Yields.{Yields};
 
-use crate::fault::Refusal;
 use crate::operators::{prefix_of, step_of};
 use crate::parser::{Arguments, Parsed, Parser};
+use c_cursor::Refusal;
 use c_syntax::{ExprKind, Keyword, PrefixOp, Punct, TokenKind, TypeName};
 use word_base::Text;
 

@@ -2,13 +2,13 @@
 ghost use Rattle.std.specs.Prelude.{◌≡◌, ◌↔◌, ◌+◌, ◌<◌, ◌≤◌, ◌^◌, ◌++◌, ◌∷◌, [], max, true, length, IfOk, IfErr, None};
 ghost use Rattle.c_syntax.specs.Measures.{greatest_height};
 ghost use Rattle.c_syntax.specs.SyntaxView.{form_of, specs_of, type_of};
-ghost use Rattle.c_expressions.specs.declared.fault.Refusal.TheVariants as refusals;
+ghost use Rattle.c_cursor.specs.declared.fault.Refusal.TheVariants as refusals;
 ghost use Rattle.c_expressions.specs.Parses.{IsNode, ReadsSpecs, ReadsStars, ReadsType};
-ghost use Rattle.c_expressions.specs.Refusals.{Refuses};
+ghost use Rattle.c_cursor.specs.Refusals.{Refuses};
 ghost use Rattle.c_syntax.specs.Lookahead.{spec_of};
 
-use crate::cursor::Cursor;
-use crate::fault::Refusal;
+use crate::steps::{add, kept};
+use c_cursor::{Cursor, Refusal};
 use c_syntax::{Expr, ExprKind, GREATEST_HEIGHT, Punct, SpecWord, Specs, Token, TypeName};
 use std::alloc::Global;
 use word_base::Items;
@@ -48,23 +48,6 @@ pub(crate) struct Arguments {
     pub(crate) height: u32,
 }
 
-// A tree in a box. Its type is a parameter, so a proof needn't open the tree that is dropped where memory is wanting.
-fn boxed<T: Drop>(alloc: Global, tree: T) -> Result<Box<T>, Refusal>
-    ensures tree { IfOk result (λ boxed. boxed.value ≡ tree) }
-    ensures memory { IfErr result (λ f. f ≡ refusals.NoMemory) }
-{
-    Ok(Box::new(alloc, tree)?)
-}
-
-// Puts a tree behind others.
-fn add<T: Drop>(list: &mut Vec<T>, next: T) -> Result<(), Refusal>
-    ensures items { IfOk result (λ _. list.new.items ≡ list.old.items ++ next ∷ []) }
-    ensures memory { IfErr result (λ f. f ≡ refusals.NoMemory) }
-{
-    list.push(next)?;
-    Ok(())
-}
-
 impl Arguments {
     /// Puts one behind the others.
     pub(crate) fn add(&mut self, next: Parsed) -> Result<(), Refusal>
@@ -90,7 +73,7 @@ impl Parsed {
         ensures node { IfOk result (IsNode (form_of kind) at is_unary parts) }
         ensures memory { IfErr result (λ f. f ≡ refusals.NoMemory) }
     {
-        let tree = boxed(alloc, Expr { kind, at })?;
+        let tree = kept(alloc, Expr { kind, at })?;
         Ok(Parsed {
             tree,
             height: parts + 1,

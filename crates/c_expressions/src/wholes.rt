@@ -4,12 +4,12 @@ ghost use Rattle.c_syntax.specs.Grammar.{Derives, ExpressionRow, AssignmentRow, 
 ghost use Rattle.c_syntax.specs.Derives.{DerivesSpecs};
 ghost use Rattle.c_syntax.specs.Measures.{expression_height, greatest_height};
 ghost use Rattle.c_syntax.specs.SyntaxView.{expression_of, specs_of};
-ghost use Rattle.c_expressions.specs.Takes.{Takes};
+ghost use Rattle.c_cursor.specs.Takes.{Takes};
 ghost use Rattle.c_expressions.specs.Fronts.{NoFront, OnlyTo, ExpressionFront, SpecsFront, StarsFront};
-ghost use Rattle.c_expressions.specs.Refusals.{Refuses};
+ghost use Rattle.c_cursor.specs.Refusals.{Refuses};
 
-use crate::fault::Refusal;
 use crate::parser::{Parsed, Parser, Tall};
+use c_cursor::Refusal;
 use c_syntax::{Expr, Specs};
 
 fn whole(parsed: Parsed) -> Tall<Expr>

@@ -5,12 +5,12 @@ use Rattle.c_syntax.specs.declared.token.Punct.TheVariants as mark
 use Rattle.c_syntax.specs.SyntaxTree.{SpecsTree, ParametersTree, ItemForm, ItemTree, DeclarationTree, Statements, Block, FunctionSyntax, Defined, Declared}
 use Rattle.c_syntax.specs.Grammar.{IsMark, AreSpecs, LastSpec, MoreSpecs, AreStars, place_of}
 use Rattle.c_syntax.specs.Derives.{IsNameToken, DerivesSpecs, FunctionRule, DerivesItem, DerivesDeclaration, Closed, DerivesStatement, BlockRule, DerivesFunction, DerivesExternal}
-use Rattle.c_expressions.specs.Takes.{Takes, IsOne, Both, Behind}
-use Rattle.c_parser.specs.DeclarationRows.{IsItemFront}
-use Rattle.c_parser.specs.StatementRows.{IsBody}
+use Rattle.c_cursor.specs.Takes.{Takes, IsOne, Both, Behind}
+use Rattle.c_declarations.specs.DeclarationRows.{IsItemFront}
+use Rattle.c_statements.specs.StatementRows.{IsBody}
 use Rattle.c_parser.specs.UnitFronts.{IsListed, IsFunctionHead}
-use Rattle.c_expressions.proofs.TakesLemmas.{joined}
-use Rattle.c_parser.proofs.StatementTaken.{block_taken}
+use Rattle.c_cursor.proofs.TakesLemmas.{joined}
+use Rattle.c_statements.proofs.StatementTaken.{block_taken}
 
 -- ---- a declaration, behind the front of its first item
 

@@ -14,18 +14,18 @@ use Rattle.c_syntax.proofs.Rows.Initialisers.{array_first}
 use Rattle.c_syntax.proofs.Rows.Parameters.{parameters_one, name_first}
 use Rattle.c_syntax.proofs.Rows.Externals.{external_one, name_other}
 use Rattle.c_syntax.proofs.Rows.UnitOne.{known}
-use Rattle.c_expressions.specs.Front.{mark_at}
-use Rattle.c_expressions.specs.Takes.{Takes}
+use Rattle.c_cursor.specs.Front.{mark_at}
+use Rattle.c_cursor.specs.Takes.{Takes}
 use Rattle.c_expressions.specs.Fronts.{NoFront, OnlyTo, Then, One, SpecsFront, StarsFront}
-use Rattle.c_parser.specs.DeclarationFronts.{DeclarationFront, EndsForm, FormFront, MoreItems, Ended, GoesOn, ParametersFront, IsAnyName}
-use Rattle.c_parser.specs.StatementFronts.{StatementFront}
+use Rattle.c_declarations.specs.DeclarationFronts.{DeclarationFront, EndsForm, FormFront, MoreItems, Ended, GoesOn, ParametersFront, IsAnyName}
+use Rattle.c_statements.specs.StatementFronts.{StatementFront}
 use Rattle.c_parser.specs.UnitFronts.{ExternalFront, IsListed, ListedFront, DeclarationEnd, FunctionEnd, RestFront, AsDeclaration, AsFunction, UnitFront, MoreUnits, EndsHere, OneMore}
-use Rattle.c_parser.proofs.FrontLemmas.{mark_found, first_fails, second_fails}
-use Rattle.c_parser.proofs.FrontTokens.{no_spec, mark_sorted}
-use Rattle.c_parser.proofs.FrontMarks.{mark_here, not_mark, other_mark}
-use Rattle.c_expressions.proofs.TakesLemmas.{greatest_first}
-use Rattle.c_parser.proofs.DeclarationWays.{declaration_ways, items_ways, item_ways, no_initial_leads}
-use Rattle.c_parser.proofs.StatementWays.{block_ways}
+use Rattle.c_declarations.proofs.FrontLemmas.{mark_found, first_fails, second_fails}
+use Rattle.c_declarations.proofs.FrontTokens.{no_spec, mark_sorted}
+use Rattle.c_declarations.proofs.FrontMarks.{mark_here, not_mark, other_mark}
+use Rattle.c_cursor.proofs.TakesLemmas.{greatest_first}
+use Rattle.c_declarations.proofs.DeclarationWays.{declaration_ways, items_ways, item_ways, no_initial_leads}
+use Rattle.c_statements.proofs.StatementWays.{block_ways}
 
 -- ---- externals
 

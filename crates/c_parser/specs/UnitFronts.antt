@@ -7,8 +7,8 @@ use Rattle.c_syntax.specs.Grammar.{IsMark, AreStars}
 use Rattle.c_syntax.specs.Derives.{IsNameToken, DerivesSpecs, DerivesForm, DerivesExternal, DerivesUnit}
 use Rattle.c_syntax.specs.Measures.{greatest, parameters_height, external_height, greatest_height}
 use Rattle.c_expressions.specs.Fronts.{Front, Then, One}
-use Rattle.c_parser.specs.DeclarationFronts.{FormFront, InitialiserFront, MoreItems}
-use Rattle.c_parser.specs.StatementFronts.{BodyFront}
+use Rattle.c_declarations.specs.DeclarationFronts.{FormFront, InitialiserFront, MoreItems}
+use Rattle.c_statements.specs.StatementFronts.{BodyFront}
 
 -- an external, under the unit
 abbrev pub ExternalFront : List Token → List Token → Type 0

@@ -7,17 +7,16 @@ ghost use Rattle.c_syntax.specs.SyntaxView.{specs_of, parameters_of, item_form_o
 ghost use Rattle.c_syntax.specs.declared.decl.ItemKind.TheVariants as functions;
 ghost use Rattle.c_syntax.specs.Source.{IsSource, NoSource, IsPlace, end_of};
 ghost use Rattle.c_parser.specs.ParseFaults.{Says};
-ghost use Rattle.c_expressions.specs.Refusals.{Refuses};
-ghost use Rattle.c_expressions.specs.Takes.{Both, Behind};
-ghost use Rattle.c_parser.specs.DeclarationRows.{IsItemFront};
+ghost use Rattle.c_cursor.specs.Refusals.{Refuses};
+ghost use Rattle.c_cursor.specs.Takes.{Both, Behind};
+ghost use Rattle.c_declarations.specs.DeclarationRows.{IsItemFront};
 ghost use Rattle.c_parser.specs.UnitFronts.{ExternalFront, IsListed, ListedFront, DeclarationEnd, FunctionEnd, IsFunctionHead};
 ghost use Rattle.c_expressions.specs.Parts.{ReadsPart};
 
-use crate::declarations::{declaration_from, item_from, item_kind, name, params};
 use crate::fault::ParseFault;
-use crate::parts::{add, ended};
-use crate::statements::body;
-use c_expressions::{Parser, Refusal, Tall};
+use c_declarations::{declaration_from, item_from, item_kind, name, params};
+use c_expressions::{Parser, Refusal, Tall, add, ended};
+use c_statements::body;
 use c_syntax::{External, FunctionDef, ItemKind, Params, Punct, Specs, Token, Unit};
 use std::alloc::Global;
 use word_base::{Items, Text};

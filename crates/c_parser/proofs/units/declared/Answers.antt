@@ -1,7 +1,7 @@
 use Rattle.std.proofs.Common.{rules}
 use Rattle.c_syntax.specs.SyntaxView.{specs_of, item_form_of, item_of, declaration_of}
 use Rattle.c_expressions.proofs.Parts.{part_refused}
-use Rattle.c_parser.proofs.FrontLemmas.{first_fails, second_fails}
+use Rattle.c_declarations.proofs.FrontLemmas.{first_fails, second_fails}
 use Rattle.c_parser.proofs.UnitTaken.{declared_taken}
 use Rattle.c_parser.proofs.units.declared.Goals as goal
 

@@ -2,10 +2,10 @@ use Rattle.std.proofs.Common.{arith}
 use Rattle.c_syntax.specs.SyntaxTree.{Parameters}
 use Rattle.c_syntax.specs.SyntaxView.{specs_of, parameters_of, item_form_of}
 use Rattle.c_expressions.proofs.Parts.{part_refused, part_unread}
-use Rattle.c_parser.proofs.FrontLemmas.{first_fails, second_fails, fails_as, taken_leads}
-use Rattle.c_expressions.proofs.Refusals.{goes_out}
-use Rattle.c_expressions.proofs.TakesLemmas.{joined, behind_front, ok_mapped, not_there}
-use Rattle.c_parser.proofs.DeclarationRows.{item_front}
+use Rattle.c_declarations.proofs.FrontLemmas.{first_fails, second_fails, fails_as, taken_leads}
+use Rattle.c_cursor.proofs.Refusals.{goes_out}
+use Rattle.c_cursor.proofs.TakesLemmas.{joined, behind_front, ok_mapped, not_there}
+use Rattle.c_declarations.proofs.DeclarationRows.{item_front}
 use Rattle.c_parser.proofs.UnitWays.{external_ways, plain_rest, no_list, no_ends, no_declaration_end, no_function_end}
 use Rattle.c_parser.proofs.UnitTaken.{head_taken}
 use Rattle.c_parser.proofs.units.external.Goals as goal

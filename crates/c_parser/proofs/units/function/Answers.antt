@@ -3,8 +3,8 @@ use Rattle.c_syntax.specs.declared.token.Punct.TheVariants as mark
 use Rattle.c_syntax.specs.SyntaxTree.{FunctionSyntax}
 use Rattle.c_syntax.specs.SyntaxView.{specs_of, parameters_of, declaration_of, body_of}
 use Rattle.c_expressions.proofs.Parts.{part_refused, part_unread}
-use Rattle.c_parser.proofs.FrontLemmas.{first_fails, second_fails, one_leads, mark_fails}
-use Rattle.c_expressions.proofs.TakesLemmas.{mark_taken}
+use Rattle.c_declarations.proofs.FrontLemmas.{first_fails, second_fails, one_leads, mark_fails}
+use Rattle.c_cursor.proofs.TakesLemmas.{mark_taken}
 use Rattle.c_parser.proofs.UnitTaken.{function_body}
 use Rattle.c_parser.proofs.units.function.Goals as goal
 

@@ -2,9 +2,9 @@ use Rattle.std.proofs.Common.{rules}
 use Rattle.c_syntax.specs.declared.token.Punct.TheVariants as mark
 use Rattle.c_syntax.specs.SyntaxView.{parameters_of}
 use Rattle.c_expressions.proofs.Parts.{part_refused, part_unread}
-use Rattle.c_parser.proofs.FrontLemmas.{first_fails, second_fails, fails_as, one_leads, mark_fails}
-use Rattle.c_expressions.proofs.TakesLemmas.{mark_taken}
-use Rattle.c_parser.proofs.DeclarationRows.{function_taken}
+use Rattle.c_declarations.proofs.FrontLemmas.{first_fails, second_fails, fails_as, one_leads, mark_fails}
+use Rattle.c_cursor.proofs.TakesLemmas.{mark_taken}
+use Rattle.c_declarations.proofs.DeclarationRows.{function_taken}
 use Rattle.c_parser.proofs.UnitWays.{listed_ways}
 use Rattle.c_parser.proofs.units.listed.Goals as goal
 

@@ -3,10 +3,10 @@ use Rattle.c_syntax.specs.Derives.{DerivesUnit, LastExternal}
 use Rattle.c_syntax.specs.Measures.{external_height}
 use Rattle.c_syntax.specs.SyntaxView.{external_of, unit_of}
 use Rattle.c_syntax.proofs.Weights.Statements.{within_limits}
-use Rattle.c_parser.proofs.FrontLemmas.{first_fails, fails_as, fails_on, leads_from, leads_further}
-use Rattle.c_expressions.proofs.Refusals.{passed_on}
-use Rattle.c_expressions.proofs.TakesLemmas.{mapped}
-use Rattle.c_parser.proofs.Lists.{begun, grown, height_begun, height_grown, with_next, externals_more}
+use Rattle.c_declarations.proofs.FrontLemmas.{first_fails, fails_as, fails_on, leads_from, leads_further}
+use Rattle.c_cursor.proofs.Refusals.{passed_on}
+use Rattle.c_cursor.proofs.TakesLemmas.{mapped}
+use Rattle.c_declarations.proofs.Lists.{begun, grown, height_begun, height_grown, with_next, externals_more}
 use Rattle.c_parser.proofs.UnitWays.{unit_ways, more_units, no_source, external_only, units_taken}
 use Rattle.c_parser.proofs.units.unit.Goals as goal
 

@@ -2,9 +2,9 @@ use Rattle.std.proofs.Common.{◌≡◌, ◌+◌, ◌≤◌, length, map}
 use Rattle.c_syntax.specs.Derives.{DerivesUnit}
 use Rattle.c_syntax.specs.Measures.{greatest, external_height, greatest_height}
 use Rattle.c_syntax.specs.SyntaxView.{external_of}
-use Rattle.c_expressions.specs.Takes.{Takes}
+use Rattle.c_cursor.specs.Takes.{Takes}
 use Rattle.c_parser.specs.UnitFronts.{UnitFront, MoreUnits}
-use Rattle.c_parser.proofs.FrontLemmas.{LeadsOn}
+use Rattle.c_declarations.proofs.FrontLemmas.{LeadsOn}
 use Rattle.c_parser.proofs.units.unit.Given as goal
 
 abbrev pub invariant-loop-parser : goal.invariant-loop-parser

@@ -3,10 +3,10 @@ use Rattle.std.proofs.lemmas.Result.{IfOk-weaker}
 use Rattle.c_syntax.specs.Grammar.{ExpressionRow, CastRow, UnaryRow}
 use Rattle.c_syntax.specs.declared.token.Punct.TheVariants as mark
 use Rattle.c_syntax.specs.Lookahead.{next_of, going_of, Stops}
-use Rattle.c_expressions.specs.Front.{mark_at, opens_type, behind, word_at, name_at}
+use Rattle.c_cursor.specs.Front.{mark_at, opens_type, behind, word_at, name_at}
 use Rattle.c_expressions.specs.Operators.{next_assignment, level_row, row_at, step_at, prefix_at}
 use Rattle.c_expressions.proofs.Given.{given_refused, given_unread, given_unkept}
-use Rattle.c_expressions.proofs.Refusals.{refuses_all, goes_out, memory_alone}
+use Rattle.c_cursor.proofs.Refusals.{refuses_all, goes_out, memory_alone}
 use Rattle.c_expressions.proofs.Rows.{assignment_more, conditional_more, assignment_done, conditional_done, index_behind, behind_done}
 use Rattle.c_expressions.proofs.RowsRefuse.{expression_first_refused, expression_read, expression_refused, more_begins, commas_done, comma_too_high, comma_refused, comma_more, assignment_first_refused, assignment_read, assignment_refused, not_assigned_to, assignment_too_high, assigned_refused, conditional_first_refused, conditional_read, conditional_refused, conditional_too_high, chosen_refused, no_colon, other_refused, more_done, level_more, operator_too_high, operand_refused, cast_tightest, is_looser, looser_refused, level_read, level_refused, cast_passes, cast_starts, cast_first_refused, cast_start_refused, cast_too_high, cast_not_closed, cast_operand_refused}
 use Rattle.c_expressions.proofs.parser.Parser.+parser.Goals as goal

@@ -1,6 +1,6 @@
 use Rattle.std.proofs.lemmas.Result.{IfOk-weaker}
 use Rattle.c_expressions.proofs.Firsts.{constant_read}
-use Rattle.c_expressions.proofs.Refusals.{memory_alone}
+use Rattle.c_cursor.proofs.Refusals.{memory_alone}
 use Rattle.c_expressions.proofs.parser.Parser.constant.Goals as goal
 
 pub returns : goal.returns

@@ -1,7 +1,7 @@
 use Rattle.std.proofs.lemmas.Result.{IfOk-weaker}
 use Rattle.c_expressions.proofs.Given.{given_unread}
 use Rattle.c_expressions.proofs.Rows.{step_behind}
-use Rattle.c_expressions.proofs.Refusals.{memory_alone}
+use Rattle.c_cursor.proofs.Refusals.{memory_alone}
 use Rattle.c_expressions.proofs.OperandsRefuse.{step_too_high}
 use Rattle.c_expressions.proofs.parser.Parser.stepped.Goals as goal
 

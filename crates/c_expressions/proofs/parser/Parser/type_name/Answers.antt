@@ -1,4 +1,4 @@
-use Rattle.c_expressions.proofs.Refusals.{passed_on}
+use Rattle.c_cursor.proofs.Refusals.{passed_on}
 use Rattle.c_expressions.proofs.Words.{type_read}
 use Rattle.c_expressions.proofs.parser.Parser.type_name.Goals as goal
 

@@ -1,4 +1,4 @@
-use Rattle.c_expressions.proofs.Refusals.{passed_on}
+use Rattle.c_cursor.proofs.Refusals.{passed_on}
 use Rattle.c_expressions.proofs.WholeWays.{read_taken, read_fewer, read_only, not_read}
 use Rattle.c_expressions.proofs.parser.Parser.whole_conditional.Goals as goal
 

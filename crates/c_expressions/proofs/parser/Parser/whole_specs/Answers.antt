@@ -1,4 +1,4 @@
-use Rattle.c_expressions.proofs.Refusals.{passed_on}
+use Rattle.c_cursor.proofs.Refusals.{passed_on}
 use Rattle.c_expressions.proofs.WholeWays.{specs_taken, specs_fewer, specs_only, no_specs}
 use Rattle.c_expressions.proofs.parser.Parser.whole_specs.Goals as goal
 

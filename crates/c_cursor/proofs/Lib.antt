@@ -1,0 +1,2 @@
+pub mod TakesLemmas
+pub mod Refusals

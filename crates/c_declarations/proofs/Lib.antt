@@ -1,0 +1,10 @@
+pub mod Lists
+pub mod FrontLemmas
+pub mod FrontTokens
+pub mod FrontMarks
+pub mod ListWays
+pub mod ValueWays
+pub mod DeclarationRows
+pub mod DeclarationWays
+pub mod ParameterWays
+pub mod Joined

@@ -1,0 +1,3 @@
+-- What the rows of declarations take, and what they lead to from the front of the tokens.
+pub mod DeclarationRows
+pub mod DeclarationFronts

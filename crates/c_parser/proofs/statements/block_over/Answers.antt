@@ -1,5 +1,0 @@
-use Rattle.c_parser.proofs.Boxes.{block_tree}
-use Rattle.c_parser.proofs.statements.block_over.Goals as goal
-
-pub returns-clause-tree : goal.returns-clause-tree
-returns-clause-tree c = block_tree c.args.body.tree.declarations c.args.body.tree.statements c.args.at

@@ -1,0 +1,3 @@
+-- What the rows of statements take, and what they lead to from the front of the tokens.
+pub mod StatementRows
+pub mod StatementFronts
