@@ -1,5 +1,3 @@
-pub mod ScopeLemmas
-pub mod BodyLemmas
 pub mod OperandsSoFar
 pub mod CallForms
 pub mod SoFar

@@ -1,7 +1,7 @@
 -- Scopes that are the same again.
 use Rattle.std.proofs.Common.{◌≡◌, List, [], ◌∷◌}
 use Rattle.c_rules.specs.Scopes.{Scope, no_names}
-use Rattle.c_scopes.specs.Tables.{closed}
+use Rattle.c_names.specs.Tables.{closed}
 
 -- a scope that was opened is closed again
 pub closed_again : {A : Type 0} (s t : A) (ts around : List A) → around ≡ t ∷ ts → closed (s ∷ around) ≡ t ∷ ts

@@ -1,3 +1,3 @@
-pub mod Tables
+pub use Rattle.c_names.specs.Tables
 pub mod ArgumentView
 pub mod Sides

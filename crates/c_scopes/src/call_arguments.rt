@@ -5,13 +5,13 @@ ghost use Rattle.c_tree.specs.TypedTree as typed;
 ghost use Rattle.c_syntax.specs.SyntaxView.{expression_of};
 ghost use Rattle.c_rules.specs.Outcome.{Outcome};
 ghost use Rattle.c_rules.specs.Answers.{Follows, Refuses};
-ghost use Rattle.c_scopes.specs.Tables.{scope_of};
+ghost use Rattle.c_names.specs.Tables.{scope_of};
 ghost use Rattle.c_rules.specs.Typing as rules;
 ghost use Rattle.c_scopes.specs.ArgumentView.{arguments_of};
 
 use crate::names::called;
-use crate::scopes::{Scopes, is_in};
 use c_conversions::{Operand, constant};
+use c_names::{Scopes, is_in};
 use c_operands::{input, output, wrong_count};
 use c_rules::{Class, Refusal, Rule};
 use c_syntax::Expr;

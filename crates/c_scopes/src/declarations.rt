@@ -5,12 +5,12 @@ ghost use Rattle.c_syntax.specs.SyntaxView.{expression_of, array_of, parameter_o
 ghost use Rattle.c_rules.specs.declared.fault.Refusal.TheVariants as refusals;
 ghost use Rattle.c_rules.specs.Declarations as rules;
 ghost use Rattle.c_rules.specs.Statements.{with_named_object};
-ghost use Rattle.c_scopes.specs.Tables.{scope_of, scopes_of, around_of};
+ghost use Rattle.c_names.specs.Tables.{scope_of, scopes_of, around_of};
 
 use crate::call_arguments::word_of;
 use crate::expressions::constant_tree;
-use crate::scopes::Scopes;
 use c_conversions::starred;
+use c_names::Scopes;
 use c_objects::{
     array, lacks_name, length_within, listed_length, parameter_kind, plain, redeclared, single,
 };

@@ -11,13 +11,13 @@ ghost use Rattle.c_scopes.specs.Sides.{left_then};
 ghost use Rattle.c_rules.specs.Kinds.{int};
 ghost use Rattle.c_conversions.specs.OperandView.{operand_of};
 ghost use Rattle.c_scopes.specs.ArgumentView.{arguments_of};
-ghost use Rattle.c_scopes.specs.Tables.{scope_of};
+ghost use Rattle.c_names.specs.Tables.{scope_of};
 ghost use Rattle.c_rules.specs.Typing as rules;
 
 use crate::call_arguments::{Arguments, call_of, constant_call_of, word_of};
 use crate::names::named;
-use crate::scopes::{Scopes, is_in, is_out};
 use c_conversions::{INT, Operand, UNSIGNED, class_of};
+use c_names::{Scopes, is_in, is_out};
 use c_objects::{add, is_null, type_named};
 use c_operands::{
     address, assigned, assigned_by, behind, both_true, either_true, indexed, loaded, negated,

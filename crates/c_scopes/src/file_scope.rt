@@ -3,7 +3,7 @@ ghost use Rattle.c_rules.specs.Answers.{Follows};
 ghost use Rattle.std.specs.Prelude.{◌≡◌, ◌&&◌, ◌||◌, map, IfOk, IfErr, OnOk};
 ghost use Rattle.c_tree.specs.declared.program.VarRef.{VarRef};
 ghost use Rattle.c_syntax.specs.SyntaxView.{initial_of, parameter_of};
-ghost use Rattle.c_scopes.specs.Tables.{scope_of, scopes_of, around_of};
+ghost use Rattle.c_names.specs.Tables.{scope_of, scopes_of, around_of};
 ghost use Rattle.c_rules.specs.Units as rules;
 ghost use Rattle.c_objects.specs.InitialiserView.{starts_of};
 ghost use Rattle.c_rules.specs.declared.meaning.Declared.TheVariants as declares;
@@ -15,7 +15,7 @@ ghost use Rattle.c_rules.specs.Scopes.{open_scope};
 
 use crate::declarations::{declare_single, parameter_types};
 use crate::initialisers::{entries, entry};
-use crate::scopes::{Scopes, is_in, is_out};
+use c_names::{Scopes, is_in, is_out};
 use c_objects::{Starts, agrees_function, agrees_object, redeclared};
 use c_rules::{FunctionType, Meaning, Naming, ObjectType, Refusal, mismatch};
 use c_syntax::{Init, Item, Param};
@@ -102,19 +102,6 @@ pub fn defined_parameters<'a>(
     let kinds = parameter_types(scopes, Naming::Needed, list)?;
     scopes.close();
     Ok(kinds)
-}
-
-/// The number of the object of file scope that a name stands for.
-pub fn static_number(scopes: &Scopes<'_>, name: &str) -> Option<u32>
-    ensures { result ≡ rules.static_number ((scope_of scopes.now).meaning name.now) }
-{
-    match scopes.find(name)? {
-        Meaning::Object {
-            reference: VarRef::Static(number),
-            ..
-        } => Some(*number),
-        _ => None,
-    }
 }
 
 /// The rule that an item without a valid type breaks, whose initialiser breaks none.

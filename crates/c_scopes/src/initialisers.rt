@@ -5,12 +5,12 @@ ghost use Rattle.c_syntax.specs.SyntaxView.{expression_of, item_form_of, initial
 ghost use Rattle.c_tree.specs.View.{expr_of};
 ghost use Rattle.c_rules.specs.Declarations as rules;
 ghost use Rattle.c_rules.specs.Statements as blocks;
-ghost use Rattle.c_scopes.specs.Tables.{scope_of};
+ghost use Rattle.c_names.specs.Tables.{scope_of};
 ghost use Rattle.c_objects.specs.InitialiserView.{entry_of, initialiser_of};
 
 use crate::expressions::{constant_tree, expression, operand};
-use crate::scopes::Scopes;
 use c_conversions::{Operand, constant};
+use c_names::Scopes;
 use c_objects::{Entry, Initialiser, add, initial_word, is_null};
 use c_rules::{Meaning, ObjectType, Refusal, Rule};
 use c_syntax::{BinaryOp, Expr, ExprKind, Init, ItemKind, PrefixOp};

@@ -9,14 +9,12 @@ mod expressions;
 mod file_scope;
 mod initialisers;
 mod names;
-mod scopes;
 
+pub use c_names::{Scopes, Static, is_in, is_initialised_twice, is_out, static_number};
 pub use call_arguments::word_at;
 pub use declarations::{declarator, declare_object};
 pub use expressions::{constant_tree, expression, operand};
 pub use file_scope::{
-    declare_function, declare_parameters, declare_static, defined_parameters, starts,
-    static_number, without_type,
+    declare_function, declare_parameters, declare_static, defined_parameters, starts, without_type,
 };
 pub use initialisers::initialiser;
-pub use scopes::{Scopes, is_in, is_out};

@@ -5,12 +5,12 @@ ghost use Rattle.c_tree.specs.View.{expr_of};
 ghost use Rattle.c_rules.specs.declared.fault.Refusal.TheVariants as refusals;
 ghost use Rattle.c_rules.specs.declared.fault.Rule.TheVariants as rule;
 ghost use Rattle.c_rules.specs.declared.meaning.Meaning.TheVariants as meanings;
-ghost use Rattle.c_scopes.specs.Tables.{scope_of};
+ghost use Rattle.c_names.specs.Tables.{scope_of};
 ghost use Rattle.c_rules.specs.Typing as rules;
 ghost use Rattle.c_conversions.specs.OperandView.{operand_of};
 
-use crate::scopes::{Scopes, is_in, is_out};
 use c_conversions::{Operand, pointer_to};
+use c_names::{Scopes, is_in, is_out};
 use c_operands::passed;
 use c_rules::{FunctionType, Meaning, ObjectType, Refusal, Rule, mismatch};
 use c_tree::{ExprForm, TypedExpr, VarRef};

@@ -3,7 +3,6 @@ use Rattle.std.specs.Prelude.{List, map, Vec}
 use Rattle.std.specs.Global.{Global}
 use Rattle.c_tree.specs.declared.program.VarRef.{VarRef}
 use Rattle.c_tree.specs.TypedTree.{ProgramTree, Stmt}
-use Rattle.c_types.specs.declared.units.Static as statics
 use Rattle.c_types.specs.declared.units.File as files
 use Rattle.c_types.specs.declared.units.Contents.{Contents}
 use Rattle.c_types.specs.declared.units.TypedBody as bodies
@@ -13,10 +12,8 @@ use Rattle.c_rules.specs.Statements.{Typed}
 use Rattle.c_limits.specs.FunctionView.{frame_lists, typed_function_of}
 use Rattle.c_scopes.specs.Tables.{scope_of}
 use Rattle.c_rules.specs.Programs.{object_tree, functions_with}
-use Rattle.c_rules.specs.Units.{StaticTree, File}
-
-abbrev pub static_tree_of : statics.Static → StaticTree
-static_tree_of s = record { name = s.name; object_type = s.object_type; initial = s.initial }
+use Rattle.c_rules.specs.Units.{File}
+use Rattle.c_names.specs.Statics.{static_tree_of}
 
 abbrev pub file_of : files.File → File
 file_of f = record {

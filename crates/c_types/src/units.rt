@@ -8,7 +8,8 @@ ghost use Rattle.c_objects.specs.InitialiserView.{starts_of};
 ghost use Rattle.c_rules.specs.Units as rules;
 ghost use Rattle.c_rules.specs.LocalView.{local_tree_of};
 ghost use Rattle.c_rules.specs.Statements as statements;
-ghost use Rattle.c_types.specs.View.{typed_body_of, static_tree_of, file_of};
+ghost use Rattle.c_types.specs.View.{typed_body_of, file_of};
+ghost use Rattle.c_names.specs.Statics.{static_tree_of};
 ghost use Rattle.c_rules.specs.declared.meaning.Declared.TheVariants as declares;
 ghost use Rattle.c_rules.specs.declared.meaning.ObjectType.TheVariants as objects;
 ghost use Rattle.c_rules.specs.Declarations.{parameters};
@@ -19,8 +20,8 @@ use c_limits::TypedFunction;
 use c_objects::{Starts, boxed, redeclared, spelled, static_list};
 use c_rules::{Declared, FunctionType, Local, ObjectType, Refusal, mismatch};
 use c_scopes::{
-    Scopes, declarator, declare_function, declare_parameters, declare_static, defined_parameters,
-    starts, static_number, without_type,
+    Scopes, Static, declarator, declare_function, declare_parameters, declare_static,
+    defined_parameters, is_initialised_twice, starts, static_number, without_type,
 };
 use c_syntax::{External, FunctionDef, Item, Param};
 use c_tree::{Base, Initial, ScalarType, TypedStmt};
@@ -28,15 +29,6 @@ use indexmap::IndexSet;
 use std::alloc::Global;
 use std::mem;
 use word_base::{Items, NoMemory, Text};
-
-/// An object of file scope.
-#[derive(Drop)]
-pub(crate) struct Static {
-    pub(crate) name: Text,
-    pub(crate) object_type: ObjectType,
-    /// Its list, where it is initialised.
-    pub(crate) initial: Option<Items<Initial>>,
-}
 
 /// What stands before an external: the names, the objects in order of their first declarations, and the functions.
 #[derive(Drop)]
@@ -154,16 +146,7 @@ impl<'a> File<'a> {
     fn is_twice(&self, item: &Item) -> bool
         ensures { result ≡ rules.is_twice (file_of self.now) (item_of item.now) }
     {
-        if item.init.is_none() {
-            return false;
-        }
-        match static_number(&self.scopes, item.name.as_str()) {
-            Some(number) => match self.statics.get(number as usize) {
-                Some(object) => object.initial.is_some(),
-                None => false,
-            },
-            None => false,
-        }
+        is_initialised_twice(&self.scopes, &self.statics, item)
     }
 
     // An item of a declaration.
@@ -280,7 +263,7 @@ impl<'a> File<'a> {
             parameters: Items::new(parameters),
         };
         let allowed = declare_function(&mut self.scopes, name, function)?;
-        let is_defined = self.scopes.number_of(name) < self.functions.len();
+        let is_defined = self.scopes.has_body(name, self.functions.len());
         self.body(result, &kinds, f)?;
         if !allowed || is_defined {
             return Err(redeclared(f.at));

@@ -1,5 +1,5 @@
 use Rattle.c_scopes.specs.ArgumentView.{arguments_of}
-use Rattle.c_scopes.specs.Tables.{scope_of}
+use Rattle.c_names.specs.Tables.{scope_of}
 use Rattle.c_rules.specs.Typing.{call_of}
 use Rattle.c_scopes.proofs.call_arguments.constant_call_of.Goals as goal
 

@@ -2,7 +2,7 @@ use Rattle.std.proofs.Common.{◌+◌, ◌∙◌, map, drop, rules}
 use Rattle.c_syntax.specs.SyntaxView.{parameter_of}
 use Rattle.c_rules.specs.Answers.{Refuses}
 use Rattle.c_rules.specs.Declarations.{parameters}
-use Rattle.c_scopes.specs.Tables.{scope_of}
+use Rattle.c_names.specs.Tables.{scope_of}
 use Rattle.c_scopes.proofs.ParameterLemmas.{parameter_typed, parameter_refused}
 use Rattle.c_rules.proofs.Turns.{first_left}
 use Rattle.c_scopes.proofs.declarations.parameter_types.Goals as goal

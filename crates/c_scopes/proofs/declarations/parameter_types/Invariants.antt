@@ -1,5 +1,5 @@
 use Rattle.std.proofs.Common.{◌≡◌, drop}
-use Rattle.c_scopes.specs.Tables.{scope_of, around_of}
+use Rattle.c_names.specs.Tables.{scope_of, around_of}
 use Rattle.c_scopes.proofs.SoFar.{ParametersSoFar}
 use Rattle.c_scopes.proofs.declarations.parameter_types.Given as goal
 

@@ -1,5 +1,5 @@
 use Rattle.std.proofs.Common.{◌∙◌}
-use Rattle.c_scopes.specs.Tables.{scope_of, around_of}
+use Rattle.c_names.specs.Tables.{scope_of, around_of}
 use Rattle.c_scopes.proofs.ScopesKept.{closed_again}
 use Rattle.c_scopes.proofs.declarations.prototype.Goals as goal
 

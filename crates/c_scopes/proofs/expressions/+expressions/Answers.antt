@@ -7,7 +7,7 @@ use Rattle.c_rules.specs.Answers.{Refuses}
 use Rattle.c_rules.specs.Operands.{assigned, assigned_by, binary, both_true, either_true, indexed, picked, typed_comma}
 use Rattle.c_rules.specs.Outcome.{Outcome, ◌>>=◌, Is}
 use Rattle.c_rules.specs.Typing.{is_address, of_object, operand, typing, typing_form}
-use Rattle.c_scopes.specs.Tables.{scope_of}
+use Rattle.c_names.specs.Tables.{scope_of}
 use Rattle.c_scopes.proofs.CallForms.{form_follows, call_follows, constant_call_follows, side_refused}
 use Rattle.c_scopes.proofs.expressions.+expressions.Goals as goal
 

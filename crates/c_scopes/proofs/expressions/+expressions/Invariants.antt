@@ -1,6 +1,6 @@
 use Rattle.std.proofs.Common.{◌+◌, ◌*◌, max, drop}
 use Rattle.c_syntax.specs.declared.expr.ExprKind.{size-ExprKind}
-use Rattle.c_scopes.specs.Tables.{scope_of}
+use Rattle.c_names.specs.Tables.{scope_of}
 use Rattle.c_scopes.proofs.OperandsSoFar.{OperandsSoFar}
 use Rattle.c_scopes.proofs.expressions.+expressions.Given as goal
 

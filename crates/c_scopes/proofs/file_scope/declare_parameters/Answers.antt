@@ -1,5 +1,5 @@
 use Rattle.std.proofs.Common.{sym, ◌∙◌}
-use Rattle.c_scopes.specs.Tables.{scope_of}
+use Rattle.c_names.specs.Tables.{scope_of}
 use Rattle.c_scopes.proofs.FileScopeLemmas.{parameters_ended}
 use Rattle.c_scopes.proofs.file_scope.declare_parameters.Goals as goal
 

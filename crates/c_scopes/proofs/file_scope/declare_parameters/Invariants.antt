@@ -1,6 +1,6 @@
 use Rattle.std.proofs.Common.{◌≡◌, map, drop}
 use Rattle.c_syntax.specs.SyntaxView.{parameter_of}
-use Rattle.c_scopes.specs.Tables.{around_of, scope_of}
+use Rattle.c_names.specs.Tables.{around_of, scope_of}
 use Rattle.c_rules.specs.Units.{with_parameters}
 use Rattle.c_scopes.proofs.file_scope.declare_parameters.Given as goal
 

@@ -3,7 +3,7 @@ use Rattle.c_syntax.specs.SyntaxView.{expression_of}
 use Rattle.c_tree.specs.View.{expr_of}
 use Rattle.c_rules.specs.Answers.{Refuses}
 use Rattle.c_rules.specs.Statements.{all_typed}
-use Rattle.c_scopes.specs.Tables.{scope_of}
+use Rattle.c_names.specs.Tables.{scope_of}
 use Rattle.c_scopes.proofs.SoFar.{typed_further, typed_refused, typed_ended}
 use Rattle.c_scopes.proofs.initialisers.all_typed.Goals as goal
 

@@ -2,7 +2,7 @@ use Rattle.std.proofs.Common.{map, rules}
 use Rattle.c_syntax.specs.SyntaxView.{expression_of}
 use Rattle.c_rules.specs.Answers.{Refuses}
 use Rattle.c_rules.specs.Declarations as spec
-use Rattle.c_scopes.specs.Tables.{scope_of}
+use Rattle.c_names.specs.Tables.{scope_of}
 use Rattle.c_scopes.proofs.SoFar.{entries_further, entries_refused, entries_ended}
 use Rattle.c_scopes.proofs.initialisers.entries.Goals as goal
 

@@ -1,5 +1,5 @@
 use Rattle.std.proofs.Common.{drop}
-use Rattle.c_scopes.specs.Tables.{scope_of}
+use Rattle.c_names.specs.Tables.{scope_of}
 use Rattle.c_scopes.proofs.SoFar.{EntriesSoFar}
 use Rattle.c_scopes.proofs.initialisers.entries.Given as goal
 

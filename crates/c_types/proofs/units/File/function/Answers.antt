@@ -1,5 +1,4 @@
 use Rattle.std.proofs.Common.{◌≡◌, ◌∙◌, ◌||◌, not, true, nat_lt, length, ap, map, subst, sym, rules}
-use Rattle.std.proofs.lemmas.Bool.{lt-ltb, le-ltb}
 use Rattle.std.proofs.lemmas.List.{length-map}
 use Rattle.c_syntax.specs.SyntaxView.{function_syntax_of, parameter_of}
 use Rattle.c_limits.specs.FunctionView.{typed_function_of}
@@ -49,14 +48,15 @@ returns-then-not-allowed c =
     let copied : c.new.result ≡ kinds = c.new.ensures ∙ c.in_ok-parameters.ensures ∙ c.deref.ensures.value in
     let typed : type ≡ record { result = starred c.in_ok-base.base f.stars; parameters = kinds } = λ i. record { result = c.starred-result.ensures i; parameters = copied i } in
     let allowed = c.in_ok-allowed.allowed in
-    let is_defined = nat_lt c.number_of.result c.len.result in
+    let is_defined = c.has_body-is_defined.result in
     let counted : c.len.result ≡ length file.functions = c.len.ensures ∙ c.args.self.now.functions.ok.0 ∙ sym (length-map c.args.self.now.functions.items typed_function_of) in
-    let again : is_defined ≡ nat_lt (bodies_before (scope_of c.declare_function.new.scopes) c.as_str-name.result.now) (length file.functions) = λ i. nat_lt (c.number_of.ensures i) (counted i) in
+    let again : is_defined ≡ nat_lt (bodies_before (scope_of c.declare_function.new.scopes) c.as_str-name.result.now) (length file.functions) =
+    c.has_body-is_defined.ensures ∙ ap (nat_lt (bodies_before (scope_of c.declare_function.new.scopes) c.as_str-name.result.now)) counted in
     let given : with_body behind f type.result type.parameters ≡ Is (file_of c.body.new.self) =
     ap (with_body behind f c.starred-result.result) (copied ∙ sym c.deref-2.ensures.value) ∙ c.in_ok-body.ensures in
     let broken : (not allowed || is_defined) ≡ true = elim c.then-not-allowed.branch [
       | then-not-allowed-via-then-not-allowed w ↦ not_allowed allowed is_defined w.if-not-allowed.true
-      | then-not-allowed-via-else-not-allowed+then-is_defined w ↦ allowed_twice allowed is_defined w.if-not-allowed.false (lt-ltb c.number_of.result c.len.result w.if-is_defined.true)
+      | then-not-allowed-via-else-not-allowed+then-is_defined w ↦ allowed_twice allowed is_defined w.if-not-allowed.false w.if-is_defined.true
     ] in
     function_twice file f c.in_ok-base.base kinds type (scope_of c.declare_function.new.scopes) (scope_of c.defined_parameters.new.scopes) c.as_str-name.result.now
     c.in_ok-base.ensures listed typed (ap innermost c.in_ok-kinds.ensures.kept) c.as_str-name.ensures c.in_ok-allowed.ensures.declared
@@ -74,11 +74,12 @@ returns c =
     let copied : c.new.result ≡ kinds = c.new.ensures ∙ c.in_ok-parameters.ensures ∙ c.deref.ensures.value in
     let typed : type ≡ record { result = starred c.in_ok-base.base f.stars; parameters = kinds } = λ i. record { result = c.starred-result.ensures i; parameters = copied i } in
     let allowed = c.in_ok-allowed.allowed in
-    let is_defined = nat_lt c.number_of.result c.len.result in
+    let is_defined = c.has_body-is_defined.result in
     let counted : c.len.result ≡ length file.functions = c.len.ensures ∙ c.args.self.now.functions.ok.0 ∙ sym (length-map c.args.self.now.functions.items typed_function_of) in
-    let again : is_defined ≡ nat_lt (bodies_before (scope_of c.declare_function.new.scopes) c.as_str-name.result.now) (length file.functions) = λ i. nat_lt (c.number_of.ensures i) (counted i) in
+    let again : is_defined ≡ nat_lt (bodies_before (scope_of c.declare_function.new.scopes) c.as_str-name.result.now) (length file.functions) =
+    c.has_body-is_defined.ensures ∙ ap (nat_lt (bodies_before (scope_of c.declare_function.new.scopes) c.as_str-name.result.now)) counted in
     let given : with_body behind f type.result type.parameters ≡ Is (file_of c.body.new.self) =
     ap (with_body behind f c.starred-result.result) (copied ∙ sym c.deref-2.ensures.value) ∙ c.in_ok-body.ensures in
     function_typed file f c.in_ok-base.base kinds type (scope_of c.declare_function.new.scopes) (scope_of c.defined_parameters.new.scopes) c.as_str-name.result.now
     c.in_ok-base.ensures listed typed (ap innermost c.in_ok-kinds.ensures.kept) c.as_str-name.ensures c.in_ok-allowed.ensures.declared
-    (file_of c.body.new.self) allowed is_defined given c.in_ok-allowed.ensures.allowed again (allowed_once allowed is_defined c.if-not-allowed.false (le-ltb c.number_of.result c.len.result c.if-is_defined.false))
+    (file_of c.body.new.self) allowed is_defined given c.in_ok-allowed.ensures.allowed again (allowed_once allowed is_defined c.if-not-allowed.false c.if-is_defined.false)

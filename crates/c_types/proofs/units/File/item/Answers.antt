@@ -4,7 +4,8 @@ use Rattle.c_rules.specs.declared.meaning.Declared.TheVariants as declares
 use Rattle.c_rules.specs.Outcome.{Is}
 use Rattle.c_limits.specs.FunctionView.{typed_function_of}
 use Rattle.c_scopes.proofs.ScopesKept.{innermost}
-use Rattle.c_types.specs.View.{file_of, static_tree_of}
+use Rattle.c_types.specs.View.{file_of}
+use Rattle.c_names.specs.Statics.{static_tree_of}
 use Rattle.c_types.proofs.UnitLemmas.{item_follows}
 use Rattle.c_types.proofs.units.File.item.Goals as goal
 

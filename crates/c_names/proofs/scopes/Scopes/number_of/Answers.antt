@@ -1,6 +1,6 @@
 use Rattle.std.proofs.Common.{unwrap_or, ap, ◌∙◌}
-use Rattle.c_scopes.proofs.BodyLemmas.{place_of_name, place_or_len}
-use Rattle.c_scopes.proofs.scopes.Scopes.number_of.Goals as goal
+use Rattle.c_names.proofs.BodyLemmas.{place_of_name, place_or_len}
+use Rattle.c_names.proofs.scopes.Scopes.number_of.Goals as goal
 
 pub returns : goal.returns
 returns c =

@@ -4,7 +4,7 @@ use Rattle.std.specs.Str.{bytes_eq}
 use Rattle.std.specs.List.{position, position_or_len}
 use Rattle.std.proofs.lemmas.Cmp.{nat_list_eq_equiv}
 use Rattle.std.proofs.lemmas.List.Sums.{prefix_len-le-length}
-use Rattle.c_scopes.specs.Tables.{key_names}
+use Rattle.c_names.specs.Tables.{key_names}
 
 -- whichever way round the names are compared
 pub place_of_name : (name : List ℕ) (keys : List (Bor (List ℕ))) → position_or_len (λ k. bytes_eq name k.now) keys ≡ position_or_len (λ body. bytes_eq body name) (key_names keys)

@@ -1,8 +1,8 @@
 use Rattle.std.proofs.Common.{◌≡◌, reverse}
 use Rattle.std.specs.Iterator.Adapters.{rev_source}
 use Rattle.std.specs.Slice.Iter.{iter_rest}
-use Rattle.c_scopes.specs.Tables.{in_tables}
-use Rattle.c_scopes.proofs.scopes.Scopes.find.Given as goal
+use Rattle.c_names.specs.Tables.{in_tables}
+use Rattle.c_names.proofs.scopes.Scopes.find.Given as goal
 
 -- no table so far has the name
 abbrev pub invariant-loop-table : goal.invariant-loop-table

@@ -1,9 +1,9 @@
 use Rattle.std.proofs.Common.{◌≡◌, ℕ, List, reverse, cond, is_some, Some, ap, refl, ◌∙◌}
 use Rattle.std.specs.Str.{bytes_eq}
 use Rattle.std.proofs.lemmas.Map.Text.{hash_map_updates_str}
-use Rattle.c_scopes.specs.Tables.{or_else, in_table, in_tables}
-use Rattle.c_scopes.proofs.ScopeLemmas.{same_scope, declared_meaning, declared_here}
-use Rattle.c_scopes.proofs.scopes.Scopes.declare.Goals as goal
+use Rattle.c_names.specs.Tables.{or_else, in_table, in_tables}
+use Rattle.c_names.proofs.ScopeLemmas.{same_scope, declared_meaning, declared_here}
+use Rattle.c_names.proofs.scopes.Scopes.declare.Goals as goal
 
 pub returns-clause-declared : goal.returns-clause-declared
 returns-clause-declared c =

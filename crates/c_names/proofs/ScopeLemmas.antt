@@ -4,7 +4,7 @@ use Rattle.std.proofs.Math.Path.{fun_ext}
 use Rattle.std.proofs.lemmas.List.{reverse-append}
 use Rattle.c_rules.specs.declared.meaning.Meaning.{Meaning}
 use Rattle.c_rules.specs.Scopes.{Scope}
-use Rattle.c_scopes.specs.Tables.{Table, or_else, in_table, in_tables}
+use Rattle.c_names.specs.Tables.{Table, or_else, in_table, in_tables}
 
 -- two scopes are one where they agree at each name
 pub same_scope : (s t : Scope) → ((n : List ℕ) → s.meaning n ≡ t.meaning n) → ((n : List ℕ) → s.here n ≡ t.here n) → s.bodies ≡ t.bodies → s ≡ t

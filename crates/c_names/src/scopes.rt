@@ -1,9 +1,9 @@
 //! Scopes: ISO 9899:1990 6.1.2.1.
-ghost use Rattle.std.specs.Prelude.{◌≡◌, option_copied, IfErr, OnOk};
+ghost use Rattle.std.specs.Prelude.{◌≡◌, option_copied, nat_lt, IfErr, OnOk};
 ghost use Rattle.c_syntax.specs.SyntaxView.{expression_of};
 ghost use Rattle.c_rules.specs.declared.fault.Refusal.TheVariants as refusals;
 ghost use Rattle.c_rules.specs.Scopes as rules;
-ghost use Rattle.c_scopes.specs.Tables.{scope_of, key_names, scopes_of, around_of, closed};
+ghost use Rattle.c_names.specs.Tables.{scope_of, key_names, scopes_of, around_of, closed};
 ghost use Rattle.c_rules.specs.Typing as typing;
 
 use c_rules::{Meaning, ObjectType, Refusal};
@@ -57,7 +57,7 @@ impl<'a> Scopes<'a> {
     }
 
     /// Declares a name in the innermost scope.
-    pub(crate) fn declare(&mut self, name: &'a str, meaning: Meaning) -> Result<(), Refusal>
+    pub fn declare(&mut self, name: &'a str, meaning: Meaning) -> Result<(), Refusal>
         ensures declared { OnOk result (scope_of self.new ≡ rules.declare (scope_of self.old) name.now meaning) }
         ensures around { around_of self.new ≡ around_of self.old }
         ensures memory { IfErr result (λ f. f ≡ refusals.NoMemory) }
@@ -67,7 +67,7 @@ impl<'a> Scopes<'a> {
     }
 
     /// What a name stands for, where it is declared.
-    pub(crate) fn find(&self, name: &str) -> Option<&Meaning>
+    pub fn find(&self, name: &str) -> Option<&Meaning>
         ensures { option_copied result ≡ (scope_of self.now).meaning name.now }
     {
         if let Some(meaning) = self.innermost.get(name) {
@@ -95,8 +95,15 @@ impl<'a> Scopes<'a> {
         self.bodies.get_index_of(name).unwrap_or(self.bodies.len())
     }
 
+    /// Whether a function's body stands among the first so many of a source.
+    pub fn has_body(&self, name: &str, bodies: usize) -> bool
+        ensures { result ≡ nat_lt (typing.bodies_before (scope_of self.now) name.now) bodies }
+    {
+        self.number_of(name) < bodies
+    }
+
     /// The length of the array that an operand names, where it names one.
-    pub(crate) fn array_length(&self, e: &Expr) -> Option<u16>
+    pub fn array_length(&self, e: &Expr) -> Option<u16>
         ensures { result ≡ typing.array_length (scope_of self.now) (expression_of e.now) }
     {
         let ExprKind::Name(name) = &e.kind else {

@@ -6,7 +6,7 @@ use Rattle.std.specs.declared.hash.BuildHasherDefault.{BuildHasherDefault}
 use Rattle.std.specs.declared.hash.FoldHasher.{FoldHasher}
 use Rattle.indexmap.specs.IndexMap.{IndexMap, get_by}
 use Rattle.c_rules.specs.declared.meaning.Meaning.{Meaning}
-use Rattle.c_scopes.specs.declared.scopes.Scopes.{Scopes}
+use Rattle.c_names.specs.declared.scopes.Scopes.{Scopes}
 use Rattle.c_rules.specs.Scopes.{Scope}
 
 abbrev pub Table : Type 0

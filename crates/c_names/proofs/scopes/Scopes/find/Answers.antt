@@ -1,6 +1,6 @@
 use Rattle.std.proofs.Common.{sym, ◌∙◌}
-use Rattle.c_scopes.proofs.ScopeLemmas.{behind, passed_last, found_last}
-use Rattle.c_scopes.proofs.scopes.Scopes.find.Goals as goal
+use Rattle.c_names.proofs.ScopeLemmas.{behind, passed_last, found_last}
+use Rattle.c_names.proofs.scopes.Scopes.find.Goals as goal
 
 pub returns-in-Some-get : goal.returns-in-Some-get
 returns-in-Some-get c = sym
