@@ -1,3 +1,4 @@
+pub use Rattle.c_scopes.proofs as c_scopes
 pub mod BlockLemmas
 pub mod SyntaxRows
 pub mod StatementsSoFar

@@ -8,3 +8,7 @@ mod labels;
 mod statements;
 
 pub use blocks::Body;
+pub use c_scopes::{
+    Scopes, Static, declarator, declare_function, declare_parameters, declare_static,
+    defined_parameters, is_initialised_twice, starts, static_number, without_type,
+};
