@@ -2,7 +2,7 @@
 use Rattle.std.proofs.Common.{◌≡◌, ◌≢◌, ℕ, ◌+◌, List, [], ◌++◌, length, refl, sym, ap, subst, append-nil, ◌∙◌, inl, inr, arith}
 use Rattle.c25_isa.specs.declared.image.FunctionRange.{FunctionRange}
 use Rattle.c25_isa.specs.Image.{Contents}
-use Rattle.c25_image.specs.Lines.{lines_text}
+use Rattle.text_base.specs.Lines.{lines_text}
 use Rattle.c25_image.specs.ImageText.{line_count, image_lines, image_text}
 use Rattle.c25_image.specs.ImageReading.{ReadsHead, ReadsRows, ReadsRanges}
 use Rattle.c25_image.specs.ImageFaults.{IsWhole, IsNoText, IsFirstFaulty, Says}

@@ -5,8 +5,8 @@ use Rattle.std.specs.List.{flat_map}
 use Rattle.std.proofs.lemmas.List.{length-drop, nil_from_length}
 use Rattle.c25_isa.specs.declared.image.FunctionRange.{FunctionRange}
 use Rattle.c25_isa.specs.Image.{Contents, AreRanges}
-use Rattle.c25_image.specs.Hex.{hex4}
-use Rattle.c25_image.specs.Lines.{with_feed, lines_text}
+use Rattle.text_base.specs.Hex.{hex4}
+use Rattle.text_base.specs.Lines.{with_feed, lines_text}
 use Rattle.c25_image.specs.ImageText.{last_line, word_line, word_lines, line_count, range_line, open_lines, image_lines, image_text}
 use Rattle.c25_image.specs.ImageReading.{AreWords, ReadsHead, ReadsRows, ReadsRanges}
 use Rattle.c25_image.specs.ImageFaults.{IsWhole, IsNoText, Begins, HasBadRange, IsFirstFaulty, behind}

@@ -2,7 +2,7 @@
 use Rattle.std.proofs.Common.{◌≡◌, ◌≢◌, ℕ, zero, suc, ◌+◌, ◌-◌, ◌<◌, ◌≤◌, List, [], ◌∷◌, ◌++◌, length, refl, sym, ap, subst, ◌∙◌, inl, inr, arith, append_assoc, length-append}
 use Rattle.std.specs.Prelude.{◌⊎◌}
 use Rattle.std.proofs.lemmas.Bool.{cases_lt}
-use Rattle.c25_image.specs.Lines.{with_feed, lines_text}
+use Rattle.text_base.specs.Lines.{with_feed, lines_text}
 use Rattle.c25_image.specs.ImageText.{first_line, last_line, size_line, range_line, open_lines}
 use Rattle.c25_image.specs.ImageFaults.{IsNoText, Begins, StatesTooMany, HasBadRange, IsFirstFaulty, Says, behind}
 use Rattle.c25_image.specs.declared.fault.ImageFault.{ImageFault}

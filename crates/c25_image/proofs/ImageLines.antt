@@ -9,8 +9,8 @@ use Rattle.std.proofs.lemmas.Bool.Decides.{nat_tests}
 use Rattle.c25_isa.specs.declared.image.FunctionRange.{FunctionRange}
 use Rattle.c25_isa.specs.Image.{Contents, AreRanges}
 use Rattle.word_base.specs.Name.{IsName, IsNamePart}
-use Rattle.c25_image.specs.Hex.{hex_digit, hex4}
-use Rattle.c25_image.specs.Lines.{with_feed, lines_text, HasNoFeed}
+use Rattle.text_base.specs.Hex.{hex_digit, hex4}
+use Rattle.text_base.specs.Lines.{with_feed, lines_text, HasNoFeed}
 use Rattle.c25_image.specs.ImageText.{first_line, last_line, size_line, word_line, word_lines, line_count, range_words, range_line, open_lines, image_lines}
 use Rattle.c25_image.specs.ImageFaults.{IsWhole}
 use Rattle.c25_image.proofs.Ranges.{cut_end}

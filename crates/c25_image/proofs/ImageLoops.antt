@@ -4,10 +4,10 @@ use Rattle.std.proofs.lemmas.List.{take_all, take-append-le, drop-append-le, len
 use Rattle.std.specs.List.{flat_map}
 use Rattle.std.specs.Prelude.{◌⊎◌}
 use Rattle.std.proofs.lemmas.List.Concat.{flat_map-append}
-use Rattle.c25_image.specs.Hex.{hex4}
+use Rattle.text_base.specs.Hex.{hex4}
 use Rattle.c25_isa.specs.declared.image.FunctionRange.{FunctionRange}
 use Rattle.c25_isa.specs.Image.{AreRanges, IsRange}
-use Rattle.c25_image.specs.Lines.{with_feed, lines_text, HasNoFeed}
+use Rattle.text_base.specs.Lines.{with_feed, lines_text, HasNoFeed}
 use Rattle.c25_image.specs.ImageText.{last_line, word_line, word_lines, line_count, range_line}
 use Rattle.c25_image.specs.ImageReading.{AreWords, IsNamed, IsStuck, IsRowOf, ReadsRow, NextRow, ReadsRows, ReadsRanges}
 use Rattle.c25_image.specs.ImageFaults.{behind}

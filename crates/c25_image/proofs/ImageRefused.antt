@@ -3,7 +3,7 @@ use Rattle.std.proofs.Common.{◌≡◌, ℕ, ◌+◌, ◌-◌, ◌<◌, ◌≤�
 use Rattle.std.specs.Prelude.{◌⊎◌}
 use Rattle.c25_isa.specs.declared.image.FunctionRange.{FunctionRange}
 use Rattle.c25_isa.specs.Image.{Contents, IsRange}
-use Rattle.c25_image.specs.Lines.{with_feed, lines_text}
+use Rattle.text_base.specs.Lines.{with_feed, lines_text}
 use Rattle.c25_image.specs.ImageText.{first_line, last_line, size_line, range_line, open_lines, image_lines, image_text}
 use Rattle.c25_image.specs.ImageReading.{IsNamed, IsStuck}
 use Rattle.c25_image.specs.ImageFaults.{IsWhole, IsNoText, Begins, StatesTooMany, HasBadRange, IsFirstFaulty, behind}

@@ -3,7 +3,7 @@ use Rattle.std.proofs.Common.{◌≡◌, ℕ, zero, suc, ◌+◌, ◌-◌, ◌*�
 use Rattle.std.proofs.lemmas.List.{length-replicate, length-map, length-drop, nil_from_length, take-append-le, drop-append-le}
 use Rattle.c25_isa.specs.declared.image.FunctionRange.{FunctionRange}
 use Rattle.c25_isa.specs.Image.{Contents, AreRanges, IsRange}
-use Rattle.c25_image.specs.Lines.{with_feed, lines_text}
+use Rattle.text_base.specs.Lines.{with_feed, lines_text}
 use Rattle.c25_image.specs.ImageText.{first_line, last_line, size_line, word_line, word_lines, line_count, range_line, open_lines, image_lines}
 use Rattle.c25_image.specs.ImageReading.{AreWords, IsRowOf, StatesSize, ReadsHead, ReadsRows}
 use Rattle.c25_image.specs.ImageFaults.{IsWhole, IsNoText, StatesTooMany, HasBadRange, IsFirstFaulty, behind}

@@ -5,12 +5,12 @@ use Rattle.std.specs.List.{AllByRecursion}
 use Rattle.std.specs.Str.Lines.{lines, strip_carriage_return}
 use Rattle.std.proofs.lemmas.List.{get_or_at, drop_all}
 use Rattle.std.proofs.lemmas.Bool.Decides.{nat_tests}
-use Rattle.c25_image.specs.Hex.{hex_digit, hex4}
-use Rattle.c25_image.specs.Lines.{HasNoFeed}
+use Rattle.text_base.specs.Hex.{hex_digit, hex4}
+use Rattle.text_base.specs.Lines.{HasNoFeed}
 use Rattle.c25_image.specs.OutsText.{IsOut, out_line, outs_text}
 use Rattle.c25_image.specs.PortText.{IsHexDigit, Spells, IsPortLine, AllGive, PortText}
 use Rattle.c25_image.proofs.ImageLines.{HasNoFeed-append, hex4_no_feed, decimal_no_feed}
-use Rattle.c25_image.proofs.PortLines.{lines_front}
+use Rattle.text_base.proofs.TextLines.{lines_front}
 
 digit_of : (d : ℕ) → d < 16 → IsHexDigit (hex_digit d) d
 digit_of d lt = record { below = lt; either = inl refl }

@@ -3,7 +3,7 @@ use Rattle.std.proofs.Common.{◌≡◌, ◌≢◌, ℕ, ◌<◌, ◌^◌, Bool,
 use Rattle.std.specs.List.{flat_map}
 use Rattle.std.specs.Prelude.{◌⊎◌}
 use Rattle.std.proofs.lemmas.List.Concat.{flat_map-append}
-use Rattle.c25_image.specs.Hex.{hex4}
+use Rattle.text_base.specs.Hex.{hex4}
 use Rattle.c25_image.specs.ImageText.{word_line}
 use Rattle.c25_image.specs.ImageReading.{AreWords, IsRow, ReadsRow}
 

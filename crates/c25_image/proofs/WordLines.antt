@@ -1,7 +1,7 @@
 -- The lines of an image's words.
 use Rattle.std.proofs.Common.{◌≡◌, ℕ, suc, ◌<◌, min, List, ◌∷◌, ◌++◌, length, take, drop, sym, ap, ◌∙◌, arith, append_assoc}
 use Rattle.std.proofs.lemmas.List.{take_min, drop_min, length-drop}
-use Rattle.c25_image.specs.Lines.{with_feed, lines_text}
+use Rattle.text_base.specs.Lines.{with_feed, lines_text}
 use Rattle.c25_image.specs.ImageText.{word_line, word_lines, line_count}
 
 -- the first line of some words, and those behind it

@@ -2,7 +2,7 @@
 use Rattle.std.specs.Prelude.{◌≡◌, ◌≢◌, ℕ, ◌+◌, ◌-◌, ◌<◌, ◌^◌, List, [], ◌∷◌, ◌++◌, length}
 use Rattle.c25_isa.specs.declared.image.FunctionRange.{FunctionRange}
 use Rattle.c25_isa.specs.Image.{Contents, IsImage, IsRange}
-use Rattle.c25_image.specs.Lines.{lines_text}
+use Rattle.text_base.specs.Lines.{lines_text}
 use Rattle.c25_image.specs.ImageText.{first_line, size_line, range_line, open_lines, image_lines, image_text}
 use Rattle.c25_image.specs.ImageReading.{AreWords, IsNamed}
 use Rattle.c25_image.specs.declared.fault.ImageFault.{ImageFault}

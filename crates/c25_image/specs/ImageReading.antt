@@ -4,7 +4,7 @@ use Rattle.std.specs.List.{AllByRecursion}
 use Rattle.c25_isa.specs.declared.image.FunctionRange.{FunctionRange}
 use Rattle.c25_isa.specs.Image.{AreRanges}
 use Rattle.word_base.specs.Name.{IsName}
-use Rattle.c25_image.specs.Lines.{with_feed, lines_text, HasNoFeed}
+use Rattle.text_base.specs.Lines.{with_feed, lines_text, HasNoFeed}
 use Rattle.c25_image.specs.ImageText.{first_line, last_line, size_line, word_line, word_lines, line_count, range_line}
 
 -- each has 16 bits

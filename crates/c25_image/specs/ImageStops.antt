@@ -2,7 +2,7 @@
 use Rattle.std.specs.Prelude.{◌≡◌, ◌⊎◌, ℕ, ◌+◌, ◌-◌, ◌*◌, ◌<◌, min, List, ◌++◌, length, map}
 use Rattle.c25_isa.specs.declared.image.FunctionRange.{FunctionRange}
 use Rattle.c25_isa.specs.Image.{AreRanges, IsRange}
-use Rattle.c25_image.specs.Lines.{with_feed, lines_text}
+use Rattle.text_base.specs.Lines.{with_feed, lines_text}
 use Rattle.c25_image.specs.ImageText.{first_line, last_line, word_lines, range_line}
 use Rattle.c25_image.specs.ImageReading.{AreWords, IsNamed, IsStuck, IsRowOf, StatesSize}
 use Rattle.c25_image.specs.ImageFaults.{StatesTooMany, behind}

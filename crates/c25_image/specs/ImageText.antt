@@ -3,8 +3,8 @@ use Rattle.std.specs.Prelude.{ℕ, zero, suc, ◌+◌, ◌/◌, List, [], ◌∷
 use Rattle.std.specs.List.{flat_map}
 use Rattle.c25_isa.specs.declared.image.FunctionRange.{FunctionRange}
 use Rattle.c25_isa.specs.Image.{Contents}
-use Rattle.c25_image.specs.Hex.{hex4}
-use Rattle.c25_image.specs.Lines.{lines_text}
+use Rattle.text_base.specs.Hex.{hex4}
+use Rattle.text_base.specs.Lines.{lines_text}
 
 -- the line of words, one space between two of them
 abbrev pub word_line : List ℕ → List ℕ

@@ -1,5 +1,5 @@
-pub mod Hex
-pub mod Lines
+pub use Rattle.text_base.specs.Hex
+pub use Rattle.text_base.specs.Lines
 pub mod ImageText
 pub mod OutsText
 pub mod ImageReading

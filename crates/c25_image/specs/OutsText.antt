@@ -1,7 +1,7 @@
 -- The text of the words that were put out (docs/FORMATS.md, "Outputs").
 use Rattle.std.specs.Prelude.{ℕ, ◌<◌, ◌^◌, List, ◌∷◌, ◌++◌, map, decimal}
-use Rattle.c25_image.specs.Hex.{hex4}
-use Rattle.c25_image.specs.Lines.{lines_text}
+use Rattle.text_base.specs.Hex.{hex4}
+use Rattle.text_base.specs.Lines.{lines_text}
 
 -- a port and its word
 abbrev pub out_line : ℕ × ℕ → List ℕ

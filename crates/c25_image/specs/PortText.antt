@@ -2,7 +2,7 @@
 -- the last line may lack, and one carriage return right before a line feed belongs to the end of the line.
 use Rattle.std.specs.Prelude.{◌≡◌, ◌⊎◌, ℕ, ◌+◌, ◌*◌, ◌<◌, ◌≤◌, nat_lt, if◌then◌else◌, List, [], ◌∷◌, ◌++◌, length, replicate, decimal}
 use Rattle.std.specs.Str.Lines.{lines}
-use Rattle.c25_image.specs.Hex.{hex_digit}
+use Rattle.text_base.specs.Hex.{hex_digit}
 use Rattle.c25_image.specs.declared.fault.PortFault.{PortFault}
 use Rattle.c25_image.specs.declared.fault.PortFault.TheVariants as faults
 

@@ -5,10 +5,9 @@ ghost use Rattle.word_base.specs.Name.{IsName};
 ghost use Rattle.c25_image.specs.ImageText.{range_words, range_line, size_line};
 ghost use Rattle.c25_image.specs.ImageReading.{IsRow, ReadsRow, IsNamed};
 
-use crate::decimal::read_decimal;
-use crate::hex::{front_spaced, front_word};
 use c25_isa::FunctionRange;
 use std::alloc::Global;
+use text_base::{front_spaced, front_word, read_decimal};
 use word_base::{NoMemory, Text, name_text};
 
 /// The words on a full line.

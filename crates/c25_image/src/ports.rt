@@ -1,14 +1,12 @@
 //! Reading port files.
-ghost use Rattle.std.specs.Prelude.{◌≡◌, ◌⊎◌, ◌<◌, ◌∷◌, ℕ, List, length, MatchOption, MatchResult, IfOk, IfErr};
-ghost use Rattle.std.specs.Str.Lines.{lines, strip_carriage_return};
+ghost use Rattle.std.specs.Prelude.{◌≡◌, ◌⊎◌, ℕ, List, MatchOption, MatchResult, IfOk, IfErr};
 ghost use Rattle.c25_image.specs.PortText.{IsHexDigit, IsHexWord, IsPortLine, PortText, IsFirstBad, PortSays};
 ghost use Rattle.c25_image.specs.PortReading.{IsBehindBlanks};
 ghost use Rattle.c25_image.specs.declared.fault.PortFault.TheVariants as port_faults;
 
-use crate::decimal::read_decimal;
 use crate::fault::PortFault;
-use crate::lines::{front_line, front_until};
 use std::alloc::Global;
+use text_base::{front_until, next_line, read_decimal};
 use word_base::{PortWord, Ports};
 
 /// The most digits that a word has.
@@ -65,28 +63,6 @@ fn read_line(line: &[u8]) -> Option<PortWord>
     }
     let word = read_word(behind_blanks(rest))?;
     Some(PortWord::new(port as u8, word))
-}
-
-// The line without the one carriage return at its end.
-fn without_return(line: &[u8]) -> &[u8]
-    ensures { result.now ≡ strip_carriage_return line.now }
-{
-    match line {
-        [front @ .., b'\r'] => front,
-        _ => line,
-    }
-}
-
-// The first line, and what stands behind it.
-fn next_line(bytes: &[u8]) -> (&[u8], &[u8])
-    requires { 0 < length bytes.now }
-    ensures lines { lines bytes.now ≡ result.0.now ∷ lines result.1.now }
-    ensures shorter { length result.1.now < length bytes.now }
-{
-    match front_line(bytes) {
-        Some((line, rest)) => (without_return(line), rest),
-        None => bytes.split_at(bytes.len()),
-    }
 }
 
 /// What a port file gives: for each of its lines that isn't blank a word for a port, in order.

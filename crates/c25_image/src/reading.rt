@@ -10,9 +10,9 @@ ghost use Rattle.c25_image.specs.ImageStops.{StopsInHead, StopsInRows, StopsInRa
 
 use crate::fault::ImageFault;
 use crate::image_lines::{WORDS_TO_A_LINE, read_range, read_row, read_size};
-use crate::lines::front_line;
 use c25_isa::{FunctionRange, Image};
 use std::alloc::Global;
+use text_base::front_line;
 use word_base::NoMemory;
 
 /// The most words that an image holds.

@@ -1,16 +1,15 @@
 //! Writing the texts of images and of outputs.
 ghost use Rattle.std.specs.Prelude.{◌≡◌, ◌<◌, ◌++◌, ◌∷◌, [], length, map, IfOk, OnOk};
-ghost use Rattle.c25_image.specs.Lines.{with_feed, lines_text};
+ghost use Rattle.text_base.specs.Lines.{with_feed, lines_text};
 ghost use Rattle.c25_image.specs.ImageText.{word_line, word_lines, line_count, range_line, size_line, image_text};
 ghost use Rattle.c25_image.specs.ImageFaults.{IsWhole};
 ghost use Rattle.c25_image.specs.PortText.{PortText};
 ghost use Rattle.c25_image.specs.OutsText.{IsOut, out_line, outs_text};
 
-use crate::decimal::push_decimal;
-use crate::hex::push_hex;
 use crate::image_lines::WORDS_TO_A_LINE;
 use c25_isa::{FunctionRange, Image};
 use std::alloc::Global;
+use text_base::{push_decimal, push_hex};
 use word_base::{NoMemory, PortWord};
 
 // The line that says how many words there are.

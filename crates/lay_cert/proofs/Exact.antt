@@ -1,7 +1,7 @@
 -- Bytes say one thing: one certificate, or one fault.
 use Rattle.std.proofs.Common.{◌≡◌, ◌≢◌, ℕ, ◌-◌, List, [], ◌∷◌, ◌++◌, length, refl, sym, ap, subst, ◌∙◌, inl, inr, arith, append_assoc}
 use Rattle.std.specs.Prelude.{◌⊎◌}
-use Rattle.lay_text.specs.Lines.{with_feed, lines_text, Lacks}
+use Rattle.text_base.specs.Lines.{with_feed, lines_text, Lacks}
 use Rattle.lay_cert.specs.declared.fault.CertFault.{CertFault}
 use Rattle.lay_cert.specs.declared.fault.CertFault.TheVariants as faults
 use Rattle.lay_cert.specs.Frames.{Frame}

@@ -10,8 +10,9 @@ use Rattle.lay_tree.specs.declared.answer.Mark.TheVariants.{Branched, Closed}
 use Rattle.lay_cert.specs.declared.certificate.Claim.TheVariants.{Optimal, Best}
 use Rattle.lay_cert.specs.declared.fault.CertFault.TheVariants as faults
 use Rattle.lay_cert.specs.Frames.{Frame}
-use Rattle.lay_cert.specs.CertText.{cert_text, old_text, claim_line, list_line}
-use Rattle.lay_cert.specs.Marks.{is_short}
+use Rattle.lay_cert.specs.CertText.{cert_text, old_text, claim_line}
+use Rattle.lay_lines.specs.ListText.{list_line}
+use Rattle.lay_lines.specs.MarkText.{is_short}
 use Rattle.lay_cert.specs.CertReading.{Head, Between, Named, Counted, Stepped, Listing, Costed, Claimed, Unread, Inside, Finished, Reached, Reads, Says, head_of, frame_of}
 use Rattle.lay_cert.proofs.Places.{reached_start, stuck, none_without_feed}
 

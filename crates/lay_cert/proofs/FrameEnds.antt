@@ -4,12 +4,12 @@ use Rattle.word_base.specs.Name.{IsName}
 use Rattle.lay_model.specs.Sequences.{Sequence}
 use Rattle.lay_model.specs.Arrangements.{Arranges}
 use Rattle.std.specs.List.{concat}
-use Rattle.lay_text.specs.Lines.{with_feed, lines_text}
+use Rattle.text_base.specs.Lines.{with_feed, lines_text}
 use Rattle.lay_tree.specs.declared.answer.Mark.{Mark}
 use Rattle.lay_cert.specs.declared.certificate.Claim.{Claim}
 use Rattle.lay_cert.specs.declared.fault.CertFault.TheVariants as faults
 use Rattle.lay_cert.specs.Frames.{Frame, IsFrame}
-use Rattle.lay_cert.specs.Marks.{is_short}
+use Rattle.lay_lines.specs.MarkText.{is_short}
 use Rattle.lay_cert.specs.CertReading.{Part, Between, Named, Counted, Stepped, Listing, Costed, Claimed, Marking, Place, Unread, Inside, Finished, Goes, Ends, PartStep, Step, Runs, Reached, Reads, head_of, frame_of, marked, started, counted_marks, Says}
 use Rattle.lay_cert.specs.LineReading.{Cursor, Stands, IsHead}
 use Rattle.lay_cert.proofs.Places.{stuck}

@@ -7,14 +7,15 @@ use Rattle.std.proofs.lemmas.List.Elements.{recursion_from_All}
 use Rattle.lay_model.specs.Sequences.{Block, counted}
 use Rattle.lay_model.specs.Arrangements.{Arranges}
 use Rattle.lay_cost.proofs.Arranged.{scalars_below, each_list}
-use Rattle.lay_text.specs.SequenceText.{block_line}
-use Rattle.lay_text.specs.LineReading.{IsBlockOf}
+use Rattle.lay_lines.specs.BlockText.{block_line, IsBlockOf}
 use Rattle.lay_tree.specs.declared.answer.Mark.{Mark}
 use Rattle.lay_cert.specs.declared.fault.CertFault.TheVariants as faults
 use Rattle.lay_cert.specs.Frames.{Frame}
-use Rattle.lay_cert.specs.CertText.{list_line, cost_line, mark_bytes}
+use Rattle.lay_lines.specs.ListText.{list_line, ListsSo, capped}
+use Rattle.lay_cert.specs.CertText.{cost_line}
+use Rattle.lay_lines.specs.MarkText.{mark_bytes, JoinsMarks}
 use Rattle.lay_cert.specs.CertReading.{Head, Listing, Costed, Marking, Inside, marked, Says}
-use Rattle.lay_cert.specs.LineReading.{Cursor, Stands, Moves, BeginsNot, IsNotNext, HasLists, ListsSo, JoinsMarks, capped}
+use Rattle.lay_cert.specs.LineReading.{Cursor, Stands, Moves, BeginsNot, IsNotNext, HasLists}
 use Rattle.lay_cert.proofs.Places.{goes, stuck_inside, none_at, not_it}
 
 block_word_list : (rest : List ℕ) (base : ℕ) (numbers : List ℕ) → codes "block " ++ rest ≢ list_line base numbers

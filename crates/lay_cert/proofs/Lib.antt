@@ -4,12 +4,9 @@ pub mod Places
 pub mod Exact
 pub mod Written
 pub mod Spelling
-pub mod MarkLines
 pub mod Steps
 pub mod Layouts
-pub mod Lists
 pub mod FrameEnds
 pub mod Readers
-pub mod ArrangedLists
 pub mod Examples
 pub mod Verdicts

@@ -4,16 +4,19 @@ use Rattle.std.specs.Prelude.{decimal, codes}
 use Rattle.std.specs.List.{AllByRecursion}
 use Rattle.std.proofs.lemmas.Fmt.{decimal_injective}
 use Rattle.std.proofs.lemmas.Bool.Decides.{nat_tests}
-use Rattle.lay_text.specs.Lines.{with_feed, Lacks}
-use Rattle.lay_text.specs.SequenceText.{spaced}
-use Rattle.lay_text.proofs.Numbers.{same_number, spaced_is_off}
+use Rattle.text_base.specs.Lines.{with_feed, Lacks}
+use Rattle.lay_lines.specs.BlockText.{spaced}
+use Rattle.text_base.proofs.Numbers.{same_number}
+use Rattle.lay_lines.proofs.Blocks.{spaced_is_off}
 use Rattle.lay_tree.specs.declared.answer.Mark.{Mark}
 use Rattle.lay_tree.specs.declared.answer.Mark.TheVariants.{Branched, Closed}
 use Rattle.lay_cert.specs.declared.certificate.Claim.{Claim}
 use Rattle.lay_cert.specs.declared.certificate.Claim.TheVariants.{Optimal, Best}
-use Rattle.lay_cert.specs.Hex.{hex_digit, hex4}
+use Rattle.text_base.specs.Hex.{hex_digit, hex4}
 use Rattle.lay_cert.specs.Frames.{IsClaim}
-use Rattle.lay_cert.specs.CertText.{version_line, registers_line, list_line, cost_line, claim_line, marks_line, mark_byte, mark_bytes}
+use Rattle.lay_cert.specs.CertText.{version_line, registers_line, cost_line, claim_line, marks_line}
+use Rattle.lay_lines.specs.ListText.{list_line}
+use Rattle.lay_lines.specs.MarkText.{mark_byte, mark_bytes}
 
 -- ---- lines
 

@@ -2,8 +2,8 @@
 use Rattle.std.proofs.Common.{◌≡◌, ◌≢◌, ℕ, ◌+◌, ◌-◌, ◌<◌, ◌^◌, Bool, List, [], ◌∷◌, ◌++◌, refl, sym, ap, subst, ◌∙◌, arith, append_assoc, length-append}
 use Rattle.std.specs.Prelude.{decimal}
 use Rattle.std.proofs.lemmas.Fmt.{decimal_injective}
-use Rattle.lay_text.proofs.Numbers.{same_behind}
-use Rattle.lay_text.specs.Lines.{with_feed, lines_text, Lacks}
+use Rattle.text_base.proofs.Numbers.{same_behind}
+use Rattle.text_base.specs.Lines.{with_feed, lines_text, Lacks}
 use Rattle.lay_cert.specs.declared.fault.CertFault.{CertFault}
 use Rattle.lay_cert.specs.declared.fault.CertFault.TheVariants as faults
 use Rattle.lay_cert.specs.Frames.{Frame}

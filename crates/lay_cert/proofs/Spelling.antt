@@ -10,14 +10,15 @@ use Rattle.std.proofs.lemmas.List.Sums.{sum_by_push}
 use Rattle.word_base.specs.Name.{IsName}
 use Rattle.lay_model.specs.Sequences.{Block, IsBlock, counted}
 use Rattle.lay_model.specs.Arrangements.{Arranges}
-use Rattle.lay_text.specs.Lines.{lines_text}
-use Rattle.lay_text.specs.SequenceText.{scalars_line, step_line, block_line}
+use Rattle.text_base.specs.Lines.{lines_text}
+use Rattle.lay_lines.specs.BlockText.{scalars_line, step_line, block_line}
 use Rattle.lay_tree.specs.declared.answer.Mark.{Mark}
 use Rattle.lay_cert.specs.declared.certificate.Claim.{Claim}
 use Rattle.lay_cert.specs.declared.fault.CertFault.TheVariants as faults
 use Rattle.lay_cert.specs.Frames.{Frame, IsWhole, AreWhole, IsClaim}
-use Rattle.lay_cert.specs.CertText.{version_line, frame_line, registers_line, list_line, list_lines, cost_line, claim_line, marks_line, mark_bytes, mark_lines, line_count, frame_end, last_line, step_part, log_lines, layout_lines, frame_lines, cert_text, old_text}
-use Rattle.lay_cert.specs.Marks.{is_short}
+use Rattle.lay_cert.specs.CertText.{version_line, frame_line, registers_line, cost_line, claim_line, marks_line, frame_end, last_line, step_part, log_lines, layout_lines, frame_lines, cert_text, old_text}
+use Rattle.lay_lines.specs.ListText.{list_line, list_lines}
+use Rattle.lay_lines.specs.MarkText.{mark_bytes, mark_lines, line_count, is_short}
 use Rattle.lay_cert.specs.CertReading.{Head, Part, Between, Named, Counted, Stepped, Listing, Costed, Claimed, Marking, Place, Unread, Inside, Finished, Goes, Ends, PartStep, Step, Runs, Reached, Reads, head_of, frame_of, marked, registered}
 
 -- ---- what is known of a place by the lines that lead to it

@@ -4,14 +4,14 @@ use Rattle.std.proofs.lemmas.Bool.Decides.{nat_tests}
 use Rattle.std.specs.Prelude.{decimal, codes}
 use Rattle.word_base.specs.Name.{IsName}
 use Rattle.lay_model.specs.Sequences.{Block}
-use Rattle.lay_text.specs.Lines.{Lacks}
+use Rattle.text_base.specs.Lines.{Lacks}
 use Rattle.lay_tree.specs.declared.answer.Mark.{Mark}
 use Rattle.lay_cert.specs.declared.certificate.Claim.{Claim}
 use Rattle.lay_cert.specs.declared.fault.CertFault.{CertFault}
 use Rattle.lay_cert.specs.declared.fault.CertFault.TheVariants as faults
 use Rattle.lay_cert.specs.Frames.{Frame, IsClaim}
-use Rattle.lay_cert.specs.CertText.{version_line, frame_line, registers_line, claim_line, marks_line, mark_bytes, frame_end, last_line}
-use Rattle.lay_cert.specs.Marks.{is_short}
+use Rattle.lay_cert.specs.CertText.{version_line, frame_line, registers_line, claim_line, marks_line, frame_end, last_line}
+use Rattle.lay_lines.specs.MarkText.{mark_bytes, is_short}
 use Rattle.lay_cert.specs.CertReading.{Head, Part, Between, Named, Counted, Stepped, Listing, Costed, Claimed, Marking, Unread, Inside, Finished, Goes, Ends, head_of, frame_of, registered, started, counted_marks, Says}
 use Rattle.lay_cert.specs.LineReading.{Cursor, Stands, Moves, IsNotNext}
 use Rattle.lay_cert.proofs.Places.{goes, ends, stuck_inside, stuck_unread, none_without_feed, none_at, not_it}

@@ -3,11 +3,11 @@ use Rattle.std.proofs.Common.{◌≡◌, ◌≢◌, ℕ, ◌-◌, ◌<◌, ◌�
 use Rattle.std.specs.Prelude.{Bool}
 use Rattle.std.proofs.lemmas.List.Elements.{recursion_from_All}
 use Rattle.lay_model.specs.Sequences.{Block}
-use Rattle.lay_text.specs.SequenceText.{block_line}
-use Rattle.lay_text.specs.LineReading.{IsBlockOf}
-use Rattle.lay_text.proofs.Numbers.{IsWritable, below_small, block_injective, scalars_injective, step_injective}
+use Rattle.lay_lines.specs.BlockText.{block_line, IsBlockOf}
+use Rattle.lay_lines.proofs.Blocks.{IsWritable, below_small, block_injective, scalars_injective, step_injective}
 use Rattle.lay_cert.specs.Frames.{Frame}
-use Rattle.lay_cert.specs.CertText.{frame_line, last_line, list_line, cost_line}
+use Rattle.lay_cert.specs.CertText.{frame_line, last_line, cost_line}
+use Rattle.lay_lines.specs.ListText.{list_line}
 use Rattle.lay_cert.specs.CertReading.{Head, Part, Between, Named, Counted, Stepped, Listing, Costed, Claimed, Marking, Place, Unread, Inside, Finished, Turn, Goes, started, registered, counted_marks, head_of, frame_of, marked, PartStep, Step}
 use Rattle.lay_cert.proofs.Numbers.{version_same, registers_same, cost_same, marks_same, list_same, claim_same, mark_bytes_same}
 

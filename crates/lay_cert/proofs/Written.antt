@@ -9,17 +9,18 @@ use Rattle.std.proofs.lemmas.Bool.Decides.{nat_tests}
 use Rattle.word_base.specs.Name.{IsNamePart}
 use Rattle.lay_model.specs.Sequences.{Block, IsBlock, counted}
 use Rattle.lay_cost.proofs.Arranged.{scalars_below, each_list}
-use Rattle.lay_text.specs.Lines.{with_feed, lines_text, Lacks}
-use Rattle.lay_text.specs.SequenceText.{spaced, scalars_line, step_line, block_line}
-use Rattle.lay_text.proofs.Numbers.{decimal_lacks}
+use Rattle.text_base.specs.Lines.{with_feed, lines_text, Lacks}
+use Rattle.lay_lines.specs.BlockText.{spaced, scalars_line, step_line, block_line}
+use Rattle.text_base.proofs.Numbers.{decimal_lacks}
 use Rattle.lay_tree.specs.declared.answer.Mark.{Mark}
 use Rattle.lay_tree.specs.declared.answer.Mark.TheVariants.{Branched, Closed}
 use Rattle.lay_cert.specs.declared.certificate.Claim.{Claim}
 use Rattle.lay_cert.specs.declared.certificate.Claim.TheVariants.{Optimal, Best}
-use Rattle.lay_cert.specs.Hex.{hex_digit, hex4}
+use Rattle.text_base.specs.Hex.{hex_digit, hex4}
 use Rattle.lay_cert.specs.Frames.{Frame, IsWhole, AreWhole, IsClaim}
-use Rattle.lay_cert.specs.CertText.{version_line, frame_line, registers_line, list_line, list_lines, cost_line, claim_line, marks_line, mark_bytes, mark_lines, line_count, frame_end, last_line, log_lines, layout_lines, frame_lines, cert_text, old_text}
-use Rattle.lay_cert.specs.Marks.{held, is_below, is_short}
+use Rattle.lay_cert.specs.CertText.{version_line, frame_line, registers_line, cost_line, claim_line, marks_line, frame_end, last_line, log_lines, layout_lines, frame_lines, cert_text, old_text}
+use Rattle.lay_lines.specs.ListText.{list_line, list_lines}
+use Rattle.lay_lines.specs.MarkText.{mark_bytes, mark_lines, line_count, held, is_below, is_short}
 use Rattle.lay_cert.specs.CertReading.{Head, Between, Named, Counted, Stepped, Listing, Costed, Claimed, Marking, Place, Unread, Inside, Finished, Goes, Step, Reached, Reads, head_of, frame_of, marked, registered, counted_marks}
 use Rattle.lay_cert.proofs.Places.{reached_more, reached_start}
 

@@ -4,16 +4,16 @@ use Rattle.std.specs.List.{sum_by, AllByRecursion}
 use Rattle.word_base.specs.Name.{IsName}
 use Rattle.lay_model.specs.Sequences.{Block, counted}
 use Rattle.lay_model.specs.Arrangements.{Arranges}
-use Rattle.lay_text.specs.Lines.{with_feed, lines_text, Lacks}
-use Rattle.lay_text.specs.SequenceText.{scalars_line, step_line, block_line}
-use Rattle.lay_text.specs.LineReading.{IsBlockOf}
+use Rattle.text_base.specs.Lines.{with_feed, lines_text, Lacks}
+use Rattle.lay_lines.specs.BlockText.{scalars_line, step_line, block_line, IsBlockOf}
 use Rattle.lay_tree.specs.declared.answer.Mark.{Mark}
 use Rattle.lay_cert.specs.declared.certificate.Claim.{Claim}
 use Rattle.lay_cert.specs.declared.fault.CertFault.{CertFault}
 use Rattle.lay_cert.specs.declared.fault.CertFault.TheVariants as faults
 use Rattle.lay_cert.specs.Frames.{Frame, IsClaim}
-use Rattle.lay_cert.specs.CertText.{version_line, frame_line, registers_line, list_line, cost_line, claim_line, marks_line, mark_bytes, frame_end, last_line}
-use Rattle.lay_cert.specs.Marks.{is_short}
+use Rattle.lay_cert.specs.CertText.{version_line, frame_line, registers_line, cost_line, claim_line, marks_line, frame_end, last_line}
+use Rattle.lay_lines.specs.ListText.{list_line}
+use Rattle.lay_lines.specs.MarkText.{mark_bytes, is_short}
 
 -- the first lines of a frame
 pub record Head : Type 0 where

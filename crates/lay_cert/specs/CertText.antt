@@ -1,13 +1,12 @@
 -- The text of a certificate (docs/FORMATS.md, "Certificates").
-use Rattle.std.specs.Prelude.{ℕ, zero, suc, ◌+◌, ◌/◌, Bool, true, false, List, [], ◌∷◌, ◌++◌, length, take, drop, map, codes, decimal}
+use Rattle.std.specs.Prelude.{ℕ, Bool, true, false, List, [], ◌∷◌, ◌++◌, length, map, codes, decimal}
 use Rattle.std.specs.List.{flat_map}
-use Rattle.lay_text.specs.Lines.{lines_text}
-use Rattle.lay_text.specs.SequenceText.{spaced, scalars_line, step_line, block_line}
-use Rattle.lay_tree.specs.declared.answer.Mark.{Mark}
-use Rattle.lay_tree.specs.declared.answer.Mark.TheVariants.{Branched, Closed}
+use Rattle.text_base.specs.Lines.{lines_text}
+use Rattle.lay_lines.specs.BlockText.{scalars_line, step_line, block_line}
+use Rattle.lay_lines.specs.ListText.{list_lines}
+use Rattle.lay_lines.specs.MarkText.{mark_lines, line_count}
 use Rattle.lay_cert.specs.declared.certificate.Claim.{Claim}
 use Rattle.lay_cert.specs.declared.certificate.Claim.TheVariants.{Optimal, Best}
-use Rattle.lay_cert.specs.Hex.{hex4}
 use Rattle.lay_cert.specs.Frames.{Frame}
 
 -- the line that names the format
@@ -20,10 +19,6 @@ frame_line name = codes "frame " ++ name
 abbrev pub registers_line : ℕ → List ℕ
 registers_line registers = codes "registers " ++ decimal registers
 
--- a list: its base address, and its scalars
-abbrev pub list_line : ℕ → List ℕ → List ℕ
-list_line base scalars = codes "list " ++ (hex4 base ++ spaced scalars)
-
 abbrev pub cost_line : ℕ → List ℕ
 cost_line cost = codes "cost " ++ decimal cost
 
@@ -35,34 +30,12 @@ claim_line (Best piece quota) = codes "claim best " ++ (decimal piece ++ 32 ∷ 
 abbrev pub marks_line : ℕ → List ℕ
 marks_line marks = codes "marks " ++ decimal marks
 
-abbrev pub mark_byte : Mark → ℕ
-mark_byte Branched = 98
-mark_byte Closed = 99
-
-abbrev pub mark_bytes : List Mark → List ℕ
-mark_bytes marks = map mark_byte marks
-
--- so many lines of marks, sixty-four to a line and the rest on the last
-abbrev pub mark_lines : ℕ → List Mark → List (List ℕ)
-mark_lines zero marks = []
-mark_lines (suc n) marks = mark_bytes (take 64 marks) ∷ mark_lines n (drop 64 marks)
-
--- how many lines so many marks take
-abbrev pub line_count : ℕ → ℕ
-line_count marks = (marks + 63) / 64
-
 -- the line behind which a frame's lines are over, and that behind which all are
 abbrev pub frame_end : List ℕ
 frame_end = codes "endframe"
 
 abbrev pub last_line : List ℕ
 last_line = codes "end"
-
--- each list with its base
-abbrev pub list_lines : List ℕ → List (List ℕ) → List (List ℕ)
-list_lines [] lists = []
-list_lines (base ∷ bases) [] = []
-list_lines (base ∷ bases) (list ∷ lists) = list_line base list ∷ list_lines bases lists
 
 -- version 1 has no line of the step
 abbrev pub step_part : Bool → ℕ → List (List ℕ)

@@ -10,10 +10,8 @@ use crate::certificate::{Claim, MOST_REGISTERS};
 use crate::fault::CertFault;
 use crate::fields;
 use crate::lines::Lines;
-use crate::list_lines::{is_arranged, read_list};
-use crate::marks::{MARKS_TO_A_LINE, is_short, push_marks};
+use lay_lines::{MARKS_TO_A_LINE, is_arranged, is_short, push_marks, read_block, read_list};
 use lay_model::{Blocks, MOST_SCALARS, MOST_STEP, ScalarList, Sequence};
-use lay_text::read_block;
 use lay_tree::{Log, Mark};
 use std::alloc::Global;
 

@@ -1,24 +1,15 @@
 //! The lines of a certificate, one behind another.
-ghost use Rattle.std.specs.Prelude.{◌≡◌, ◌≢◌, ◌<◌, ◌≤◌, ◌+◌, ◌^◌, ◌++◌, ℕ, List, length, decimal, MatchOption, MatchResult};
-ghost use Rattle.lay_text.specs.Lines.{with_feed, Lacks};
+ghost use Rattle.std.specs.Prelude.{◌≡◌, ◌≤◌, ◌+◌, ◌++◌, ℕ, List, length, decimal, MatchOption, MatchResult};
+ghost use Rattle.text_base.specs.Lines.{Lacks};
 ghost use Rattle.lay_cert.specs.LineReading.{Cursor, Moves, BeginsNot, IsNotNext};
 ghost use Rattle.lay_cert.specs.declared.fault.CertFault.TheVariants as faults;
 
 use crate::fault::CertFault;
-use crate::fields::behind_word;
-use lay_text::read_decimal;
 use std::marker::Model;
+use text_base::{behind_word, front_line, number_behind};
 
 /// The most bytes of a certificate.
 pub(crate) const MOST_BYTES: usize = 1 << 29;
-
-// The first line without its line feed, and what stands behind that.
-fn front_line(bytes: &[u8]) -> Option<(&[u8], &[u8])>
-    ensures { MatchOption result (Lacks 10 bytes.now) (λ found. Lacks 10 found.0.now × (bytes.now ≡ with_feed found.0.now ++ found.1.now)) }
-{
-    let end = bytes.iter().position(|byte| *byte == b'\n')?;
-    Some((&bytes[..end], &bytes[end + 1..]))
-}
 
 /// A text, some lines of which are read. Contracts see how many lines that are and what is left.
 #[derive(Drop)]
@@ -141,13 +132,4 @@ impl<'a> Lines<'a> {
         };
         if line == text { Ok(()) } else { Err(fault) }
     }
-}
-
-// The number that stands behind a word.
-fn number_behind(line: &[u8], word: &[u8]) -> Option<u64>
-    ensures { MatchOption result ((n : ℕ) → n < 2 ^ 64 → line.now ≢ word.now ++ decimal n) (λ n. line.now ≡ word.now ++ decimal n) }
-{
-    let digits = behind_word(line, word)?;
-    let number = read_decimal(digits)?;
-    Some(number)
 }

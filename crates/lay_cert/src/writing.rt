@@ -1,44 +1,17 @@
 //! Writing certificates.
-ghost use Rattle.std.specs.Prelude.{◌≡◌, ◌<◌, ◌^◌, ◌++◌, true, length, All, IfOk, OnOk};
+ghost use Rattle.std.specs.Prelude.{◌≡◌, ◌<◌, ◌^◌, ◌++◌, true, length, IfOk, OnOk};
 ghost use Rattle.std.specs.List.{flat_map};
 ghost use Rattle.lay_model.specs.Sequences.{IsSequence};
-ghost use Rattle.lay_text.specs.Lines.{with_feed, lines_text};
+ghost use Rattle.text_base.specs.Lines.{with_feed, lines_text};
 ghost use Rattle.lay_cert.specs.Frames.{IsFrame, IsWhole, AreWhole, IsClaim};
 ghost use Rattle.lay_cert.specs.CertReading.{Reads};
-ghost use Rattle.lay_cert.specs.CertText.{list_line, list_lines, claim_line, mark_bytes, mark_lines, line_count, log_lines, layout_lines, frame_lines, cert_text};
+ghost use Rattle.lay_cert.specs.CertText.{claim_line, log_lines, layout_lines, frame_lines, cert_text};
 
 use crate::certificate::{CertFrame, Certificate, Claim};
-use crate::hex::push_hex;
-use crate::marks::{MARKS_TO_A_LINE, mark_byte};
-use lay_model::ScalarList;
-use lay_text::{push_blocks, push_decimal, push_number, push_spaced};
-use lay_tree::Mark;
+use lay_lines::{push_blocks, push_lists, push_mark_lines, push_number};
 use std::alloc::Global;
+use text_base::push_decimal;
 use word_base::NoMemory;
-
-// The line of a list.
-fn push_list(text: &mut Vec<u8>, base: u16, list: &ScalarList) -> Result<(), NoMemory>
-    ensures text { OnOk result (text.new.items ≡ text.old.items ++ with_feed (list_line base list.now)) }
-    ensures base { OnOk result (base < 2 ^ 16) }
-{
-    text.extend_from_slice(b"list ")?;
-    push_hex(text, base)?;
-    push_spaced(text, list.scalars())?;
-    text.push(b'\n')?;
-    Ok(())
-}
-
-// The lines of all lists, each with its base.
-fn push_lists(text: &mut Vec<u8>, bases: &[u16], lists: &[ScalarList]) -> Result<(), NoMemory>
-    requires { length bases.now ≡ length lists.now }
-    ensures text { OnOk result (text.new.items ≡ text.old.items ++ lines_text (list_lines bases.now lists.now)) }
-    ensures bases { OnOk result (All (λ base. base < 2 ^ 16) bases.now) }
-{
-    for (index, list) in lists.iter().enumerate() {
-        push_list(text, bases[index], list)?;
-    }
-    Ok(())
-}
 
 // The line of a claim.
 fn push_claim(text: &mut Vec<u8>, claim: Claim) -> Result<(), NoMemory>
@@ -55,30 +28,6 @@ fn push_claim(text: &mut Vec<u8>, claim: Claim) -> Result<(), NoMemory>
         }
     }
     text.push(b'\n')?;
-    Ok(())
-}
-
-// A line of marks.
-fn push_mark_line(text: &mut Vec<u8>, marks: &[Mark]) -> Result<(), NoMemory>
-    ensures { OnOk result (text.new.items ≡ text.old.items ++ with_feed (mark_bytes marks.now)) }
-{
-    for mark in marks {
-        text.push(mark_byte(*mark))?;
-    }
-    text.push(b'\n')?;
-    Ok(())
-}
-
-// The lines of all marks.
-fn push_mark_lines(text: &mut Vec<u8>, marks: &[Mark]) -> Result<(), NoMemory>
-    ensures { OnOk result (text.new.items ≡ text.old.items ++ lines_text (mark_lines (line_count (length marks.now)) marks.now)) }
-{
-    let mut rest = marks;
-    while !rest.is_empty() {
-        let (line, after) = rest.split_at(rest.len().min(MARKS_TO_A_LINE));
-        push_mark_line(text, line)?;
-        rest = after;
-    }
     Ok(())
 }
 

@@ -5,11 +5,12 @@ use Rattle.std.specs.Fmt.{digits}
 use Rattle.std.specs.Str.Lines.{lines}
 use Rattle.std.proofs.lemmas.List.Elements.{All-from_recursion, recursion_from_All, All-head}
 use Rattle.lay_model.specs.Sequences.{Block, Sequence, IsBlock}
-use Rattle.lay_text.specs.Lines.{filled}
+use Rattle.lay_text.specs.FilledLines.{filled}
 use Rattle.lay_text.specs.SequenceText.{sequence_text}
 use Rattle.lay_text.specs.SequenceReading.{IsWhole, Reads, Begins, StatesTooMany, IsFirstFaulty}
-use Rattle.lay_text.specs.LineReading.{IsBlockOf}
-use Rattle.lay_text.proofs.Numbers.{block_injective, block_no_end, block_no_step, below_small}
+use Rattle.lay_lines.specs.BlockText.{IsBlockOf}
+use Rattle.lay_lines.proofs.Blocks.{block_injective, block_no_step, below_small}
+use Rattle.lay_text.proofs.LastLine.{block_no_end}
 use Rattle.lay_text.proofs.SequenceLines.{IsOpen, open_whole}
 use Rattle.lay_text.proofs.Faults.{early_count, faulty_block}
 use Rattle.lay_text.proofs.Exact.{trailing}

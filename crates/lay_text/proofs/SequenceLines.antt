@@ -3,10 +3,11 @@ use Rattle.std.proofs.Common.{◌≡◌, ◌≢◌, ℕ, ◌<◌, ◌≤◌, ◌
 use Rattle.std.specs.List.{AllByRecursion, sum_by}
 use Rattle.std.proofs.lemmas.List.Elements.{All-from_recursion, recursion_from_All}
 use Rattle.lay_model.specs.Sequences.{Block, Sequence, counted}
-use Rattle.lay_text.specs.SequenceText.{scalars_line, step_line, block_line, last_line}
+use Rattle.lay_lines.specs.BlockText.{scalars_line, step_line, block_line, IsBlockOf}
+use Rattle.lay_text.specs.SequenceText.{last_line}
 use Rattle.lay_text.specs.SequenceReading.{IsWhole, TellStep, AreLinesOf}
-use Rattle.lay_text.specs.LineReading.{IsBlockOf}
-use Rattle.lay_text.proofs.Numbers.{IsWritable, below_small, block_injective, scalars_injective, step_injective, block_no_end, block_no_step, end_no_step}
+use Rattle.lay_lines.proofs.Blocks.{IsWritable, below_small, block_injective, scalars_injective, step_injective, block_no_step}
+use Rattle.lay_text.proofs.LastLine.{block_no_end, end_no_step}
 
 abbrev pub AreWritable : List Block → Type 0
 AreWritable blocks = AllByRecursion IsWritable blocks

@@ -7,11 +7,13 @@ use Rattle.std.proofs.lemmas.List.Elements.{All-from_recursion, All-get_or}
 use Rattle.std.proofs.lemmas.Fmt.{decimal_by_steps}
 use Rattle.std.proofs.lemmas.Bool.Decides.{nat_tests}
 use Rattle.lay_model.specs.Sequences.{Block, Sequence}
-use Rattle.lay_text.specs.Lines.{lines_text, Lacks, filled}
-use Rattle.lay_text.specs.SequenceText.{scalars_line, step_line, spaced, block_line, last_line, file_lines, step_lines, sequence_text}
+use Rattle.text_base.specs.Lines.{lines_text, Lacks}
+use Rattle.lay_text.specs.FilledLines.{filled}
+use Rattle.lay_lines.specs.BlockText.{scalars_line, step_line, spaced, block_line}
+use Rattle.lay_text.specs.SequenceText.{last_line, file_lines, step_lines, sequence_text}
 use Rattle.lay_text.specs.SequenceReading.{IsWhole, TellStep, Reads}
-use Rattle.lay_text.proofs.Numbers.{AreSmall, IsWritable}
-use Rattle.lay_text.proofs.FileLines.{lines_front}
+use Rattle.lay_lines.proofs.Blocks.{AreSmall, IsWritable}
+use Rattle.text_base.proofs.TextLines.{lines_front}
 use Rattle.lay_text.proofs.SequenceLines.{AreWritable, whole_writable}
 
 -- each byte is printed, so none ends a line

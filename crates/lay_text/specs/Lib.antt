@@ -1,4 +1,5 @@
-pub mod Lines
+pub use Rattle.text_base.specs.Lines
+pub mod FilledLines
 pub mod SequenceText
 pub mod SequenceReading
 pub mod LineReading

@@ -1,9 +1,9 @@
 -- What the reader of a sequence file has read so far, and what a line gives (docs/FORMATS.md, "Sequences").
-use Rattle.std.specs.Prelude.{◌≡◌, ◌≢◌, ℕ, ◌+◌, ◌-◌, ◌<◌, ◌≤◌, ◌^◌, List, [], ◌∷◌, ◌++◌, length, drop, All}
+use Rattle.std.specs.Prelude.{◌≡◌, ◌≢◌, ℕ, ◌+◌, ◌-◌, ◌<◌, ◌≤◌, List, [], ◌∷◌, ◌++◌, length, drop}
 use Rattle.std.specs.Str.Lines.{lines}
-use Rattle.lay_model.specs.Sequences.{Block, Sequence, IsBlock, counted}
-use Rattle.lay_text.specs.Lines.{filled_to}
-use Rattle.lay_text.specs.SequenceText.{scalars_line, step_line}
+use Rattle.lay_model.specs.Sequences.{Sequence}
+use Rattle.lay_text.specs.FilledLines.{filled_to}
+use Rattle.lay_lines.specs.BlockText.{scalars_line, step_line}
 use Rattle.lay_text.specs.SequenceReading.{TellStep, AreLinesOf}
 
 -- so many lines of the bytes are read
@@ -32,18 +32,6 @@ pub record HasRead (before : List (List ℕ)) (line : List ℕ) (p : Place) : Ty
 pub record HasReadAll (before : List (List ℕ)) (p : Place) : Type 0 where
   pub there : p.number ≡ length (lines p.bytes)
   pub all : read_to p ≡ before
-
--- nothing, or a space first
-abbrev pub IsSpacedOff : List ℕ → Type 0
-IsSpacedOff [] = Unit {0}
-IsSpacedOff (code ∷ codes) = code ≡ 32
-
--- what a line of a block gives, where there are so many scalars and the sum of weights times accesses may grow by so much
-pub record IsBlockOf (scalars room : ℕ) (b : Block) : Type 0 where
-  pub block : IsBlock b
-  pub weight : b.weight < 2 ^ 32
-  pub below : All (λ scalar. scalar < scalars) b.accesses
-  pub fits : counted b ≤ room
 
 -- the line that says how many scalars there are is read
 pub record HasCount (p : Place) (scalars : ℕ) : Type 0 where

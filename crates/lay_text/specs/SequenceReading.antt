@@ -2,8 +2,9 @@
 use Rattle.std.specs.Prelude.{◌≡◌, ◌⊎◌, ℕ, ◌-◌, ◌<◌, ◌≤◌, ◌^◌, List, [], ◌∷◌, ◌++◌, length, All}
 use Rattle.std.specs.Str.Lines.{lines}
 use Rattle.lay_model.specs.Sequences.{Sequence, IsSequence}
-use Rattle.lay_text.specs.Lines.{filled, filled_to}
-use Rattle.lay_text.specs.SequenceText.{scalars_line, step_line, file_lines}
+use Rattle.lay_text.specs.FilledLines.{filled, filled_to}
+use Rattle.lay_lines.specs.BlockText.{scalars_line, step_line}
+use Rattle.lay_text.specs.SequenceText.{file_lines}
 use Rattle.lay_text.specs.declared.fault.SeqFault.{SeqFault}
 use Rattle.lay_text.specs.declared.fault.SeqFault.TheVariants as faults
 

@@ -1,24 +1,8 @@
 -- The text of an access sequence (docs/FORMATS.md, "Sequences").
-use Rattle.std.specs.Prelude.{ℕ, ◌==◌, if◌then◌else◌, List, [], ◌∷◌, ◌++◌, map, codes, decimal}
-use Rattle.std.specs.List.{flat_map}
-use Rattle.lay_model.specs.Sequences.{Block, Sequence}
-use Rattle.lay_text.specs.Lines.{lines_text}
-
--- the line that says how many scalars there are
-abbrev pub scalars_line : ℕ → List ℕ
-scalars_line scalars = codes "scalars " ++ decimal scalars
-
--- the line of the step
-abbrev pub step_line : ℕ → List ℕ
-step_line step = codes "step " ++ decimal step
-
--- numbers, each behind one space
-abbrev pub spaced : List ℕ → List ℕ
-spaced numbers = flat_map (λ n. 32 ∷ decimal n) numbers
-
--- the line of a block: its weight and its accesses
-abbrev pub block_line : Block → List ℕ
-block_line b = codes "block " ++ (decimal b.weight ++ spaced b.accesses)
+use Rattle.std.specs.Prelude.{ℕ, ◌==◌, if◌then◌else◌, List, [], ◌∷◌, ◌++◌, map, codes}
+use Rattle.lay_model.specs.Sequences.{Sequence}
+use Rattle.text_base.specs.Lines.{lines_text}
+pub use Rattle.lay_lines.specs.BlockText.{scalars_line, step_line, spaced, block_line}
 
 -- the line behind which nothing stands
 abbrev pub last_line : List ℕ

@@ -1,42 +1,11 @@
 //! The lines of a sequence file, one behind another.
-ghost use Rattle.std.specs.Prelude.{◌≡◌, ◌<◌, ◌+◌, ◌∷◌, ◌++◌, length, MatchOption, MatchResult};
-ghost use Rattle.std.specs.Str.Lines.{lines, strip_carriage_return};
-ghost use Rattle.lay_text.specs.Lines.{with_feed, Lacks};
+ghost use Rattle.std.specs.Prelude.{◌≡◌, ◌+◌, MatchOption, MatchResult};
 ghost use Rattle.lay_text.specs.LineReading.{IsLeft, Place, HasRead, HasReadAll, read_to};
 ghost use Rattle.lay_text.specs.declared.fault.SeqFault.TheVariants as faults;
 
 use crate::fault::SeqFault;
 use std::marker::Model;
-
-// The first line without its line feed, and what stands behind that.
-fn front_line(bytes: &[u8]) -> Option<(&[u8], &[u8])>
-    ensures { MatchOption result (Lacks 10 bytes.now) (λ found. Lacks 10 found.0.now × (bytes.now ≡ with_feed found.0.now ++ found.1.now)) }
-{
-    let end = bytes.iter().position(|byte| *byte == b'\n')?;
-    Some((&bytes[..end], &bytes[end + 1..]))
-}
-
-// The line without the one carriage return at its end.
-fn without_return(line: &[u8]) -> &[u8]
-    ensures { result.now ≡ strip_carriage_return line.now }
-{
-    match line {
-        [front @ .., b'\r'] => front,
-        _ => line,
-    }
-}
-
-// The first line, and what stands behind it.
-fn next_line(bytes: &[u8]) -> (&[u8], &[u8])
-    requires { 0 < length bytes.now }
-    ensures lines { lines bytes.now ≡ result.0.now ∷ lines result.1.now }
-    ensures shorter { length result.1.now < length bytes.now }
-{
-    match front_line(bytes) {
-        Some((line, rest)) => (without_return(line), rest),
-        None => bytes.split_at(bytes.len()),
-    }
-}
+use text_base::next_line;
 
 /// The lines of a text, some of which are read. Contracts see the text and how many lines that are.
 #[derive(Drop)]

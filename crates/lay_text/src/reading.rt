@@ -6,10 +6,9 @@ ghost use Rattle.lay_text.specs.LineReading.{HasCount, IsHead, HasWhole};
 ghost use Rattle.lay_text.specs.declared.fault.SeqFault.{SeqFault};
 ghost use Rattle.lay_text.specs.declared.fault.SeqFault.TheVariants as faults;
 
-use crate::block_lines::read_block;
 use crate::fault::SeqFault;
-use crate::fields::{read_scalars, read_step};
 use crate::lines::Lines;
+use lay_lines::{read_block, read_scalars, read_step};
 use lay_model::{Blocks, MOST_SCALARS, Sequence};
 use std::alloc::Global;
 

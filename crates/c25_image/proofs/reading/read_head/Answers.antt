@@ -1,5 +1,5 @@
 use Rattle.std.proofs.Common.{rules, ◌≡◌, ◌≢◌, ◌++◌, ◌∙◌, ap, sym, inl, inr, refl}
-use Rattle.c25_image.specs.Lines.{with_feed}
+use Rattle.text_base.specs.Lines.{with_feed}
 use Rattle.c25_image.specs.ImageText.{first_line, size_line}
 use Rattle.c25_image.specs.ImageReading.{StatesSize}
 use Rattle.c25_image.proofs.ImageLoops.{stuck_at_end, stuck_at_line, two_lines}

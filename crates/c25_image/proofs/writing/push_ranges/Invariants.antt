@@ -1,5 +1,5 @@
 use Rattle.std.proofs.Common.{◌≡◌, ◌++◌, drop, map}
-use Rattle.c25_image.specs.Lines.{lines_text}
+use Rattle.text_base.specs.Lines.{lines_text}
 use Rattle.c25_image.specs.ImageText.{range_line}
 use Rattle.c25_image.proofs.writing.push_ranges.Given as goal
 

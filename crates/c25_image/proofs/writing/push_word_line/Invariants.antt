@@ -1,5 +1,5 @@
 use Rattle.std.proofs.Common.{◌≡◌, ◌++◌, ◌∷◌, drop}
-use Rattle.c25_image.specs.Hex.{hex4}
+use Rattle.text_base.specs.Hex.{hex4}
 use Rattle.std.specs.List.{flat_map}
 use Rattle.c25_image.proofs.writing.push_word_line.Given as goal
 

@@ -1,5 +1,5 @@
 use Rattle.std.proofs.Common.{◌≡◌, ◌++◌, length}
-use Rattle.c25_image.specs.Lines.{lines_text}
+use Rattle.text_base.specs.Lines.{lines_text}
 use Rattle.c25_image.specs.ImageText.{word_lines, line_count}
 use Rattle.c25_image.proofs.writing.push_words.Given as goal
 

@@ -3,7 +3,7 @@ use Rattle.std.specs.Prelude.{codes}
 use Rattle.std.specs.List.{sum_by}
 use Rattle.std.proofs.lemmas.List.Sums.{sum_by_push}
 use Rattle.lay_model.specs.Sequences.{counted}
-use Rattle.lay_text.specs.SequenceText.{step_line}
+use Rattle.lay_lines.specs.BlockText.{step_line}
 use Rattle.lay_text.proofs.SequenceLines.{IsOpen, open_whole}
 use Rattle.lay_text.proofs.Faults.{IsOpen-push}
 use Rattle.lay_cert.specs.CertReading.{Inside, Listing}

@@ -1,7 +1,7 @@
 use Rattle.std.proofs.Common.{◌≡◌, ◌+◌, ◌^◌, ℕ, Bool, List, [], ◌∷◌, length}
 use Rattle.std.specs.List.{sum_by}
 use Rattle.lay_model.specs.Sequences.{counted}
-use Rattle.lay_text.specs.SequenceText.{step_line}
+use Rattle.lay_lines.specs.BlockText.{step_line}
 use Rattle.lay_text.proofs.SequenceLines.{IsOpen}
 use Rattle.lay_cert.specs.Frames.{Frame}
 use Rattle.lay_cert.specs.CertReading.{Head, Inside, Listing}

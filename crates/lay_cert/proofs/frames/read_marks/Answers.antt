@@ -1,6 +1,6 @@
 use Rattle.std.proofs.Common.{rules, ◌≡◌, true, false}
 use Rattle.std.proofs.lemmas.Result.{err_from_is_err_and}
-use Rattle.lay_cert.specs.Marks.{is_short}
+use Rattle.lay_lines.specs.MarkText.{is_short}
 use Rattle.lay_cert.specs.CertReading.{marked}
 use Rattle.lay_cert.proofs.Steps.{marks_stuck, marks_short, marks_counted, frame_closed, frame_end_stuck}
 use Rattle.lay_cert.proofs.frames.read_marks.Goals as goal

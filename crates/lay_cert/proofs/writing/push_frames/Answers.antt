@@ -2,7 +2,7 @@ use Rattle.std.proofs.Common.{◌≡◌, ◌∙◌, ℕ, ◌+◌, ◌<◌, true,
 use Rattle.std.specs.List.{flat_map}
 use Rattle.std.proofs.lemmas.List.{drop_more}
 use Rattle.std.proofs.lemmas.List.Elements.{AllWithin-more, at_read}
-use Rattle.lay_text.specs.Lines.{lines_text}
+use Rattle.text_base.specs.Lines.{lines_text}
 use Rattle.lay_cert.specs.Frames.{Frame, IsWhole}
 use Rattle.lay_cert.specs.CertText.{frame_lines}
 use Rattle.lay_cert.proofs.Written.{lines-append}

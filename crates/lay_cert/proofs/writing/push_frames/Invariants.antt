@@ -1,6 +1,6 @@
 use Rattle.std.proofs.Common.{◌≡◌, ◌++◌, drop, true}
 use Rattle.std.specs.List.{AllWithin, flat_map}
-use Rattle.lay_text.specs.Lines.{lines_text}
+use Rattle.text_base.specs.Lines.{lines_text}
 use Rattle.lay_cert.specs.Frames.{IsWhole}
 use Rattle.lay_cert.specs.CertText.{frame_lines}
 use Rattle.lay_cert.proofs.writing.push_frames.Given as goal

@@ -1,5 +1,5 @@
 use Rattle.std.proofs.Common.{rules, ◌≡◌, ap, sym, subst, ◌∙◌}
-use Rattle.lay_text.specs.Lines.{Lacks}
+use Rattle.text_base.specs.Lines.{Lacks}
 use Rattle.lay_cert.specs.LineReading.{Cursor}
 use Rattle.lay_cert.proofs.Places.{begins_not_lacking, begins_not}
 use Rattle.lay_cert.proofs.lines.Lines.next_with.Goals as goal

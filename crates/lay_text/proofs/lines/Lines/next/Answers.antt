@@ -1,6 +1,6 @@
 use Rattle.std.proofs.Common.{rules, ◌≡◌, ◌+◌, ◌<◌, ◌≤◌, length, ap, subst, ◌∙◌}
 use Rattle.std.proofs.lemmas.List.{nil_from_length}
-use Rattle.lay_text.specs.Lines.{filled_to}
+use Rattle.lay_text.specs.FilledLines.{filled_to}
 use Rattle.lay_text.specs.LineReading.{Place, read_to, HasRead, HasReadAll}
 use Rattle.lay_text.proofs.FileLines.{left_more, passed_blank, passed_line, passed_all}
 use Rattle.lay_text.proofs.lines.Lines.next.Goals as goal

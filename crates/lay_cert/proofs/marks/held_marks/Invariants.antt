@@ -1,9 +1,0 @@
-use Rattle.std.proofs.Common.{◌≡◌, ◌+◌, ◌≤◌, drop}
-use Rattle.lay_cert.specs.Marks.{held}
-use Rattle.lay_cert.proofs.marks.held_marks.Given as goal
-
-abbrev pub invariant-loop-byte : goal.invariant-loop-byte
-invariant-loop-byte l = record {
-  so_far : held l.all l.here (drop l.byte-index l.text) ≡ held 0 0 l.text;
-  few : l.all + l.here ≤ l.byte-index;
-}

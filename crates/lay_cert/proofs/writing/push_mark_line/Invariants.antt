@@ -1,6 +1,0 @@
-use Rattle.std.proofs.Common.{◌≡◌, ◌++◌, drop}
-use Rattle.lay_cert.specs.CertText.{mark_bytes}
-use Rattle.lay_cert.proofs.writing.push_mark_line.Given as goal
-
-abbrev pub invariant-loop-mark : goal.invariant-loop-mark
-invariant-loop-mark l = l.text.items ++ mark_bytes (drop l.mark-index l.marks) ≡ l.initial.text.items ++ mark_bytes l.marks

@@ -1,0 +1,3 @@
+pub mod BlockText
+pub mod ListText
+pub mod MarkText
