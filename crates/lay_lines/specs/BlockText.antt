@@ -1,5 +1,5 @@
 -- The lines of a sequence (docs/FORMATS.md, "Sequences").
-use Rattle.std.specs.Prelude.{ℕ, ◌<◌, ◌≤◌, ◌^◌, List, ◌∷◌, ◌++◌, codes, decimal, All}
+use Rattle.std.specs.Prelude.{ℕ, ◌<◌, ◌≤◌, ◌^◌, ◌==◌, if◌then◌else◌, List, [], ◌∷◌, ◌++◌, codes, decimal, All}
 use Rattle.std.specs.List.{flat_map}
 use Rattle.lay_model.specs.Sequences.{Block, IsBlock, counted}
 
@@ -10,6 +10,10 @@ scalars_line scalars = codes "scalars " ++ decimal scalars
 -- the line of the step
 abbrev pub step_line : ℕ → List ℕ
 step_line step = codes "step " ++ decimal step
+
+-- a step of 1 isn't written
+abbrev pub step_lines : ℕ → List (List ℕ)
+step_lines step = if step == 1 then [] else step_line step ∷ []
 
 -- numbers, each behind one space
 abbrev pub spaced : List ℕ → List ℕ

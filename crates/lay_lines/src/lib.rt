@@ -11,4 +11,4 @@ pub use block_lines::read_block;
 pub use fields::{read_scalars, read_step};
 pub use list_lines::{is_arranged, read_list};
 pub use marks::{MARKS_TO_A_LINE, is_short, push_marks};
-pub use writing::{push_blocks, push_lists, push_mark_lines, push_number, push_spaced};
+pub use writing::{push_blocks, push_lists, push_mark_lines, push_number, push_spaced, push_step};

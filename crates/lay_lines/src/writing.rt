@@ -1,7 +1,7 @@
 //! Writing lines.
 ghost use Rattle.std.specs.Prelude.{◌≡◌, ◌<◌, ◌^◌, ◌++◌, map, decimal, length, All, OnOk};
 ghost use Rattle.text_base.specs.Lines.{with_feed, lines_text};
-ghost use Rattle.lay_lines.specs.BlockText.{spaced, block_line};
+ghost use Rattle.lay_lines.specs.BlockText.{spaced, step_lines, block_line};
 ghost use Rattle.lay_lines.specs.ListText.{list_line, list_lines};
 ghost use Rattle.lay_lines.specs.MarkText.{mark_bytes, mark_lines, line_count};
 
@@ -18,6 +18,16 @@ pub fn push_number(text: &mut Vec<u8>, word: &[u8], number: u64) -> Result<(), N
     text.extend_from_slice(word)?;
     push_decimal(text, number)?;
     text.push(b'\n')?;
+    Ok(())
+}
+
+/// The line of a step, unless that is 1.
+pub fn push_step(text: &mut Vec<u8>, step: u8) -> Result<(), NoMemory>
+    ensures { OnOk result (text.new.items ≡ text.old.items ++ lines_text (step_lines step)) }
+{
+    if step != 1 {
+        push_number(text, b"step ", u64::from(step))?;
+    }
     Ok(())
 }
 

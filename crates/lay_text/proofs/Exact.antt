@@ -7,16 +7,16 @@ use Rattle.std.proofs.lemmas.List.{take_all, take-take}
 use Rattle.std.proofs.lemmas.List.Elements.{recursion_from_All}
 use Rattle.std.proofs.lemmas.List.Sums.{sum_by-cons}
 use Rattle.lay_model.specs.Sequences.{Block, Sequence, IsBlock, counted}
-use Rattle.lay_text.specs.FilledLines.{filled, filled_to}
+use Rattle.text_base.specs.FilledLines.{filled, filled_to, Place, read_to, HasRead, HasReadAll}
 use Rattle.lay_lines.specs.BlockText.{scalars_line, block_line, IsBlockOf}
 use Rattle.lay_text.specs.SequenceText.{last_line}
 use Rattle.lay_text.specs.SequenceReading.{AreLinesOf, Reads, Begins, StatesTooMany, IsFirstFaulty, Says}
-use Rattle.lay_text.specs.LineReading.{Place, read_to, HasRead, HasReadAll, HasWhole}
+use Rattle.lay_text.specs.LineReading.{HasWhole}
 use Rattle.lay_text.specs.declared.fault.SeqFault.{SeqFault}
 use Rattle.lay_text.specs.declared.fault.SeqFault.TheVariants as faults
 use Rattle.lay_lines.proofs.Blocks.{scalars_injective}
 use Rattle.lay_text.proofs.LastLine.{block_no_end}
-use Rattle.lay_text.proofs.FileLines.{filled_split}
+use Rattle.text_base.proofs.FilledTexts.{filled_split}
 use Rattle.lay_text.proofs.SequenceLines.{IsOpen, open_lines, sequence_of, file_cut, starts_blocks, StartsNoStep, Continues}
 use Rattle.lay_text.proofs.Faults.{faulty, CanGoOn, NotMany, NoneGoesOn, first_not_many}
 

@@ -5,7 +5,7 @@ use Rattle.std.specs.Fmt.{digits}
 use Rattle.std.specs.Str.Lines.{lines}
 use Rattle.std.proofs.lemmas.List.Elements.{All-from_recursion, recursion_from_All, All-head}
 use Rattle.lay_model.specs.Sequences.{Block, Sequence, IsBlock}
-use Rattle.lay_text.specs.FilledLines.{filled}
+use Rattle.text_base.specs.FilledLines.{filled}
 use Rattle.lay_text.specs.SequenceText.{sequence_text}
 use Rattle.lay_text.specs.SequenceReading.{IsWhole, Reads, Begins, StatesTooMany, IsFirstFaulty}
 use Rattle.lay_lines.specs.BlockText.{IsBlockOf}

@@ -7,13 +7,13 @@ use Rattle.std.proofs.lemmas.List.{take_all, map-append}
 use Rattle.std.proofs.lemmas.List.Elements.{recursion_from_All}
 use Rattle.std.proofs.lemmas.List.Sums.{sum_by_push, sum_by-append, sum_by-cons}
 use Rattle.lay_model.specs.Sequences.{Block, Sequence, IsBlock, counted}
-use Rattle.lay_text.specs.FilledLines.{filled, filled_to}
+use Rattle.text_base.specs.FilledLines.{filled, filled_to, Place, read_to, HasRead, HasReadAll}
 use Rattle.lay_lines.specs.BlockText.{scalars_line, step_line, block_line, IsBlockOf}
 use Rattle.lay_text.specs.SequenceText.{last_line, file_lines}
 use Rattle.lay_text.specs.SequenceReading.{IsWhole, AreLinesOf, StatesTooMany, IsFirstFaulty}
-use Rattle.lay_text.specs.LineReading.{Place, read_to, HasRead, HasReadAll, HasCount, IsHead, HasWhole}
+use Rattle.lay_text.specs.LineReading.{HasCount, IsHead, HasWhole}
 use Rattle.lay_lines.proofs.Blocks.{scalars_injective, block_no_step}
-use Rattle.lay_text.proofs.FileLines.{filled_split}
+use Rattle.text_base.proofs.FilledTexts.{filled_split}
 use Rattle.lay_text.proofs.SequenceLines.{IsOpen, open_lines, sequence_of, open_whole, file_cut, NoStepBehind, StartsNoStep, Continues}
 
 -- others can follow so that all are the lines of a sequence

@@ -1,7 +1,6 @@
 pub mod Examples
 pub use Rattle.text_base.proofs.Numbers
 pub mod LastLine
-pub mod FileLines
 pub mod SequenceLines
 pub mod Faults
 pub mod Written

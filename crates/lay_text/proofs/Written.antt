@@ -8,9 +8,9 @@ use Rattle.std.proofs.lemmas.Fmt.{decimal_by_steps}
 use Rattle.std.proofs.lemmas.Bool.Decides.{nat_tests}
 use Rattle.lay_model.specs.Sequences.{Block, Sequence}
 use Rattle.text_base.specs.Lines.{lines_text, Lacks}
-use Rattle.lay_text.specs.FilledLines.{filled}
-use Rattle.lay_lines.specs.BlockText.{scalars_line, step_line, spaced, block_line}
-use Rattle.lay_text.specs.SequenceText.{last_line, file_lines, step_lines, sequence_text}
+use Rattle.text_base.specs.FilledLines.{filled}
+use Rattle.lay_lines.specs.BlockText.{scalars_line, step_line, spaced, block_line, step_lines}
+use Rattle.lay_text.specs.SequenceText.{last_line, file_lines, sequence_text}
 use Rattle.lay_text.specs.SequenceReading.{IsWhole, TellStep, Reads}
 use Rattle.lay_lines.proofs.Blocks.{AreSmall, IsWritable}
 use Rattle.text_base.proofs.TextLines.{lines_front}

@@ -1,5 +1,4 @@
 pub use Rattle.text_base.specs.Lines
-pub mod FilledLines
 pub mod SequenceText
 pub mod SequenceReading
 pub mod LineReading

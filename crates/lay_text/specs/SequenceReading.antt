@@ -2,7 +2,7 @@
 use Rattle.std.specs.Prelude.{◌≡◌, ◌⊎◌, ℕ, ◌-◌, ◌<◌, ◌≤◌, ◌^◌, List, [], ◌∷◌, ◌++◌, length, All}
 use Rattle.std.specs.Str.Lines.{lines}
 use Rattle.lay_model.specs.Sequences.{Sequence, IsSequence}
-use Rattle.lay_text.specs.FilledLines.{filled, filled_to}
+use Rattle.text_base.specs.FilledLines.{filled, filled_to}
 use Rattle.lay_lines.specs.BlockText.{scalars_line, step_line}
 use Rattle.lay_text.specs.SequenceText.{file_lines}
 use Rattle.lay_text.specs.declared.fault.SeqFault.{SeqFault}

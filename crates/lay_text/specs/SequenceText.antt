@@ -1,8 +1,8 @@
 -- The text of an access sequence (docs/FORMATS.md, "Sequences").
-use Rattle.std.specs.Prelude.{ℕ, ◌==◌, if◌then◌else◌, List, [], ◌∷◌, ◌++◌, map, codes}
+use Rattle.std.specs.Prelude.{List, [], ◌∷◌, ◌++◌, map, codes}
 use Rattle.lay_model.specs.Sequences.{Sequence}
 use Rattle.text_base.specs.Lines.{lines_text}
-pub use Rattle.lay_lines.specs.BlockText.{scalars_line, step_line, spaced, block_line}
+pub use Rattle.lay_lines.specs.BlockText.{scalars_line, step_line, step_lines, spaced, block_line}
 
 -- the line behind which nothing stands
 abbrev pub last_line : List ℕ
@@ -11,10 +11,6 @@ last_line = codes "end"
 -- all lines, those of the step as given
 abbrev pub file_lines : List (List ℕ) → Sequence → List (List ℕ)
 file_lines steps s = scalars_line s.scalars ∷ (steps ++ (map block_line s.blocks ++ last_line ∷ []))
-
--- a step of 1 isn't written
-abbrev pub step_lines : ℕ → List (List ℕ)
-step_lines step = if step == 1 then [] else step_line step ∷ []
 
 -- the text that is written
 abbrev pub sequence_text : Sequence → List ℕ

@@ -7,10 +7,11 @@ ghost use Rattle.lay_text.specs.declared.fault.SeqFault.{SeqFault};
 ghost use Rattle.lay_text.specs.declared.fault.SeqFault.TheVariants as faults;
 
 use crate::fault::SeqFault;
-use crate::lines::Lines;
+use crate::lines::{last_fault, next_or_fault};
 use lay_lines::{read_block, read_scalars, read_step};
 use lay_model::{Blocks, MOST_SCALARS, Sequence};
 use std::alloc::Global;
+use text_base::FilledLines;
 
 /// The most that weights times numbers of accesses are together.
 const MOST_COUNTED: u64 = 1 << 60;
@@ -24,14 +25,14 @@ struct Head<'a> {
 }
 
 // Reads how many scalars there are.
-fn read_count(lines: &mut Lines<'_>) -> Result<u8, SeqFault>
+fn read_count(lines: &mut FilledLines<'_>) -> Result<u8, SeqFault>
     requires { lines.old.number ≡ 0 }
     ensures bytes { lines.new.bytes ≡ lines.old.bytes }
     ensures read { MatchResult result (HasCount lines.new) (Says lines.new.bytes) }
 {
-    let line = lines.next_or_fault()?;
+    let line = next_or_fault(lines)?;
     let Some(count) = read_scalars(line) else {
-        return Err(lines.fault());
+        return Err(last_fault(lines));
     };
     if count > u64::from(MOST_SCALARS) {
         return Err(SeqFault::TooManyScalars { count });
@@ -40,18 +41,18 @@ fn read_count(lines: &mut Lines<'_>) -> Result<u8, SeqFault>
 }
 
 // Reads what stands before the blocks, and one line more.
-fn read_head<'a>(lines: &mut Lines<'a>) -> Result<Head<'a>, SeqFault>
+fn read_head<'a>(lines: &mut FilledLines<'a>) -> Result<Head<'a>, SeqFault>
     requires { lines.old.number ≡ 0 }
     ensures bytes { lines.new.bytes ≡ lines.old.bytes }
     ensures read { MatchResult result (λ head. IsHead lines.new head.scalars head.step head.line.now) (Says lines.new.bytes) }
 {
     let scalars = read_count(lines)?;
-    let line = lines.next_or_fault()?;
+    let line = next_or_fault(lines)?;
     match read_step(line) {
         Some(step) => Ok(Head {
             scalars,
             step,
-            line: lines.next_or_fault()?,
+            line: next_or_fault(lines)?,
         }),
         None => Ok(Head {
             scalars,
@@ -62,7 +63,11 @@ fn read_head<'a>(lines: &mut Lines<'a>) -> Result<Head<'a>, SeqFault>
 }
 
 // Reads the blocks and the last line.
-fn read_blocks(alloc: Global, lines: &mut Lines<'_>, head: &Head<'_>) -> Result<Blocks, SeqFault>
+fn read_blocks(
+    alloc: Global,
+    lines: &mut FilledLines<'_>,
+    head: &Head<'_>,
+) -> Result<Blocks, SeqFault>
     requires { IsHead lines.old head.now.scalars head.now.step head.now.line.now }
     ensures bytes { lines.new.bytes ≡ lines.old.bytes }
     ensures read { MatchResult result (λ blocks. HasWhole lines.new (record { scalars = head.now.scalars; step = head.now.step; blocks = blocks })) (Says lines.new.bytes) }
@@ -72,11 +77,11 @@ fn read_blocks(alloc: Global, lines: &mut Lines<'_>, head: &Head<'_>) -> Result<
     let mut line = head.line;
     while line != b"end".as_slice() {
         let Some(block) = read_block(alloc, line, head.scalars, room)? else {
-            return Err(lines.fault());
+            return Err(last_fault(lines));
         };
         room -= u64::from(block.weight()) * block.accesses().len() as u64;
         blocks.push(block.weight(), block.accesses())?;
-        line = lines.next_or_fault()?;
+        line = next_or_fault(lines)?;
     }
     Ok(blocks)
 }
@@ -98,11 +103,11 @@ pub fn read_sequence(alloc: Global, bytes: &[u8]) -> Result<Sequence, SeqFault>
     // Bytes that have a fault are answered with that one, unless memory is wanting.
     ensures only { (fault : SeqFault) → fault ≢ faults.NoMemory → Says bytes.now fault → MatchResult result (λ _. ⊥) (λ found. (found ≡ fault) ⊎ (found ≡ faults.NoMemory)) }
 {
-    let mut lines = Lines::new(bytes);
+    let mut lines = FilledLines::new(bytes);
     let head = read_head(&mut lines)?;
     let blocks = read_blocks(alloc, &mut lines, &head)?;
     match lines.next() {
-        Some(_) => Err(lines.fault()),
+        Some(_) => Err(last_fault(&lines)),
         None => Ok(Sequence::new(head.scalars, head.step, blocks)),
     }
 }

@@ -3,7 +3,7 @@ ghost use Rattle.std.specs.Prelude.{◌≡◌, IfOk};
 ghost use Rattle.lay_text.specs.SequenceText.{sequence_text};
 ghost use Rattle.lay_text.specs.SequenceReading.{Reads};
 
-use lay_lines::{push_blocks, push_number};
+use lay_lines::{push_blocks, push_number, push_step};
 use lay_model::Sequence;
 use std::alloc::Global;
 use word_base::NoMemory;
@@ -17,9 +17,7 @@ pub fn write_sequence(alloc: Global, sequence: &Sequence) -> Result<Vec<u8>, NoM
 {
     let mut text = Vec::new(alloc);
     push_number(&mut text, b"scalars ", u64::from(sequence.scalars()))?;
-    if sequence.step() != 1 {
-        push_number(&mut text, b"step ", u64::from(sequence.step()))?;
-    }
+    push_step(&mut text, sequence.step())?;
     push_blocks(&mut text, sequence.blocks())?;
     text.extend_from_slice(b"end\n")?;
     Ok(text)

@@ -1,7 +1,7 @@
 use Rattle.std.proofs.Common.{◌≡◌, ◌∙◌, ap, subst}
 use Rattle.std.proofs.lemmas.Result.{err_from_is_err_and}
 use Rattle.lay_text.specs.SequenceReading.{Reads, Says}
-use Rattle.lay_text.specs.LineReading.{Place}
+use Rattle.text_base.specs.FilledLines.{Place}
 use Rattle.lay_text.specs.declared.fault.SeqFault.TheVariants as faults
 use Rattle.lay_text.proofs.SequenceLines.{sequence_of}
 use Rattle.lay_text.proofs.Exact.{says_not_read, says_same, sequences_same, trailing, reads_all}
@@ -35,17 +35,17 @@ pub returns-in-Some-clause-written : goal.returns-in-Some-clause-written
 returns-in-Some-clause-written c = λ s r.
     let same : c.next.new.self.bytes ≡ c.args.bytes.now = c.in-Some.ensures.bytes ∙ c.in_ok-blocks.ensures.bytes ∙ c.in_ok-head.ensures.bytes ∙ ap (λ (place : Place). place.bytes) c.new-lines.ensures in
     let fault = subst (λ b. Says b (faults.BadLine c.next.new.self.number)) same (trailing c.read_blocks.new.lines c.next.new.self (sequence_of c.in_ok-head.head.scalars c.in_ok-head.head.step c.in_ok-blocks.blocks) c.in-Some.field-0.now c.in_ok-blocks.ensures.read c.in-Some.ensures.read) in
-    c.fault.ensures ∙ says_not_read c.args.bytes.now s r (faults.BadLine c.next.new.self.number) fault
+    c.last_fault.ensures ∙ says_not_read c.args.bytes.now s r (faults.BadLine c.next.new.self.number) fault
 
 pub returns-in-Some-clause-fault : goal.returns-in-Some-clause-fault
 returns-in-Some-clause-fault c =
     let same : c.next.new.self.bytes ≡ c.args.bytes.now = c.in-Some.ensures.bytes ∙ c.in_ok-blocks.ensures.bytes ∙ c.in_ok-head.ensures.bytes ∙ ap (λ (place : Place). place.bytes) c.new-lines.ensures in
-    rw c.fault.ensures (subst (λ b. Says b (faults.BadLine c.next.new.self.number)) same (trailing c.read_blocks.new.lines c.next.new.self (sequence_of c.in_ok-head.head.scalars c.in_ok-head.head.step c.in_ok-blocks.blocks) c.in-Some.field-0.now c.in_ok-blocks.ensures.read c.in-Some.ensures.read))
+    rw c.last_fault.ensures (subst (λ b. Says b (faults.BadLine c.next.new.self.number)) same (trailing c.read_blocks.new.lines c.next.new.self (sequence_of c.in_ok-head.head.scalars c.in_ok-head.head.step c.in_ok-blocks.blocks) c.in-Some.field-0.now c.in_ok-blocks.ensures.read c.in-Some.ensures.read))
 
 pub returns-in-Some-clause-only : goal.returns-in-Some-clause-only
 returns-in-Some-clause-only c = λ fault some says.
     let same : c.next.new.self.bytes ≡ c.args.bytes.now = c.in-Some.ensures.bytes ∙ c.in_ok-blocks.ensures.bytes ∙ c.in_ok-head.ensures.bytes ∙ ap (λ (place : Place). place.bytes) c.new-lines.ensures in
-    rw c.fault.ensures (says_same c.args.bytes.now fault (faults.BadLine c.next.new.self.number) some says (subst (λ b. Says b (faults.BadLine c.next.new.self.number)) same (trailing c.read_blocks.new.lines c.next.new.self (sequence_of c.in_ok-head.head.scalars c.in_ok-head.head.step c.in_ok-blocks.blocks) c.in-Some.field-0.now c.in_ok-blocks.ensures.read c.in-Some.ensures.read)))
+    rw c.last_fault.ensures (says_same c.args.bytes.now fault (faults.BadLine c.next.new.self.number) some says (subst (λ b. Says b (faults.BadLine c.next.new.self.number)) same (trailing c.read_blocks.new.lines c.next.new.self (sequence_of c.in_ok-head.head.scalars c.in_ok-head.head.step c.in_ok-blocks.blocks) c.in-Some.field-0.now c.in_ok-blocks.ensures.read c.in-Some.ensures.read)))
 
 pub returns-in-None-clause-reads : goal.returns-in-None-clause-reads
 returns-in-None-clause-reads c =

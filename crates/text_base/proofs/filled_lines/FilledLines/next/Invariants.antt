@@ -1,6 +1,6 @@
 use Rattle.std.proofs.Common.{◌≡◌, length}
-use Rattle.lay_text.proofs.FileLines.{Passed}
-use Rattle.lay_text.proofs.lines.Lines.next.Given as goal
+use Rattle.text_base.proofs.FilledTexts.{Passed}
+use Rattle.text_base.proofs.filled_lines.FilledLines.next.Given as goal
 
 abbrev pub invariant-loop-self : goal.invariant-loop-self
 invariant-loop-self l = record {

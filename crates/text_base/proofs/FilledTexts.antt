@@ -2,8 +2,7 @@
 use Rattle.std.proofs.Common.{◌≡◌, ℕ, zero, suc, ◌+◌, ◌-◌, ◌<◌, ◌≤◌, List, [], ◌∷◌, ◌++◌, length, take, drop, refl, sym, ap, ◌∙◌, arith, append-nil, take-append-drop, add-one}
 use Rattle.std.specs.Str.Lines.{lines}
 use Rattle.std.proofs.lemmas.List.{length-drop}
-use Rattle.lay_text.specs.FilledLines.{filled, filled_to}
-use Rattle.lay_text.specs.LineReading.{IsLeft, HasRead, HasReadAll}
+use Rattle.text_base.specs.FilledLines.{filled, filled_to, IsLeft, HasRead, HasReadAll}
 
 -- ---- the lines that aren't blank
 

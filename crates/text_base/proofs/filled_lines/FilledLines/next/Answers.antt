@@ -1,9 +1,8 @@
 use Rattle.std.proofs.Common.{rules, ◌≡◌, ◌+◌, ◌<◌, ◌≤◌, length, ap, subst, ◌∙◌}
 use Rattle.std.proofs.lemmas.List.{nil_from_length}
-use Rattle.lay_text.specs.FilledLines.{filled_to}
-use Rattle.lay_text.specs.LineReading.{Place, read_to, HasRead, HasReadAll}
-use Rattle.lay_text.proofs.FileLines.{left_more, passed_blank, passed_line, passed_all}
-use Rattle.lay_text.proofs.lines.Lines.next.Goals as goal
+use Rattle.text_base.specs.FilledLines.{filled_to, Place, read_to, HasRead, HasReadAll}
+use Rattle.text_base.proofs.FilledTexts.{left_more, passed_blank, passed_line, passed_all}
+use Rattle.text_base.proofs.filled_lines.FilledLines.next.Goals as goal
 
 pub invariant_of-self-then-not-is_empty : goal.invariant_of-self-then-not-is_empty
 invariant_of-self-then-not-is_empty c =
