@@ -1,5 +1,5 @@
 -- The text of an access sequence (docs/FORMATS.md, "Sequences").
-use Rattle.std.specs.Prelude.{List, [], ◌∷◌, ◌++◌, map, codes}
+use Rattle.std.specs.Prelude.{ℕ, List, [], ◌∷◌, ◌++◌, map, codes}
 use Rattle.lay_model.specs.Sequences.{Sequence}
 use Rattle.text_base.specs.Lines.{lines_text}
 pub use Rattle.lay_lines.specs.BlockText.{scalars_line, step_line, step_lines, spaced, block_line}
