@@ -2,5 +2,4 @@ pub mod AskedLemmas
 pub mod PlainLemmas
 pub mod LayoutLemmas
 pub mod BuildLemmas
-pub mod BoundLemmas
 pub mod AssemblyLemmas

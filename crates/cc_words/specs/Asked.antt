@@ -1,13 +1,10 @@
 -- What the words of a command line ask for, by what `clap` makes of them.
-use Rattle.std.specs.Prelude.{◌≡◌, ◌==◌, ℕ, Bool, true, not, List, [], ◌∷◌, map}
-use Rattle.std.specs.Prelude.{Option, Some, None, String, string_bytes, codes, if◌then◌else◌}
+use Rattle.std.specs.Prelude.{◌≡◌, ◌==◌, ℕ, Bool, true, not, List, [], ◌∷◌}
+use Rattle.std.specs.Prelude.{Option, Some, None, codes, if◌then◌else◌}
 use Rattle.std.specs.Prelude.{option_map, option_and_then}
 use Rattle.std.specs.Str.{bytes_eq}
-use Rattle.std.specs.Str.Parse.{digits_value, without_leading_plus}
-use Rattle.std.specs.declared.alloc.Global.{Global}
-use Rattle.clap.specs.ValueTests.{is_unsigned_in}
-use Rattle.clap.specs.Walk.{is_empty}
-use Rattle.clap.specs.Words.{App, Row, Text, fault_of, first_of, matches_of, one_of}
+use Rattle.clap.specs.Words.{App, Row, Text, first_of, matches_of}
+pub use Rattle.cc_options.specs.Options.{is_number_to, is_taken, number_of, number_to, texts_of}
 use Rattle.cc_words.specs.Commands.{asm_app, build_app, check_app, dis_app, exec_app, gen_app, layout_app, means_app, run_app}
 use Rattle.cc_words.specs.Commands.{greatest_budget, greatest_program, greatest_registers, greatest_step}
 use Rattle.cc_words.specs.Commands.{greatest_steps, greatest_turns}
@@ -15,10 +12,6 @@ use Rattle.cc_words.specs.declared.name.Name.{Name}
 use Rattle.cc_words.specs.declared.name.Name.TheVariants as name
 use Rattle.cc_words.specs.declared.asked.Request.{Request}
 use Rattle.cc_words.specs.declared.asked.Request.TheVariants as request
-
--- the words, by their bytes
-abbrev pub texts_of : List (String Global) → List Text
-texts_of words = map string_bytes words
 
 -- what is asked for: to build an image of a source, with layouts for so many registers, each searched
 -- within so large a budget, at such a step, to run an image on ports for at most so many steps, to
@@ -50,37 +43,35 @@ told (request.Asm asked) = ToAssemble asked.text.now asked.image.now
 told (request.Dis asked) = ToList asked.image.now
 told (request.Gen asked) = ToGenerate asked.number
 
--- the text writes a number in decimal, from 1 to the greatest; a plus may stand first
-abbrev pub is_number_to : ℕ → Text → Bool
-is_number_to greatest = is_unsigned_in 1 greatest
+-- what names and numbers ask for, each of which may be absent: then for nothing
+abbrev pub both_by : (Text → Text → Asked) → Option Text → Option Text → Option Asked
+both_by what first second = option_and_then (λ a. option_map (what a) second) first
 
--- the number that the text writes
-abbrev pub number_to : ℕ → Text → Option ℕ
-number_to greatest text =
-    if is_number_to greatest text then Some (digits_value 10 (without_leading_plus text)) else None
+abbrev pub numbered_by : (Text → Text → ℕ → Asked) → Option Text → Option Text → Option ℕ
+    → Option Asked
+numbered_by what first second number =
+    option_and_then (λ a. option_and_then (λ b. option_map (what a b) number) second) first
 
--- the number from 1 to the greatest that the matches hold under its name
-abbrev pub number_of : Text → ℕ → List Row → Option ℕ
-number_of number greatest rows = option_and_then (number_to greatest) (one_of number rows)
+abbrev pub build_by : Option Text → Option Text → Option ℕ → Option ℕ → Option ℕ → Option Asked
+build_by source image registers budget step =
+    option_and_then (λ s. option_and_then (λ i. option_and_then (λ r. option_and_then (λ b.
+    option_map (ToBuild s i r b) step) budget) registers) image) source
+
+abbrev pub layout_by : Option Text → Option ℕ → Option ℕ → Option Asked
+layout_by sequence registers budget =
+    option_and_then (λ s. option_and_then (λ r. option_map (ToLayOut s r) budget) registers) sequence
 
 -- what the matches of `build` ask for
 abbrev pub build_of : List Row → Option Asked
-build_of rows = option_and_then (λ source. option_and_then (λ image.
-    option_and_then (λ registers. option_and_then (λ budget.
-    option_map (ToBuild source image registers budget)
-    (number_of (codes "step") greatest_step rows))
-    (number_of (codes "budget") greatest_budget rows))
-    (number_of (codes "registers") greatest_registers rows))
-    (first_of (codes "image") rows))
-    (first_of (codes "source") rows)
+build_of rows = build_by (first_of (codes "source") rows) (first_of (codes "image") rows)
+    (number_of (codes "registers") greatest_registers rows)
+    (number_of (codes "budget") greatest_budget rows)
+    (number_of (codes "step") greatest_step rows)
 
 -- what the matches of a command of two names and a number ask for
 abbrev pub numbered_of : Text → Text → Text → ℕ → (Text → Text → ℕ → Asked) → List Row → Option Asked
-numbered_of first second number greatest what rows = option_and_then (λ a. option_and_then (λ b.
-    option_map (what a b)
-    (number_of number greatest rows))
-    (first_of second rows))
-    (first_of first rows)
+numbered_of first second number greatest what rows =
+    numbered_by what (first_of first rows) (first_of second rows) (number_of number greatest rows)
 
 -- what the matches of `run` ask for
 abbrev pub run_of : List Row → Option Asked
@@ -96,17 +87,13 @@ exec_of = numbered_of (codes "source") (codes "ports") (codes "steps") greatest_
 
 -- what the matches of `layout` ask for
 abbrev pub layout_of : List Row → Option Asked
-layout_of rows = option_and_then (λ sequence. option_and_then (λ registers.
-    option_map (ToLayOut sequence registers)
-    (number_of (codes "budget") greatest_budget rows))
-    (number_of (codes "registers") greatest_registers rows))
-    (first_of (codes "sequence") rows)
+layout_of rows = layout_by (first_of (codes "sequence") rows)
+    (number_of (codes "registers") greatest_registers rows)
+    (number_of (codes "budget") greatest_budget rows)
 
 -- what the matches of a command of two names ask for
 abbrev pub both_of : Text → Text → (Text → Text → Asked) → List Row → Option Asked
-both_of first second what rows = option_and_then (λ a.
-    option_map (what a) (first_of second rows))
-    (first_of first rows)
+both_of first second what rows = both_by what (first_of first rows) (first_of second rows)
 
 -- what the matches of `check` ask for
 abbrev pub check_of : List Row → Option Asked
@@ -123,10 +110,6 @@ dis_of rows = option_map ToList (first_of (codes "image") rows)
 -- what the matches of `gen` ask for
 abbrev pub gen_of : List Row → Option Asked
 gen_of rows = option_map ToGenerate (number_of (codes "number") greatest_program rows)
-
--- `clap` takes the words as those of the command
-abbrev pub is_taken : App → List Text → Bool
-is_taken app words = is_empty (fault_of app words)
 
 -- what the words of a command ask for, of which the first is its name
 unfoldable pub asked_to : App → (List Row → Option Asked) → List Text → Option Asked

@@ -1,8 +1,7 @@
 -- The commands, as `clap` reads them.
-use Rattle.std.specs.Prelude.{ℕ, true, [], ◌∷◌, Some, codes}
-use Rattle.clap.specs.Words.{App, Rule, Text, new_app, new_rule, with_rule}
-use Rattle.clap.specs.declared.builder.value_parser.ValueParser.{ValueParser}
-use Rattle.clap.specs.declared.builder.value_parser.ValueParser.TheVariants as parser
+use Rattle.std.specs.Prelude.{ℕ, codes}
+use Rattle.clap.specs.Words.{App, Rule, Text, new_app, with_rule}
+pub use Rattle.cc_options.specs.Options.{count_rule, letter_rule, name_rule, number_rule}
 
 -- the greatest number of steps that a run may have
 abbrev pub greatest_steps : ℕ
@@ -27,30 +26,6 @@ greatest_step = 8
 -- the greatest number from which a program is made
 abbrev pub greatest_program : ℕ
 greatest_program = 200
-
--- a name that has to be there
-abbrev pub name_rule : Text → Rule
-name_rule id = record (new_rule id) { required = true }
-
--- a number from 1 to the greatest that has to be there
-abbrev pub count_rule : Text → ℕ → Rule
-count_rule id greatest = record (new_rule id) { required = true; parser = Some (parser.Unsigned 1 greatest) }
-
--- an option with a number that the parser takes, where none is given the usual one
-abbrev pub option_rule : Text → Text → ValueParser → Rule
-option_rule id usual p = record (new_rule id) { long = Some id; defaults = usual ∷ []; parser = Some p }
-
--- with a number from 1 to the greatest
-abbrev pub number_rule : Text → Text → ℕ → Rule
-number_rule id usual greatest = option_rule id usual (parser.Unsigned 1 greatest)
-
--- the same, called by a letter and by no long name
-abbrev pub letter_rule : Text → ℕ → Text → ℕ → Rule
-letter_rule id letter usual greatest = record (new_rule id) {
-  short = Some letter;
-  defaults = usual ∷ [];
-  parser = Some (parser.Unsigned 1 greatest);
-}
 
 -- `--steps M`
 abbrev pub steps_rule : Rule

@@ -1,4 +1,4 @@
 pub mod Commands
 pub mod Asked
 pub mod Plain
-pub mod Parsed
+pub mod Tables

@@ -5,7 +5,6 @@ ghost use Rattle.cc_words.specs.Asked.{app_of_name, asked, asked_to, rows_ask, t
 use crate::asm::Asm;
 use crate::build::Build;
 use crate::check::Check;
-use crate::commands::parsed;
 use crate::dis::Dis;
 use crate::exec::Exec;
 use crate::generated::Gen;
@@ -13,6 +12,7 @@ use crate::layout::Layout;
 use crate::means::Means;
 use crate::name::Name;
 use crate::run::Run;
+use cc_options::read;
 use std::alloc::Global;
 use word_base::NoMemory;
 
@@ -38,9 +38,8 @@ fn asked_by<'a>(
 ) -> Result<Option<Request<'a>>, NoMemory>
     ensures { IfOk result (λ r. option_map told r ≡ asked_to (app_of_name name) (rows_ask name) (texts_of words.entry.now)) }
 {
-    let command = name.command(alloc)?;
-    match parsed(command, words)? {
-        Some(matches) => Ok(name.found(&matches)),
+    match read(alloc, &name.table(), words)? {
+        Some(given) => Ok(name.found(&given)),
         None => Ok(None),
     }
 }

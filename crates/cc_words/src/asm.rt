@@ -1,12 +1,10 @@
 //! `asm TEXT IMG`.
 ghost use Rattle.std.specs.Prelude.{◌≡◌, option_map};
-ghost use Rattle.clap.specs.Words.{found_of, rows_of};
-ghost use Rattle.cc_words.specs.Asked.{asm_of, told};
-ghost use Rattle.cc_words.specs.Commands.{asm_app};
-ghost use Rattle.cc_words.specs.Parsed.{IsOf};
+ghost use Rattle.cc_options.specs.Options.{name_of};
+ghost use Rattle.cc_words.specs.Asked.{ToAssemble, both_by, told};
 
 use crate::asked::Request;
-use clap::ArgMatches;
+use cc_options::Given;
 
 /// To assemble a text to an image.
 #[derive(Clone, Copy, Debug)]
@@ -17,12 +15,11 @@ pub struct Asm<'a> {
     pub image: &'a str,
 }
 
-/// What the matches of `asm` ask for.
-pub(crate) fn found<'a>(matches: &ArgMatches<'a>) -> Option<Request<'a>>
-    requires { IsOf asm_app matches.now }
-    ensures { option_map told result ≡ asm_of (rows_of (found_of matches.now)) }
+/// What the values of `asm` ask for.
+pub(crate) fn found<'a>(given: &Given<'a>) -> Option<Request<'a>>
+    ensures { option_map told result ≡ both_by ToAssemble (option_map name_of given.now.first) (option_map name_of given.now.second) }
 {
-    let text = matches.get_str("text")?;
-    let image = matches.get_str("image")?;
+    let text = given.first?;
+    let image = given.second?;
     Some(Request::Asm(Asm { text, image }))
 }

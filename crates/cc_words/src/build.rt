@@ -1,15 +1,12 @@
 //! `build SRC IMG [-r N] [--budget B] [--step D]`.
-ghost use Rattle.std.specs.Prelude.{◌≡◌, IfOk, option_map};
-ghost use Rattle.clap.specs.Words.{app_of, found_of, rows_of};
-ghost use Rattle.cc_words.specs.Asked.{build_of, told};
-ghost use Rattle.cc_words.specs.Commands.{build_app};
-ghost use Rattle.cc_words.specs.Parsed.{IsOf};
+ghost use Rattle.std.specs.Prelude.{◌≡◌, option_map};
+ghost use Rattle.cc_options.specs.Options.{name_of};
+ghost use Rattle.cc_words.specs.Asked.{build_by, told};
+ghost use Rattle.cc_words.specs.Tables.{byte_of};
 
 use crate::asked::Request;
-use crate::commands::two_names;
-use crate::options::{budget, registers, step};
-use clap::{ArgMatches, Command};
-use std::alloc::{AllocError, Global};
+use crate::options::byte;
+use cc_options::Given;
 
 /// To compile a source and store its image.
 #[derive(Clone, Copy, Debug)]
@@ -26,26 +23,16 @@ pub struct Build<'a> {
     pub step: u8,
 }
 
-/// How `clap` reads `build SRC IMG [-r N] [--budget B] [--step D]`.
-pub(crate) fn command<'a>(alloc: Global) -> Result<Command<'a>, AllocError>
-    ensures { IfOk result (λ c. app_of c ≡ build_app) }
+/// What the values of `build` ask for.
+pub(crate) fn found<'a>(given: &Given<'a>) -> Option<Request<'a>>
+    ensures { option_map told result ≡ build_by (option_map name_of given.now.first) (option_map name_of given.now.second)
+        (byte_of given.now.one) given.now.two (byte_of given.now.three) }
 {
-    two_names(alloc, "build", "source", "image")?
-        .arg(registers(alloc))?
-        .arg(budget(alloc))?
-        .arg(step(alloc))
-}
-
-/// What the matches of `build` ask for.
-pub(crate) fn found<'a>(matches: &ArgMatches<'a>) -> Option<Request<'a>>
-    requires { IsOf build_app matches.now }
-    ensures { option_map told result ≡ build_of (rows_of (found_of matches.now)) }
-{
-    let source = matches.get_str("source")?;
-    let image = matches.get_str("image")?;
-    let registers = matches.get_one::<u8>("registers")?;
-    let budget = matches.get_one::<u32>("budget")?;
-    let step = matches.get_one::<u8>("step")?;
+    let source = given.first?;
+    let image = given.second?;
+    let registers = byte(given.one)?;
+    let budget = given.two?;
+    let step = byte(given.three)?;
     Some(Request::Build(Build {
         source,
         image,

@@ -1,12 +1,10 @@
 //! `check IMG CERT`.
 ghost use Rattle.std.specs.Prelude.{◌≡◌, option_map};
-ghost use Rattle.clap.specs.Words.{found_of, rows_of};
-ghost use Rattle.cc_words.specs.Asked.{check_of, told};
-ghost use Rattle.cc_words.specs.Commands.{check_app};
-ghost use Rattle.cc_words.specs.Parsed.{IsOf};
+ghost use Rattle.cc_options.specs.Options.{name_of};
+ghost use Rattle.cc_words.specs.Asked.{ToCheck, both_by, told};
 
 use crate::asked::Request;
-use clap::ArgMatches;
+use cc_options::Given;
 
 /// To check an image by a certificate.
 #[derive(Clone, Copy, Debug)]
@@ -17,12 +15,11 @@ pub struct Check<'a> {
     pub certificate: &'a str,
 }
 
-/// What the matches of `check` ask for.
-pub(crate) fn found<'a>(matches: &ArgMatches<'a>) -> Option<Request<'a>>
-    requires { IsOf check_app matches.now }
-    ensures { option_map told result ≡ check_of (rows_of (found_of matches.now)) }
+/// What the values of `check` ask for.
+pub(crate) fn found<'a>(given: &Given<'a>) -> Option<Request<'a>>
+    ensures { option_map told result ≡ both_by ToCheck (option_map name_of given.now.first) (option_map name_of given.now.second) }
 {
-    let image = matches.get_str("image")?;
-    let certificate = matches.get_str("certificate")?;
+    let image = given.first?;
+    let certificate = given.second?;
     Some(Request::Check(Check { image, certificate }))
 }

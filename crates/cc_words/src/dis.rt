@@ -1,12 +1,10 @@
 //! `dis IMG`.
 ghost use Rattle.std.specs.Prelude.{◌≡◌, option_map};
-ghost use Rattle.clap.specs.Words.{found_of, rows_of};
-ghost use Rattle.cc_words.specs.Asked.{dis_of, told};
-ghost use Rattle.cc_words.specs.Commands.{dis_app};
-ghost use Rattle.cc_words.specs.Parsed.{IsOf};
+ghost use Rattle.cc_options.specs.Options.{name_of};
+ghost use Rattle.cc_words.specs.Asked.{ToList, told};
 
 use crate::asked::Request;
-use clap::ArgMatches;
+use cc_options::Given;
 
 /// To list the words of an image.
 #[derive(Clone, Copy, Debug)]
@@ -15,11 +13,10 @@ pub struct Dis<'a> {
     pub image: &'a str,
 }
 
-/// What the matches of `dis` ask for.
-pub(crate) fn found<'a>(matches: &ArgMatches<'a>) -> Option<Request<'a>>
-    requires { IsOf dis_app matches.now }
-    ensures { option_map told result ≡ dis_of (rows_of (found_of matches.now)) }
+/// What the values of `dis` ask for.
+pub(crate) fn found<'a>(given: &Given<'a>) -> Option<Request<'a>>
+    ensures { option_map told result ≡ option_map ToList (option_map name_of given.now.first) }
 {
-    let image = matches.get_str("image")?;
+    let image = given.first?;
     Some(Request::Dis(Dis { image }))
 }

@@ -1,12 +1,10 @@
 //! `exec SRC PORTS [--steps M]`.
 ghost use Rattle.std.specs.Prelude.{◌≡◌, option_map};
-ghost use Rattle.clap.specs.Words.{found_of, rows_of};
-ghost use Rattle.cc_words.specs.Asked.{exec_of, told};
-ghost use Rattle.cc_words.specs.Commands.{exec_app};
-ghost use Rattle.cc_words.specs.Parsed.{IsOf};
+ghost use Rattle.cc_options.specs.Options.{name_of};
+ghost use Rattle.cc_words.specs.Asked.{ToExecute, numbered_by, told};
 
 use crate::asked::Request;
-use clap::ArgMatches;
+use cc_options::Given;
 
 /// To compile a source and run it.
 #[derive(Clone, Copy, Debug)]
@@ -19,14 +17,14 @@ pub struct Exec<'a> {
     pub steps: u64,
 }
 
-/// What the matches of `exec` ask for.
-pub(crate) fn found<'a>(matches: &ArgMatches<'a>) -> Option<Request<'a>>
-    requires { IsOf exec_app matches.now }
-    ensures { option_map told result ≡ exec_of (rows_of (found_of matches.now)) }
+/// What the values of `exec` ask for.
+pub(crate) fn found<'a>(given: &Given<'a>) -> Option<Request<'a>>
+    ensures { option_map told result
+        ≡ numbered_by ToExecute (option_map name_of given.now.first) (option_map name_of given.now.second) given.now.one }
 {
-    let source = matches.get_str("source")?;
-    let ports = matches.get_str("ports")?;
-    let steps = matches.get_one::<u64>("steps")?;
+    let source = given.first?;
+    let ports = given.second?;
+    let steps = u64::from(given.one?);
     Some(Request::Exec(Exec {
         source,
         ports,

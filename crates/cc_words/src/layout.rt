@@ -1,15 +1,12 @@
 //! `layout SEQ [-r N] [--budget B]`.
-ghost use Rattle.std.specs.Prelude.{◌≡◌, IfOk, option_map};
-ghost use Rattle.clap.specs.Words.{app_of, found_of, rows_of};
-ghost use Rattle.cc_words.specs.Asked.{layout_of, told};
-ghost use Rattle.cc_words.specs.Commands.{layout_app};
-ghost use Rattle.cc_words.specs.Parsed.{IsOf};
+ghost use Rattle.std.specs.Prelude.{◌≡◌, option_map};
+ghost use Rattle.cc_options.specs.Options.{name_of};
+ghost use Rattle.cc_words.specs.Asked.{layout_by, told};
+ghost use Rattle.cc_words.specs.Tables.{byte_of};
 
 use crate::asked::Request;
-use crate::commands::single;
-use crate::options::{budget, registers};
-use clap::{ArgMatches, Command};
-use std::alloc::{AllocError, Global};
+use crate::options::byte;
+use cc_options::Given;
 
 /// To search a layout for an access sequence.
 #[derive(Clone, Copy, Debug)]
@@ -22,23 +19,13 @@ pub struct Layout<'a> {
     pub budget: u32,
 }
 
-/// How `clap` reads `layout SEQ [-r N] [--budget B]`.
-pub(crate) fn command<'a>(alloc: Global) -> Result<Command<'a>, AllocError>
-    ensures { IfOk result (λ c. app_of c ≡ layout_app) }
+/// What the values of `layout` ask for.
+pub(crate) fn found<'a>(given: &Given<'a>) -> Option<Request<'a>>
+    ensures { option_map told result ≡ layout_by (option_map name_of given.now.first) (byte_of given.now.one) given.now.two }
 {
-    single(alloc, "layout", "sequence")?
-        .arg(registers(alloc))?
-        .arg(budget(alloc))
-}
-
-/// What the matches of `layout` ask for.
-pub(crate) fn found<'a>(matches: &ArgMatches<'a>) -> Option<Request<'a>>
-    requires { IsOf layout_app matches.now }
-    ensures { option_map told result ≡ layout_of (rows_of (found_of matches.now)) }
-{
-    let sequence = matches.get_str("sequence")?;
-    let registers = matches.get_one::<u8>("registers")?;
-    let budget = matches.get_one::<u32>("budget")?;
+    let sequence = given.first?;
+    let registers = byte(given.one)?;
+    let budget = given.two?;
     Some(Request::Layout(Layout {
         sequence,
         registers,

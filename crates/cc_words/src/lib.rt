@@ -1,11 +1,10 @@
-//! What the words of a command line ask for. A command has a module, with what it asks for and how `clap` reads that.
+//! What the words of a command line ask for. A command has a module, with what it asks for.
 #![tactic(auto)]
 
 mod asked;
 mod asm;
 mod build;
 mod check;
-mod commands;
 mod dis;
 mod exec;
 mod generated;

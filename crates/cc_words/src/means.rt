@@ -1,12 +1,10 @@
 //! `means SRC PORTS [--turns N]`.
 ghost use Rattle.std.specs.Prelude.{◌≡◌, option_map};
-ghost use Rattle.clap.specs.Words.{found_of, rows_of};
-ghost use Rattle.cc_words.specs.Asked.{means_of, told};
-ghost use Rattle.cc_words.specs.Commands.{means_app};
-ghost use Rattle.cc_words.specs.Parsed.{IsOf};
+ghost use Rattle.cc_options.specs.Options.{name_of};
+ghost use Rattle.cc_words.specs.Asked.{ToEvaluate, numbered_by, told};
 
 use crate::asked::Request;
-use clap::ArgMatches;
+use cc_options::Given;
 
 /// To evaluate a source.
 #[derive(Clone, Copy, Debug)]
@@ -19,14 +17,14 @@ pub struct Means<'a> {
     pub turns: u32,
 }
 
-/// What the matches of `means` ask for.
-pub(crate) fn found<'a>(matches: &ArgMatches<'a>) -> Option<Request<'a>>
-    requires { IsOf means_app matches.now }
-    ensures { option_map told result ≡ means_of (rows_of (found_of matches.now)) }
+/// What the values of `means` ask for.
+pub(crate) fn found<'a>(given: &Given<'a>) -> Option<Request<'a>>
+    ensures { option_map told result
+        ≡ numbered_by ToEvaluate (option_map name_of given.now.first) (option_map name_of given.now.second) given.now.one }
 {
-    let source = matches.get_str("source")?;
-    let ports = matches.get_str("ports")?;
-    let turns = matches.get_one::<u32>("turns")?;
+    let source = given.first?;
+    let ports = given.second?;
+    let turns = given.one?;
     Some(Request::Means(Means {
         source,
         ports,

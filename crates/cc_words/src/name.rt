@@ -1,16 +1,15 @@
 //! The names of the commands.
-ghost use Rattle.std.specs.Prelude.{◌≡◌, IfOk, option_map};
-ghost use Rattle.clap.specs.Words.{app_of, found_of, rows_of};
+ghost use Rattle.std.specs.Prelude.{◌≡◌, option_map};
+ghost use Rattle.cc_options.specs.Options.{options_of, quantity_of, values_of_given};
 ghost use Rattle.cc_words.specs.Asked as asked;
-ghost use Rattle.cc_words.specs.Asked.{app_of_name, rows_ask, told};
-ghost use Rattle.cc_words.specs.Parsed.{IsOf};
+ghost use Rattle.cc_words.specs.Asked.{told};
+ghost use Rattle.cc_words.specs.Tables as tables;
+ghost use Rattle.cc_words.specs.Tables.{options_of_name, values_ask};
 
 use crate::asked::Request;
-use crate::commands::{numbered, single, two_names};
-use crate::options::{steps, turns};
+use crate::options::{budget, program, registers, step, steps, turns};
 use crate::{asm, build, check, dis, exec, generated, layout, means, run};
-use clap::{ArgMatches, Command};
-use std::alloc::{AllocError, Global};
+use cc_options::{Given, Number, Table};
 
 /// A command.
 #[derive(Clone, Copy)]
@@ -45,38 +44,71 @@ impl Name {
         }
     }
 
-    /// How `clap` reads its words.
-    pub(crate) fn command<'a>(self, alloc: Global) -> Result<Command<'a>, AllocError>
-        ensures { IfOk result (λ c. app_of c ≡ app_of_name self) }
+    /// What it has.
+    pub(crate) fn table<'a>(self) -> Table<'a>
+        ensures { options_of result ≡ options_of_name self }
     {
         match self {
-            Name::Build => build::command(alloc),
-            Name::Run => numbered(alloc, "run", "image", "ports", steps(alloc)),
-            Name::Means => numbered(alloc, "means", "source", "ports", turns(alloc)),
-            Name::Exec => numbered(alloc, "exec", "source", "ports", steps(alloc)),
-            Name::Layout => layout::command(alloc),
-            Name::Check => two_names(alloc, "check", "image", "certificate"),
-            Name::Asm => two_names(alloc, "asm", "text", "image"),
-            Name::Dis => single(alloc, "dis", "image"),
-            Name::Gen => generated::command(alloc),
+            Name::Build => Table {
+                two: Some(budget()),
+                three: Some(step()),
+                ..two_names("build", "source", "image", Some(registers()))
+            },
+            Name::Run => two_names("run", "image", "ports", Some(steps())),
+            Name::Means => two_names("means", "source", "ports", Some(turns())),
+            Name::Exec => two_names("exec", "source", "ports", Some(steps())),
+            Name::Layout => Table {
+                second: None,
+                two: Some(budget()),
+                ..two_names("layout", "sequence", "", Some(registers()))
+            },
+            Name::Check => two_names("check", "image", "certificate", None),
+            Name::Asm => two_names("asm", "text", "image", None),
+            Name::Dis => Table {
+                second: None,
+                ..two_names("dis", "image", "", None)
+            },
+            Name::Gen => Table {
+                first: None,
+                second: None,
+                ..two_names("gen", "", "", Some(program()))
+            },
         }
     }
 
-    /// What its matches ask for.
-    pub(crate) fn found<'a>(self, matches: &ArgMatches<'a>) -> Option<Request<'a>>
-        requires { IsOf (app_of_name self) matches.now }
-        ensures { option_map told result ≡ rows_ask self (rows_of (found_of matches.now)) }
+    /// What its values ask for.
+    pub(crate) fn found<'a>(self, given: &Given<'a>) -> Option<Request<'a>>
+        ensures { option_map told result ≡ values_ask self (values_of_given given.now) }
     {
         match self {
-            Name::Build => build::found(matches),
-            Name::Run => run::found(matches),
-            Name::Means => means::found(matches),
-            Name::Exec => exec::found(matches),
-            Name::Layout => layout::found(matches),
-            Name::Check => check::found(matches),
-            Name::Asm => asm::found(matches),
-            Name::Dis => dis::found(matches),
-            Name::Gen => generated::found(matches),
+            Name::Build => build::found(given),
+            Name::Run => run::found(given),
+            Name::Means => means::found(given),
+            Name::Exec => exec::found(given),
+            Name::Layout => layout::found(given),
+            Name::Check => check::found(given),
+            Name::Asm => asm::found(given),
+            Name::Dis => dis::found(given),
+            Name::Gen => generated::found(given),
         }
+    }
+}
+
+// A command of two names and at most a number.
+fn two_names<'a>(
+    name: &'a str,
+    first: &'a str,
+    second: &'a str,
+    number: Option<Number<'a>>,
+) -> Table<'a>
+    ensures { options_of result ≡ tables.two_names name.now first.now second.now (option_map quantity_of number.entry) }
+{
+    Table {
+        name,
+        first: Some(first),
+        second: Some(second),
+        one: number,
+        two: None,
+        three: None,
     }
 }

@@ -1,66 +1,85 @@
-//! The options of commands.
-ghost use Rattle.std.specs.Prelude.{◌≡◌, false};
-ghost use Rattle.clap.specs.Words.{rule_of};
-ghost use Rattle.cc_words.specs.Commands.{budget_rule, option_rule, registers_rule, step_rule, steps_rule, turns_rule};
+//! The numbers of commands.
+ghost use Rattle.std.specs.Prelude.{◌≡◌};
+ghost use Rattle.cc_options.specs.Options.{quantity_of};
+ghost use Rattle.cc_words.specs.Tables as tables;
+ghost use Rattle.cc_words.specs.Tables.{byte_of};
 
-use clap::builder::ValueParser;
-use clap::{Arg, value_parser};
-use std::alloc::Global;
-
-// An option with a number that the parser takes, where none is given the usual one.
-fn option<'a>(alloc: Global, name: &'a str, usual: &'a str, parser: ValueParser<'a>) -> Arg<'a>
-    ensures rule { rule_of result ≡ option_rule name.now usual.now parser.entry }
-    ensures own { result.global ≡ false }
-{
-    Arg::new(alloc, name)
-        .long(name)
-        .default_value(usual)
-        .value_parser(parser)
-}
+use cc_options::{Form, Number};
 
 /// `--steps M`.
-pub(crate) fn steps<'a>(alloc: Global) -> Arg<'a>
-    ensures rule { rule_of result ≡ steps_rule }
-    ensures own { result.global ≡ false }
+pub(crate) fn steps<'a>() -> Number<'a>
+    ensures { quantity_of result ≡ tables.steps }
 {
-    let parser = value_parser!(u64).range(1..=100_000_000);
-    option(alloc, "steps", "1000000", parser)
+    Number {
+        id: "steps",
+        form: Form::Long("1000000"),
+        greatest: 100_000_000,
+    }
 }
 
 /// `--turns N`.
-pub(crate) fn turns<'a>(alloc: Global) -> Arg<'a>
-    ensures rule { rule_of result ≡ turns_rule }
-    ensures own { result.global ≡ false }
+pub(crate) fn turns<'a>() -> Number<'a>
+    ensures { quantity_of result ≡ tables.turns }
 {
-    let parser = value_parser!(u64).range(1..=1_000_000);
-    option(alloc, "turns", "10000", parser)
+    Number {
+        id: "turns",
+        form: Form::Long("10000"),
+        greatest: 1_000_000,
+    }
 }
 
 /// `-r N`.
-pub(crate) fn registers<'a>(alloc: Global) -> Arg<'a>
-    ensures rule { rule_of result ≡ registers_rule }
-    ensures own { result.global ≡ false }
+pub(crate) fn registers<'a>() -> Number<'a>
+    ensures { quantity_of result ≡ tables.registers }
 {
-    Arg::new(alloc, "registers")
-        .short('r')
-        .default_value("1")
-        .value_parser(value_parser!(u64).range(1..=4))
+    Number {
+        id: "registers",
+        form: Form::Letter('r', "1"),
+        greatest: 4,
+    }
 }
 
 /// `--budget B`.
-pub(crate) fn budget<'a>(alloc: Global) -> Arg<'a>
-    ensures rule { rule_of result ≡ budget_rule }
-    ensures own { result.global ≡ false }
+pub(crate) fn budget<'a>() -> Number<'a>
+    ensures { quantity_of result ≡ tables.budget }
 {
-    let parser = value_parser!(u64).range(1..=1_000_000);
-    option(alloc, "budget", "200000", parser)
+    Number {
+        id: "budget",
+        form: Form::Long("200000"),
+        greatest: 1_000_000,
+    }
 }
 
 /// `--step D`.
-pub(crate) fn step<'a>(alloc: Global) -> Arg<'a>
-    ensures rule { rule_of result ≡ step_rule }
-    ensures own { result.global ≡ false }
+pub(crate) fn step<'a>() -> Number<'a>
+    ensures { quantity_of result ≡ tables.step }
 {
-    let parser = value_parser!(u64).range(1..=8);
-    option(alloc, "step", "1", parser)
+    Number {
+        id: "step",
+        form: Form::Long("1"),
+        greatest: 8,
+    }
+}
+
+/// `gen N`.
+pub(crate) fn program<'a>() -> Number<'a>
+    ensures { quantity_of result ≡ tables.program }
+{
+    Number {
+        id: "number",
+        form: Form::Word,
+        greatest: 200,
+    }
+}
+
+/// The number, if a byte holds it.
+pub(crate) fn byte(number: Option<u32>) -> Option<u8>
+    ensures { result ≡ byte_of number }
+{
+    let number = number?;
+    if number < 256 {
+        Some(number as u8)
+    } else {
+        None
+    }
 }

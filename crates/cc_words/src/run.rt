@@ -1,12 +1,10 @@
 //! `run IMG PORTS [--steps M]`.
 ghost use Rattle.std.specs.Prelude.{◌≡◌, option_map};
-ghost use Rattle.clap.specs.Words.{found_of, rows_of};
-ghost use Rattle.cc_words.specs.Asked.{run_of, told};
-ghost use Rattle.cc_words.specs.Commands.{run_app};
-ghost use Rattle.cc_words.specs.Parsed.{IsOf};
+ghost use Rattle.cc_options.specs.Options.{name_of};
+ghost use Rattle.cc_words.specs.Asked.{ToRun, numbered_by, told};
 
 use crate::asked::Request;
-use clap::ArgMatches;
+use cc_options::Given;
 
 /// To run an image.
 #[derive(Clone, Copy, Debug)]
@@ -19,14 +17,14 @@ pub struct Run<'a> {
     pub steps: u64,
 }
 
-/// What the matches of `run` ask for.
-pub(crate) fn found<'a>(matches: &ArgMatches<'a>) -> Option<Request<'a>>
-    requires { IsOf run_app matches.now }
-    ensures { option_map told result ≡ run_of (rows_of (found_of matches.now)) }
+/// What the values of `run` ask for.
+pub(crate) fn found<'a>(given: &Given<'a>) -> Option<Request<'a>>
+    ensures { option_map told result
+        ≡ numbered_by ToRun (option_map name_of given.now.first) (option_map name_of given.now.second) given.now.one }
 {
-    let image = matches.get_str("image")?;
-    let ports = matches.get_str("ports")?;
-    let steps = matches.get_one::<u64>("steps")?;
+    let image = given.first?;
+    let ports = given.second?;
+    let steps = u64::from(given.one?);
     Some(Request::Run(Run {
         image,
         ports,

@@ -1,0 +1,157 @@
+-- What the words of a command give it, by what `clap` makes of them.
+use Rattle.std.specs.Prelude.{◌&&◌, ℕ, nat_le, Bool, true, List, []}
+use Rattle.std.specs.Prelude.{◌∷◌, map, Option, Some, None, String, string_bytes}
+use Rattle.std.specs.Prelude.{if◌then◌else◌, option_and_then, option_map}
+use Rattle.std.specs.Borrow.{Bor}
+use Rattle.std.specs.Str.Parse.{digits_value, without_leading_plus}
+use Rattle.std.specs.declared.alloc.Global.{Global}
+use Rattle.clap.specs.ValueTests.{is_unsigned_in}
+use Rattle.clap.specs.Walk.{is_empty}
+use Rattle.clap.specs.Words.{App, Row, Rule, Text, fault_of, first_of, matches_of, new_app, new_rule, one_of, with_rule}
+use Rattle.clap.specs.declared.builder.value_parser.ValueParser.TheVariants as parser
+use Rattle.cc_options.specs.declared.given.Given.{Given}
+use Rattle.cc_options.specs.declared.table.Form.{Form}
+use Rattle.cc_options.specs.declared.table.Form.TheVariants as form
+use Rattle.cc_options.specs.declared.table.Number.{Number}
+use Rattle.cc_options.specs.declared.table.Table.{Table}
+
+-- the words, by their bytes
+abbrev pub texts_of : List (String Global) → List Text
+texts_of words = map string_bytes words
+
+-- ---- how `clap` reads an argument
+
+-- a name that has to be there
+abbrev pub name_rule : Text → Rule
+name_rule id = record (new_rule id) { required = true }
+
+-- a number from 1 to the greatest that has to be there
+abbrev pub count_rule : Text → ℕ → Rule
+count_rule id greatest = record (new_rule id) { required = true; parser = Some (parser.Unsigned 1 greatest) }
+
+-- an option with a number from 1 to the greatest, where none is given the usual one
+abbrev pub number_rule : Text → Text → ℕ → Rule
+number_rule id usual greatest = record (new_rule id) {
+  long = Some id;
+  defaults = usual ∷ [];
+  parser = Some (parser.Unsigned 1 greatest);
+}
+
+-- the same, called by a letter and by no long name
+abbrev pub letter_rule : Text → ℕ → Text → ℕ → Rule
+letter_rule id letter usual greatest = record (new_rule id) {
+  short = Some letter;
+  defaults = usual ∷ [];
+  parser = Some (parser.Unsigned 1 greatest);
+}
+
+-- ---- what a command has
+
+-- a number: what it is called, how `clap` reads it and the greatest that it may be
+pub record Quantity : Type 0 where
+  pub id : Text
+  pub rule : Rule
+  pub greatest : ℕ
+
+-- a command: the word that chooses it, what its names are called, and its numbers
+pub record Options : Type 0 where
+  pub word : Text
+  pub first : Option Text
+  pub second : Option Text
+  pub one : Option Quantity
+  pub two : Option Quantity
+  pub three : Option Quantity
+
+abbrev pub rule_by : Form → Text → ℕ → Rule
+rule_by form.Word id greatest = count_rule id greatest
+rule_by (form.Long usual) id greatest = number_rule id usual.now greatest
+rule_by (form.Letter letter usual) id greatest = letter_rule id letter usual.now greatest
+
+abbrev pub quantity_of : Number → Quantity
+quantity_of n = record { id = n.id.now; rule = rule_by n.form n.id.now n.greatest; greatest = n.greatest }
+
+abbrev pub name_of : Bor Text → Text
+name_of name = name.now
+
+-- a table, as what it says
+abbrev pub options_of : Table → Options
+options_of t = record {
+  word = t.name.now;
+  first = option_map name_of t.first;
+  second = option_map name_of t.second;
+  one = option_map quantity_of t.one;
+  two = option_map quantity_of t.two;
+  three = option_map quantity_of t.three;
+}
+
+-- ---- how `clap` reads the words of a command
+
+abbrev pub named : Option Text → App → App
+named None app = app
+named (Some id) app = with_rule app (name_rule id)
+
+abbrev pub numbered : Option Quantity → App → App
+numbered None app = app
+numbered (Some n) app = with_rule app n.rule
+
+abbrev pub app_of_options : Options → App
+app_of_options o =
+    numbered o.three (numbered o.two (numbered o.one (named o.second (named o.first (new_app o.word)))))
+
+-- `clap` takes the words as those of the command
+abbrev pub is_taken : App → List Text → Bool
+is_taken app words = is_empty (fault_of app words)
+
+-- ---- what it finds
+
+-- the text writes a number in decimal, from 1 to the greatest; a plus may stand first
+abbrev pub is_number_to : ℕ → Text → Bool
+is_number_to greatest = is_unsigned_in 1 greatest
+
+-- the number that the text writes
+abbrev pub number_to : ℕ → Text → Option ℕ
+number_to greatest text =
+    if is_number_to greatest text then Some (digits_value 10 (without_leading_plus text)) else None
+
+-- the number from 1 to the greatest that the matches hold under its name
+abbrev pub number_of : Text → ℕ → List Row → Option ℕ
+number_of id greatest rows = option_and_then (number_to greatest) (one_of id rows)
+
+-- the number, if it is from 1 to the greatest
+abbrev pub within : ℕ → ℕ → Option ℕ
+within greatest n = if nat_le 1 n && nat_le n greatest then Some n else None
+
+abbrev pub number_in : List Row → Quantity → Option ℕ
+number_in rows n = number_of n.id n.greatest rows
+
+-- what words give a command: its names, and its numbers
+pub record Values : Type 0 where
+  pub first : Option Text
+  pub second : Option Text
+  pub one : Option ℕ
+  pub two : Option ℕ
+  pub three : Option ℕ
+
+abbrev pub values_of_given : Given → Values
+values_of_given g = record {
+  first = option_map name_of g.first;
+  second = option_map name_of g.second;
+  one = g.one;
+  two = g.two;
+  three = g.three;
+}
+
+-- what the matches hold
+abbrev pub values_in : Options → List Row → Values
+values_in o rows = record {
+  first = option_and_then (λ id. first_of id rows) o.first;
+  second = option_and_then (λ id. first_of id rows) o.second;
+  one = option_and_then (number_in rows) o.one;
+  two = option_and_then (number_in rows) o.two;
+  three = option_and_then (number_in rows) o.three;
+}
+
+-- what the words give the command, if it takes them: the first of them is its name
+unfoldable pub values_of : Options → List Text → Option Values
+values_of o words = if is_taken (app_of_options o) words
+    then Some (values_in o (matches_of (app_of_options o) words)) else None

@@ -1,8 +1,0 @@
-use Rattle.std.proofs.Common.{rules, ◌∙◌, ap₂}
-use Rattle.std.proofs.lemmas.Result.{IfOk-weaker}
-use Rattle.clap.specs.Words.{with_rule}
-use Rattle.cc_words.proofs.commands.two_names.Goals as goal
-
-pub returns : goal.returns
-returns c =
-    IfOk-weaker c.arg.result _ _ (λ r h. h.shape (search rules) ∙ ap₂ with_rule c.in_ok-single.ensures c.required.ensures.rule) c.arg.ensures
