@@ -1,7 +1,6 @@
 -- The told files come to one thing or are refused for one, for each command.
 use Rattle.std.proofs.Common.{◌≡◌, ◌≢◌, ◌∙◌, ◌++◌, ℕ, List, [], ◌∷◌, length, refl, sym, ap, subst, lit<, IsTrue}
 use Rattle.std.specs.Prelude.{Result, Ok, Err}
-use Rattle.std.specs.Str.Lines.{lines}
 use Rattle.cc_words.specs.Asked.{Asked, ToBuild, ToRun, ToEvaluate, ToExecute, ToLayOut, ToCheck, ToAssemble, ToList, ToGenerate}
 use Rattle.word_base.specs.Ports.{Outputs, input_of}
 use Rattle.c_tree.specs.SourceRun.{source_run}
@@ -20,7 +19,6 @@ use Rattle.c25_image.proofs.ImageExact.{says_no_text}
 use Rattle.c25_image.proofs.PortLines.{bad_no_text, one_port_text}
 use Rattle.c25_asm.specs.AssemblerText.{assembled}
 use Rattle.c25_asm.specs.declared.fault.AsmFault.{AsmFault}
-use Rattle.lay_text.specs.Lines.{filled}
 use Rattle.lay_text.proofs.Exact.{sequences_same, says_not_read}
 use Rattle.lay_tree.specs.Search.{search_answer}
 use Rattle.cc_files.specs.cc_image.Images.{HasImage, HasFrames}
@@ -224,7 +222,7 @@ exec_refused_one ports s p v w (exec.SourceThen lines text fault has is) (exec.S
 
 layout_one : (bytes : List ℕ) (registers budget : ℕ) (a b : Answered) → LaysOutTo bytes registers budget a → LaysOutTo bytes registers budget b → a ≡ b
 layout_one bytes registers budget a b r q =
-    let sequence = sequences_same r.sequence q.sequence (filled (lines bytes)) r.reads q.reads in
+    let sequence = sequences_same r.sequence q.sequence _ r.reads q.reads in
     r.is ∙ ap (λ s. layout_answer (search_answer registers s budget)) sequence ∙ sym q.is
 
 layout_not : (name bytes : List ℕ) (registers budget : ℕ) (a : Answered) (why : Why) → LaysOutTo bytes registers budget a → LayoutRefused name bytes why → ⊥
