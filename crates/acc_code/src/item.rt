@@ -4,7 +4,7 @@ use crate::operation::{AccOp, Test};
 use c_tree::VarRef;
 
 /// A label of a switch.
-#[derive(Clone, Copy, Debug, PartialEq, Eq)]
+#[derive(Clone, Copy, PartialEq, Eq)]
 pub enum CaseLabel {
     Value(u16),
     Default,

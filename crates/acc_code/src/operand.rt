@@ -2,7 +2,7 @@
 use c_tree::VarRef;
 
 /// An operand.
-#[derive(Clone, Copy, Debug, PartialEq, Eq)]
+#[derive(Clone, Copy, PartialEq, Eq)]
 pub enum AccOperand {
     /// None, for an operation on the accumulator alone.
     Nothing,
@@ -24,7 +24,7 @@ pub enum AccOperand {
 
 /// The routines for what the machine has no row for. Each takes its left operand from scratch word 0 and its right one from scratch word 1,
 /// and leaves the result in the accumulator.
-#[derive(Clone, Copy, Debug, PartialEq, Eq)]
+#[derive(Clone, Copy, PartialEq, Eq)]
 pub enum HelperName {
     DivInt,
     DivUnsigned,

@@ -2,7 +2,7 @@
 
 /// An operation: a row of the instruction table that neither jumps nor moves an address register, or `Point`. Shifts and ports are those
 /// of the row.
-#[derive(Clone, Copy, Debug, PartialEq, Eq)]
+#[derive(Clone, Copy, PartialEq, Eq)]
 pub enum AccOp {
     /// Makes the low half of the accumulator the address of `AccOperand::Pointed`. The accumulator stays.
     Point,
@@ -57,7 +57,7 @@ pub enum AccOp {
 }
 
 /// A question about all 32 bits of the accumulator, read with their sign: the conditions of the conditional branches.
-#[derive(Clone, Copy, Debug, PartialEq, Eq)]
+#[derive(Clone, Copy, PartialEq, Eq)]
 pub enum Test {
     /// Greater than zero.
     Gz,

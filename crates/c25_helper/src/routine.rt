@@ -8,7 +8,7 @@ use crate::tables::{DIV_INT, DIV_UNSIGNED, REM_INT, REM_UNSIGNED, SHR_INT, SHR_U
 
 /// What a routine computes of the word at 0300h and that at 0301h, by the rules of C for `int` or for `unsigned`. It returns
 /// the word in the low half of ACC.
-#[derive(Clone, Copy, Debug, PartialEq, Eq)]
+#[derive(Clone, Copy, PartialEq, Eq)]
 pub enum Routine {
     /// `/` of `int`, for a divisor that isn't 0. -32768 by -1 has no value.
     DivInt,

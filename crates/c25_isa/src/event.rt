@@ -3,7 +3,7 @@ use crate::trap::TrapKind;
 use word_base::{Ending, Outs, PortWord};
 
 /// What one step comes to.
-#[derive(Clone, Copy, Debug)]
+#[derive(Clone, Copy)]
 pub enum Event {
     /// The machine went on.
     Ran,
@@ -25,7 +25,7 @@ pub enum Stop {
 }
 
 /// What a run of so many steps comes to.
-#[derive(Debug, Drop)]
+#[derive(Drop)]
 pub struct RunOutcome {
     /// The words put out, in order.
     pub outs: Outs,

@@ -12,10 +12,9 @@ ghost use Rattle.c25_isa.specs.Table.{AreFields, FitsForm, IsIndirect, IsInstr, 
 use crate::instruction::Instr;
 use crate::mnemonic::Mnemonic;
 use crate::operand::{Indirect, Operand};
-use std::fmt;
 
 /// The operands of an instruction, by the form that they have.
-#[derive(Clone, Copy, Debug)]
+#[derive(Clone, Copy)]
 pub enum Fields {
     NoOperand,
     Memory(Operand),
@@ -31,13 +30,6 @@ pub enum Fields {
     ShiftedWord { shift: u8, word: u16 },
     RegisterWord { register: u8, word: u16 },
     Target { to: u16, operand: Indirect },
-}
-
-// An instruction is written as the name of its row and its operands.
-impl fmt::Debug for Instr {
-    fn fmt<W: fmt::Write>(&self, f: &mut fmt::Formatter<W>) -> fmt::Result {
-        write!(f, "{:?} {:?}", self.mnemonic(), self.fields())
-    }
 }
 
 impl Instr {

@@ -6,7 +6,7 @@ use std::marker::Model;
 use word_base::Text;
 
 /// Where a function stands in an image: its first and its last program word.
-#[derive(Debug, Drop)]
+#[derive(Drop)]
 pub struct FunctionRange {
     pub name: Text,
     pub first: u16,
@@ -15,7 +15,7 @@ pub struct FunctionRange {
 
 /// At most 65,536 program words, and the functions among them: their ranges rise, don't overlap and lie within the words,
 /// and each name is one. Contracts see the list of the words and that of the functions.
-#[derive(Debug, Drop)]
+#[derive(Drop)]
 pub struct Image {
     words: Vec<u16>,
     functions: Vec<FunctionRange>,

@@ -4,7 +4,7 @@ ghost use Rattle.std.specs.Prelude.{◌≡◌};
 use crate::operand::{Indirect, Operand};
 
 /// When a jump is taken, by the 32 bits of ACC as a signed number.
-#[derive(Clone, Copy, Debug)]
+#[derive(Clone, Copy)]
 pub enum JumpOp {
     /// Always.
     B,

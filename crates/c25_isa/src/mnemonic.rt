@@ -3,7 +3,6 @@ ghost use Rattle.std.specs.Prelude.{◌≡◌};
 ghost use Rattle.c25_isa.specs.Rows as table;
 
 use crate::instruction::JumpOp;
-use std::fmt;
 
 /// A row of the instruction table, by its mnemonic.
 #[derive(Clone, Copy)]
@@ -66,7 +65,7 @@ pub enum Mnemonic {
 }
 
 /// Which operands a row takes, in the order of `Fields`.
-#[derive(Clone, Copy, Debug)]
+#[derive(Clone, Copy)]
 pub enum Form {
     NoOperand,
     /// A word of data memory.
@@ -98,7 +97,7 @@ pub enum Form {
 }
 
 /// What a row does to the word of data memory that it has as operand.
-#[derive(Clone, Copy, Debug)]
+#[derive(Clone, Copy)]
 pub enum MemoryUse {
     /// It has none.
     Neither,
@@ -107,7 +106,7 @@ pub enum MemoryUse {
 }
 
 /// What the table says of a row.
-#[derive(Clone, Copy, Debug)]
+#[derive(Clone, Copy)]
 pub struct Row {
     /// In upper case.
     pub name: &'static str,
@@ -115,12 +114,6 @@ pub struct Row {
     pub base: u16,
     pub form: Form,
     pub memory: MemoryUse,
-}
-
-impl fmt::Debug for Mnemonic {
-    fn fmt<W: fmt::Write>(&self, f: &mut fmt::Formatter<W>) -> fmt::Result {
-        f.write_str(self.row().name)
-    }
 }
 
 impl Mnemonic {

@@ -4,7 +4,7 @@ ghost use Rattle.c25_isa.specs.Table.{IsIndirect, IsOperand, indirect_byte, oper
 ghost use Rattle.c25_isa.specs.Decode.{change_of, next_of, indirect_of, operand_of};
 
 /// How an indirect access changes its address register afterwards.
-#[derive(Clone, Copy, Debug, PartialEq, Eq)]
+#[derive(Clone, Copy, PartialEq, Eq)]
 pub enum Change {
     /// `*`
     Stay,
@@ -36,7 +36,7 @@ impl Change {
 
 /// The word at the current address register. `next` is the register, below 8, that is current
 /// afterwards, where that changes.
-#[derive(Clone, Copy, Debug)]
+#[derive(Clone, Copy)]
 pub struct Indirect {
     pub change: Change,
     pub next: Option<u8>,
@@ -86,7 +86,7 @@ fn next_from_low(low: u8) -> Option<Option<u8>>
 }
 
 /// Where an instruction finds its word.
-#[derive(Clone, Copy, Debug)]
+#[derive(Clone, Copy)]
 pub enum Operand {
     /// The word at this offset, below 128, of the current page.
     Direct(u8),

@@ -6,7 +6,7 @@ use crate::operand::Indirect;
 use word_base::Text;
 
 /// An instruction, or what linking makes one of.
-#[derive(Debug, Drop)]
+#[derive(Drop)]
 pub enum PieceItem {
     Do(Instr),
     /// The place of a mark, which is known in its own piece alone. It takes no word.
@@ -25,7 +25,7 @@ pub enum PieceItem {
 }
 
 /// The code of one function, of the startup or of a helper. A listed one becomes a function of the image.
-#[derive(Debug, Drop)]
+#[derive(Drop)]
 pub struct Piece {
     pub name: Text,
     pub listed: bool,

@@ -11,7 +11,7 @@ pub const MEMORY_WORDS: usize = 65_536;
 
 /// The registers, modes and memories of a board at a reset. A run begins with PC 0, an empty hardware stack and no repeat
 /// pending.
-#[derive(Debug, Drop)]
+#[derive(Drop)]
 pub struct Start {
     pub acc: u32,
     pub t: u16,

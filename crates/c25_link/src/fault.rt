@@ -5,7 +5,7 @@ ghost use Rattle.c25_link.specs.declared.fault.LinkFault.TheVariants as faults;
 use word_base::NoMemory;
 
 /// Why pieces become no image.
-#[derive(Clone, Copy, Debug, PartialEq, Eq)]
+#[derive(Clone, Copy, PartialEq, Eq)]
 pub enum LinkFault {
     /// They take this many words together, which are more than 65,536.
     CodeFull { words: u32 },

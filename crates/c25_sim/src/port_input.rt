@@ -4,7 +4,7 @@ ghost use Rattle.std.specs.Prelude.{◌≡◌, [], ◌∷◌, MatchOption};
 use std::marker::Model;
 
 /// The words that a port has left. Contracts see the list of them.
-#[derive(Debug, Drop)]
+#[derive(Drop)]
 pub struct PortInput {
     words: Vec<u16>,
     next: usize,

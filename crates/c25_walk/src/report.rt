@@ -5,7 +5,7 @@ use std::marker::Model;
 
 /// The addresses of data memory that a stretch accesses through AR2 to AR5, one at least, in the order of the accesses. Contracts see
 /// the list of them.
-#[derive(Debug, Drop)]
+#[derive(Drop)]
 pub struct AddressBlock {
     addresses: Vec<u16>,
 }
@@ -39,7 +39,7 @@ impl AddressBlock {
 
 /// The addresses of each stretch that lists some, in the order of the words, and how many instructions do nothing but move an
 /// address register.
-#[derive(Debug, Drop)]
+#[derive(Drop)]
 pub struct WalkReport {
     pub blocks: Vec<AddressBlock>,
     pub count: u32,

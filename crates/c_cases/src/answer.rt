@@ -15,7 +15,7 @@ use std::alloc::Global;
 use word_base::NoMemory;
 
 /// What is asked of a source.
-#[derive(Clone, Copy, Debug, PartialEq, Eq)]
+#[derive(Clone, Copy, PartialEq, Eq)]
 pub(crate) enum Kind {
     Tokens,
     /// How many tokens.

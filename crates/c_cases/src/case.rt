@@ -5,7 +5,7 @@ use std::alloc::Global;
 use word_base::NoMemory;
 
 /// What stands around the texts of cases and around their answers.
-#[derive(Clone, Copy, Debug)]
+#[derive(Clone, Copy)]
 struct Frame<'a> {
     before: &'a str,
     behind: &'a str,

@@ -56,11 +56,13 @@
 mod accesses_text;
 mod answer;
 mod case;
+mod expr_text;
 mod notation;
 mod operators;
 mod refusal;
 mod token_text;
 mod tree_text;
+mod typed_expr_text;
 mod typed_text;
 
 use crate::case::answers;

@@ -6,7 +6,7 @@ use std::alloc::AllocError;
 use word_base::NoMemory;
 
 /// Why a source has no answer but a refusal.
-#[derive(Debug, Drop)]
+#[derive(Drop)]
 pub(crate) enum Refusal {
     Tokens(LexFault),
     Syntax(ParseFault),

@@ -1,42 +1,25 @@
 //! The typed program of a source as one line: each node in parentheses, its form first and then its parts.
 //!
-//! Nodes are written from a list of those that are yet to be written, so that no tree is too high for it.
-use crate::operators::{assignment_text, binary_text};
-use c_syntax::UnaryOp;
+//! Statements are written from a list of what is yet to be written, so that no statement is too high for it.
+use crate::typed_expr_text::Writer;
 use c_tree::{
-    Base, Choice, ExprForm, Function, Initial, Object, Program, ScalarType, Target, TargetForm,
-    TypedExpr, TypedStmt, VarRef,
+    Choice, Function, Initial, Object, Program, ScalarType, TypedExpr, TypedStmt, VarRef,
 };
 use std::alloc::Global;
 use word_base::NoMemory;
 
 const MOST_PIECES: u32 = 10_000_000;
 
-// What is yet to be written, each behind a blank.
+// What is yet to be written of a statement, each behind a blank but for the end of a node.
 #[derive(Clone, Copy, Drop)]
 enum Piece<'a> {
-    // The end of a node, without a blank.
+    Nothing,
     Close,
-    Expr(&'a TypedExpr),
-    Exprs(&'a [TypedExpr]),
-    // A part of `for` that may be absent.
-    Optional(&'a Option<TypedExpr>),
+    // The test of a loop that is behind its body.
+    Test(&'a TypedExpr),
     Stmt(&'a TypedStmt),
     Stmts(&'a [TypedStmt]),
     Choices(&'a [Choice]),
-    Target(&'a Target),
-    // A letter and a number.
-    Number(&'static str, u32),
-}
-
-// A writer of programs.
-#[derive(Drop)]
-struct Writer<'a, 'b> {
-    line: &'b mut String,
-    // The last of these is written next.
-    todo: Vec<Piece<'a>>,
-    // The place from which places are counted.
-    base: u32,
 }
 
 /// Puts a program behind, with places from `base` on.
@@ -46,24 +29,20 @@ pub(crate) fn push_program(
     program: &Program,
     base: u32,
 ) -> Result<(), NoMemory> {
-    let mut writer = Writer {
-        line,
-        todo: Vec::new(alloc),
-        base,
-    };
-    writer.program(program)
+    let mut writer = Writer { alloc, line, base };
+    writer.text("(program")?;
+    writer.objects("static", program.statics.as_slice())?;
+    for function in program.functions.as_slice() {
+        writer.function(function)?;
+    }
+    writer.text(")")
 }
 
-impl<'a, 'b> Writer<'a, 'b> {
-    fn program(&mut self, program: &'a Program) -> Result<(), NoMemory> {
-        self.line.push_str("(program")?;
-        for object in program.statics.as_slice() {
-            self.object("static", object)?;
+impl<'b> Writer<'b> {
+    fn objects(&mut self, form: &str, objects: &[Object]) -> Result<(), NoMemory> {
+        for object in objects {
+            self.object(form, object)?;
         }
-        for function in program.functions.as_slice() {
-            self.function(function)?;
-        }
-        self.line.push_str(")")?;
         Ok(())
     }
 
@@ -72,29 +51,39 @@ impl<'a, 'b> Writer<'a, 'b> {
         self.scalar_type(object.kind)?;
         write!(self.line, "[{}]", object.length)?;
         for initial in object.initial.as_slice() {
-            match *initial {
-                Initial::Word(word) => write!(self.line, " {word}")?,
-                Initial::Address { object, index } => write!(self.line, " g{object}+{index}")?,
-                Initial::Null => self.line.push_str(" null")?,
-            }
+            self.initial(*initial)?;
         }
-        self.line.push_str(")")?;
-        Ok(())
+        self.text(")")
     }
 
-    fn function(&mut self, function: &'a Function) -> Result<(), NoMemory> {
+    fn initial(&mut self, initial: Initial) -> Result<(), NoMemory> {
+        match initial {
+            Initial::Word(word) => self.numbered("", u32::from(word)),
+            Initial::Address { object, index } => Ok(write!(self.line, " g{object}+{index}")?),
+            Initial::Null => self.text(" null"),
+        }
+    }
+
+    fn function(&mut self, function: &Function) -> Result<(), NoMemory> {
         write!(self.line, " (function {} ", function.name.as_str())?;
         self.kind(function.result)?;
-        self.line.push_str(" (params")?;
-        for param in function.params.as_slice() {
-            self.variable(" ", *param)?;
-        }
-        self.line.push_str(") (scalars")?;
+        self.variables(" (params", " ", function.params.as_slice())?;
+        self.text(") (scalars")?;
         self.types(function.scalars.as_slice())?;
-        self.line.push_str(")")?;
-        self.locals(function.locals.as_slice())?;
+        self.text(")")?;
+        self.objects("local", function.locals.as_slice())?;
         self.body(&function.body)?;
-        self.line.push_str(")")?;
+        self.text(")")
+    }
+
+    // Variables behind a text, the first one behind another.
+    fn variables(&mut self, open: &str, first: &str, variables: &[VarRef]) -> Result<(), NoMemory> {
+        self.line.push_str(open)?;
+        let mut before = first;
+        for variable in variables {
+            self.variable(before, *variable)?;
+            before = " ";
+        }
         Ok(())
     }
 
@@ -106,312 +95,117 @@ impl<'a, 'b> Writer<'a, 'b> {
         Ok(())
     }
 
-    fn locals(&mut self, locals: &[Object]) -> Result<(), NoMemory> {
-        for local in locals {
-            self.object("local", local)?;
-        }
-        Ok(())
-    }
-
     // A function's body, from which all pieces come.
-    fn body(&mut self, body: &'a TypedStmt) -> Result<(), NoMemory> {
-        self.todo.push(Piece::Stmt(body))?;
+    fn body(&mut self, body: &TypedStmt) -> Result<(), NoMemory> {
+        let mut todo = Vec::new(self.alloc);
+        todo.push(Piece::Stmt(body))?;
         // A tree of as many tokens as a source may have has fewer pieces.
         for _ in 0..MOST_PIECES {
-            match self.todo.pop() {
-                Some(piece) => self.piece(piece)?,
+            match todo.pop() {
+                Some(piece) => self.stmt_piece(&mut todo, piece)?,
                 None => return Ok(()),
             }
         }
-        self.line.push_str(" too many pieces")?;
-        Ok(())
+        self.text(" too many pieces")
     }
 
-    // Has these pieces written next.
-    fn pieces(&mut self, pieces: &[Piece<'a>]) -> Result<(), NoMemory> {
-        for piece in pieces.iter().rev() {
-            self.todo.push(*piece)?;
-        }
-        Ok(())
-    }
-
-    fn text(&mut self, text: &str) -> Result<(), NoMemory> {
-        self.line.push_str(text)?;
-        Ok(())
-    }
-
-    fn piece(&mut self, piece: Piece<'a>) -> Result<(), NoMemory> {
+    fn stmt_piece<'a>(
+        &mut self,
+        todo: &mut Vec<Piece<'a>>,
+        piece: Piece<'a>,
+    ) -> Result<(), NoMemory> {
         match piece {
+            Piece::Nothing | Piece::Stmts([]) | Piece::Choices([]) => Ok(()),
             Piece::Close => self.text(")"),
-            Piece::Optional(None) => self.text(" -"),
-            Piece::Expr(expr) | Piece::Optional(Some(expr)) => self.expr(expr),
-            Piece::Stmt(stmt) => self.stmt(stmt),
-            Piece::Target(target) => self.target(target),
-            Piece::Number(letter, number) => self.numbered(letter, number),
-            list => self.list(list),
-        }
-    }
-
-    // The first of a list, and then the rest.
-    fn list(&mut self, list: Piece<'a>) -> Result<(), NoMemory> {
-        match list {
-            Piece::Exprs([first, rest @ ..]) => {
-                self.pieces(&[Piece::Expr(first), Piece::Exprs(rest)])
-            }
+            Piece::Test(test) => self.expr(test),
+            Piece::Stmt(stmt) => self.stmt(todo, stmt),
             Piece::Stmts([first, rest @ ..]) => {
-                self.pieces(&[Piece::Stmt(first), Piece::Stmts(rest)])
+                todo.push(Piece::Stmts(rest))?;
+                self.stmt(todo, first)
             }
-            Piece::Choices([first, rest @ ..]) => self.choice(first, rest),
-            _ => Ok(()),
+            Piece::Choices([first, rest @ ..]) => {
+                todo.push(Piece::Choices(rest))?;
+                self.choice(todo, first)
+            }
         }
     }
 
-    fn choice(&mut self, choice: &'a Choice, rest: &'a [Choice]) -> Result<(), NoMemory> {
+    fn choice<'a>(
+        &mut self,
+        todo: &mut Vec<Piece<'a>>,
+        choice: &'a Choice,
+    ) -> Result<(), NoMemory> {
         match choice {
-            Choice::Case(word) => self.pieces(&[
-                Piece::Number("(case ", u32::from(*word)),
-                Piece::Close,
-                Piece::Choices(rest),
-            ]),
-            Choice::Default => {
-                self.line.push_str(" default")?;
-                self.pieces(&[Piece::Choices(rest)])
-            }
-            Choice::Body(stmt) => self.pieces(&[Piece::Stmt(stmt), Piece::Choices(rest)]),
+            Choice::Case(word) => Ok(write!(self.line, " (case {word})")?),
+            Choice::Default => self.text(" default"),
+            Choice::Body(stmt) => self.stmt(todo, stmt),
         }
     }
 
-    fn numbered(&mut self, letter: &str, number: u32) -> Result<(), NoMemory> {
-        write!(self.line, " {letter}{number}")?;
-        Ok(())
-    }
-
-    fn scalar_type(&mut self, of: ScalarType) -> Result<(), NoMemory> {
-        self.line.push_str(base_text(of.base))?;
-        for _ in 0..of.stars {
-            self.line.push_str("*")?;
+    // The form of a statement and what it begins with, where what follows is yet to be written then.
+    fn stmt<'a>(&mut self, todo: &mut Vec<Piece<'a>>, stmt: &'a TypedStmt) -> Result<(), NoMemory> {
+        let (form, pieces) = shape(stmt);
+        self.text(form)?;
+        self.front(stmt)?;
+        for piece in pieces {
+            todo.push(piece)?;
         }
         Ok(())
     }
 
-    fn kind(&mut self, kind: Option<ScalarType>) -> Result<(), NoMemory> {
-        match kind {
-            Some(of) => self.scalar_type(of),
-            None => self.text("void"),
-        }
-    }
-
-    fn variable(&mut self, before: &str, variable: VarRef) -> Result<(), NoMemory> {
-        let (letter, number) = lettered(variable);
-        write!(self.line, "{before}{letter}{number}")?;
-        Ok(())
-    }
-
-    fn place(&mut self, at: u32) -> Result<(), NoMemory> {
-        write!(self.line, "@{}", at.saturating_sub(self.base))?;
-        Ok(())
-    }
-
-    // The type and the place of an expression, behind its form.
-    fn typed(&mut self, expr: &TypedExpr) -> Result<(), NoMemory> {
-        self.line.push_str(":")?;
-        self.kind(expr.kind)?;
-        self.place(expr.at)
-    }
-
-    // The node of an expression with these parts.
-    fn node(&mut self, form: &str, expr: &TypedExpr, parts: &[Piece<'a>]) -> Result<(), NoMemory> {
-        write!(self.line, " ({form}")?;
-        self.typed(expr)?;
-        self.todo.push(Piece::Close)?;
-        self.pieces(parts)
-    }
-
-    fn operand(
-        &mut self,
-        form: &str,
-        expr: &TypedExpr,
-        operand: &'a TypedExpr,
-    ) -> Result<(), NoMemory> {
-        self.node(form, expr, &[Piece::Expr(operand)])
-    }
-
-    fn operands(
-        &mut self,
-        form: &str,
-        expr: &TypedExpr,
-        left: &'a TypedExpr,
-        right: &'a TypedExpr,
-    ) -> Result<(), NoMemory> {
-        self.node(form, expr, &[Piece::Expr(left), Piece::Expr(right)])
-    }
-
-    fn expr(&mut self, expr: &'a TypedExpr) -> Result<(), NoMemory> {
-        match &expr.form {
-            ExprForm::Const(_) | ExprForm::Read(_) | ExprForm::AddressOf(_) => self.leaf(expr),
-            ExprForm::Load(pointer) => self.operand("*_", expr, pointer),
-            ExprForm::Unary { op, value } => self.operand(unary_text(*op), expr, value),
-            ExprForm::Not(value) => self.operand("!_", expr, value),
-            ExprForm::Convert(value) => self.operand("convert", expr, value),
-            ExprForm::Binary { op, left, right } => {
-                self.operands(binary_text(*op), expr, left, right)
-            }
-            ExprForm::And { left, right } => self.operands("&&", expr, left, right),
-            ExprForm::Or { left, right } => self.operands("||", expr, left, right),
-            ExprForm::Comma { left, right } => self.operands(",", expr, left, right),
-            _ => self.choice_or_effect(expr),
-        }
-    }
-
-    fn leaf(&mut self, expr: &TypedExpr) -> Result<(), NoMemory> {
-        match &expr.form {
-            ExprForm::Const(word) => self.numbered("", u32::from(*word))?,
-            ExprForm::Read(variable) => self.variable(" ", *variable)?,
-            ExprForm::AddressOf(variable) => self.variable(" &", *variable)?,
-            _ => {}
-        }
-        self.typed(expr)
-    }
-
-    // An expression of a form that `expr` leaves.
-    fn choice_or_effect(&mut self, expr: &'a TypedExpr) -> Result<(), NoMemory> {
-        match &expr.form {
-            ExprForm::Pick { test, yes, no } => self.node(
-                "?",
-                expr,
-                &[Piece::Expr(test), Piece::Expr(yes), Piece::Expr(no)],
-            ),
-            ExprForm::Assign { to, value } => {
-                self.node("=", expr, &[Piece::Target(to), Piece::Expr(value)])
-            }
-            ExprForm::AssignOp { op, to, value } => self.node(
-                assignment_text(*op),
-                expr,
-                &[Piece::Target(to), Piece::Expr(value)],
-            ),
-            ExprForm::StepBefore { up: true, to } => self.node("++_", expr, &[Piece::Target(to)]),
-            ExprForm::StepBefore { up: false, to } => self.node("--_", expr, &[Piece::Target(to)]),
-            ExprForm::StepAfter { up: true, to } => self.node("_++", expr, &[Piece::Target(to)]),
-            ExprForm::StepAfter { up: false, to } => self.node("_--", expr, &[Piece::Target(to)]),
-            ExprForm::Call { function, args } => {
-                let function = Piece::Number("f", u32::from(*function));
-                self.node("call", expr, &[function, Piece::Exprs(args)])
-            }
-            ExprForm::In { port } => {
-                self.node("in", expr, &[Piece::Number("", u32::from(port.number()))])
-            }
-            ExprForm::Out { port, value } => {
-                let port = Piece::Number("", u32::from(port.number()));
-                self.node("out", expr, &[port, Piece::Expr(value)])
-            }
-            _ => Ok(()),
-        }
-    }
-
-    fn target(&mut self, target: &'a Target) -> Result<(), NoMemory> {
-        match &target.form {
-            TargetForm::Named(variable) => self.variable(" ", *variable)?,
-            TargetForm::At(pointer) => {
-                self.line.push_str(" (*")?;
-                self.pieces(&[Piece::Expr(pointer), Piece::Close])?;
-            }
-        }
-        self.place(target.at)
-    }
-
-    fn stmt(&mut self, stmt: &'a TypedStmt) -> Result<(), NoMemory> {
+    // What a statement has before its first statement.
+    fn front(&mut self, stmt: &TypedStmt) -> Result<(), NoMemory> {
         match stmt {
-            TypedStmt::Break => self.text(" break"),
-            TypedStmt::Continue => self.text(" continue"),
-            TypedStmt::Fill(number) => {
-                self.pieces(&[Piece::Number("(fill l", *number), Piece::Close])
-            }
-            TypedStmt::Return(None) => self.text(" (return)"),
-            TypedStmt::Return(Some(value)) => self.begin("return", &[Piece::Expr(value)]),
-            TypedStmt::Expr(value) => self.begin("eval", &[Piece::Expr(value)]),
-            TypedStmt::Block { declared, body } => self.block(declared, body),
-            TypedStmt::If { test, yes, no } if is_empty(no) => {
-                self.begin("if", &[Piece::Expr(test), Piece::Stmt(yes)])
-            }
-            TypedStmt::If { test, yes, no } => self.begin(
-                "if-else",
-                &[Piece::Expr(test), Piece::Stmt(yes), Piece::Stmt(no)],
-            ),
-            _ => self.repeated_or_chosen(stmt),
-        }
-    }
-
-    // A loop or a switch.
-    fn repeated_or_chosen(&mut self, stmt: &'a TypedStmt) -> Result<(), NoMemory> {
-        match stmt {
-            TypedStmt::While { test, body } => {
-                self.begin("while", &[Piece::Expr(test), Piece::Stmt(body)])
-            }
-            TypedStmt::Do { body, test } => {
-                self.begin("do", &[Piece::Stmt(body), Piece::Expr(test)])
+            TypedStmt::Fill(number) => Ok(write!(self.line, "{number}")?),
+            TypedStmt::Return(Some(value)) | TypedStmt::Expr(value) => self.expr(value),
+            TypedStmt::Switch { value, .. } => self.expr(value),
+            TypedStmt::If { test, .. } | TypedStmt::While { test, .. } => self.expr(test),
+            TypedStmt::Block { declared, .. } => {
+                self.variables("", "", declared)?;
+                self.text("]")
             }
             TypedStmt::For {
                 first,
                 test,
                 third,
-                body,
-            } => self.begin(
-                "for",
-                &[
-                    Piece::Optional(first),
-                    Piece::Optional(test),
-                    Piece::Optional(third),
-                    Piece::Stmt(body),
-                ],
-            ),
-            TypedStmt::Switch { value, choices } => {
-                self.begin("switch", &[Piece::Expr(value), Piece::Choices(choices)])
+                ..
+            } => {
+                self.optional(first)?;
+                self.optional(test)?;
+                self.optional(third)
             }
             _ => Ok(()),
         }
     }
 
-    // The node of a statement that has these parts.
-    fn begin(&mut self, form: &str, parts: &[Piece<'a>]) -> Result<(), NoMemory> {
-        write!(self.line, " ({form}")?;
-        self.todo.push(Piece::Close)?;
-        self.pieces(parts)
-    }
-
-    fn block(&mut self, declared: &[VarRef], body: &'a [TypedStmt]) -> Result<(), NoMemory> {
-        self.line.push_str(" (block [")?;
-        let mut before = "";
-        for variable in declared {
-            self.variable(before, *variable)?;
-            before = " ";
+    // A part of `for` that may be absent.
+    fn optional(&mut self, expr: &Option<TypedExpr>) -> Result<(), NoMemory> {
+        match expr {
+            Some(expr) => self.expr(expr),
+            None => self.text(" -"),
         }
-        self.line.push_str("]")?;
-        self.pieces(&[Piece::Stmts(body), Piece::Close])
     }
 }
 
-fn base_text(base: Base) -> &'static str {
-    match base {
-        Base::Void => "void",
-        Base::Int => "int",
-        Base::Unsigned => "unsigned",
-    }
-}
-
-// The letter and the number of a variable.
-fn lettered(variable: VarRef) -> (&'static str, u32) {
-    match variable {
-        VarRef::Scalar(number) => ("s", u32::from(number)),
-        VarRef::Local(number) => ("l", number),
-        VarRef::Static(number) => ("g", number),
-    }
-}
-
-fn unary_text(op: UnaryOp) -> &'static str {
-    match op {
-        UnaryOp::Minus => "-_",
-        UnaryOp::Plus => "+_",
-        UnaryOp::Complement => "~_",
+// How a statement begins, and what follows its front, the last first.
+fn shape<'a>(stmt: &'a TypedStmt) -> (&'static str, [Piece<'a>; 3]) {
+    let none = Piece::Nothing;
+    let close = Piece::Close;
+    match stmt {
+        TypedStmt::Break => (" break", [none, none, none]),
+        TypedStmt::Continue => (" continue", [none, none, none]),
+        TypedStmt::Fill(_) => (" (fill l", [close, none, none]),
+        TypedStmt::Return(_) => (" (return", [close, none, none]),
+        TypedStmt::Expr(_) => (" (eval", [close, none, none]),
+        TypedStmt::Block { body, .. } => (" (block [", [close, Piece::Stmts(body), none]),
+        TypedStmt::If { yes, no, .. } if is_empty(no) => (" (if", [close, Piece::Stmt(yes), none]),
+        TypedStmt::If { yes, no, .. } => {
+            (" (if-else", [close, Piece::Stmt(no), Piece::Stmt(yes)])
+        }
+        TypedStmt::While { body, .. } => (" (while", [close, Piece::Stmt(body), none]),
+        TypedStmt::Do { body, test } => (" (do", [close, Piece::Test(test), Piece::Stmt(body)]),
+        TypedStmt::For { body, .. } => (" (for", [close, Piece::Stmt(body), none]),
+        TypedStmt::Switch { choices, .. } => (" (switch", [close, Piece::Choices(choices), none]),
     }
 }
 

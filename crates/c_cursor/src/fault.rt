@@ -5,7 +5,7 @@ ghost use Rattle.c_cursor.specs.declared.fault.Refusal.TheVariants as refusals;
 use std::alloc::{AllocError, AllocFailed};
 
 /// A refusal within the parser.
-#[derive(Clone, Copy, Debug, PartialEq, Eq)]
+#[derive(Clone, Copy, PartialEq, Eq)]
 pub enum Refusal {
     /// No tree goes on where so many tokens are left.
     Syntax { left: u32 },

@@ -8,7 +8,7 @@ ghost use Rattle.c_expressions.specs.Operators.{level_row, row_at, next_infix, n
 use c_syntax::{BinaryOp, PrefixOp, Punct};
 
 /// The ten levels of operators between operands, from the loosest to the tightest.
-#[derive(Clone, Copy, Debug, PartialEq, Eq)]
+#[derive(Clone, Copy, PartialEq, Eq)]
 pub(crate) enum Level {
     Or,
     And,
@@ -23,7 +23,7 @@ pub(crate) enum Level {
 }
 
 /// An operator between operands.
-#[derive(Clone, Copy, Debug, PartialEq, Eq)]
+#[derive(Clone, Copy, PartialEq, Eq)]
 pub(crate) enum Infix {
     Or,
     And,
@@ -97,7 +97,7 @@ pub(crate) fn infix_of(mark: Punct) -> Option<(Level, Infix)>
 }
 
 /// An assignment: `=`, or an operator with `=`.
-#[derive(Clone, Copy, Debug, PartialEq, Eq)]
+#[derive(Clone, Copy, PartialEq, Eq)]
 pub(crate) enum Assignment {
     Plain,
     With(BinaryOp),

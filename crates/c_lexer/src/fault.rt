@@ -40,7 +40,7 @@ impl<T: Drop> From<AllocFailed<T>> for LexFault {
 }
 
 /// Why no token stands at the front of a text.
-#[derive(Clone, Copy, Debug, PartialEq, Eq)]
+#[derive(Clone, Copy, PartialEq, Eq)]
 pub(crate) enum Flaw {
     BadByte,
     OpenComment,

@@ -17,7 +17,7 @@ use std::alloc::Global;
 use word_base::NoMemory;
 
 /// How a statement is left.
-#[derive(Clone, Copy, Debug, PartialEq, Eq)]
+#[derive(Clone, Copy, PartialEq, Eq)]
 pub(crate) enum Flow {
     Next,
     Broke,
@@ -59,7 +59,7 @@ impl Flow {
 }
 
 /// A name of a block that is open.
-#[derive(Clone, Copy, Debug, PartialEq, Eq)]
+#[derive(Clone, Copy, PartialEq, Eq)]
 pub(crate) struct Opened {
     pub(crate) reference: VarRef,
     /// The object that it stands for in the block.

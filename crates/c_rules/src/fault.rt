@@ -61,7 +61,7 @@ pub enum TypeFault {
 }
 
 /// The rules of names and types that a node may break, in the order in which they are answered.
-#[derive(Clone, Copy, Debug, PartialEq, Eq)]
+#[derive(Clone, Copy, PartialEq, Eq)]
 pub enum Rule {
     /// A name is declared before its use.
     Undeclared,
@@ -84,7 +84,7 @@ pub enum Rule {
 }
 
 /// A refusal within the checker.
-#[derive(Clone, Copy, Debug, PartialEq, Eq)]
+#[derive(Clone, Copy, PartialEq, Eq)]
 pub enum Refusal {
     /// The rule that is broken, and the place of the node that breaks it, in bytes.
     Broken { rule: Rule, at: u32 },

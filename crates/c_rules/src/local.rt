@@ -16,7 +16,7 @@ pub struct Local {
 }
 
 /// Whether parameters have to be named, as they have in a function with a body.
-#[derive(Clone, Copy, Debug, PartialEq, Eq)]
+#[derive(Clone, Copy, PartialEq, Eq)]
 pub enum Naming {
     Needed,
     Free,

@@ -3,7 +3,7 @@ use c_tree::{ScalarType, VarRef};
 use word_base::Items;
 
 /// The type of an object.
-#[derive(Clone, Copy, Debug, PartialEq, Eq)]
+#[derive(Clone, Copy, PartialEq, Eq)]
 pub enum ObjectType {
     /// One cell.
     Single(ScalarType),
@@ -12,7 +12,7 @@ pub enum ObjectType {
 }
 
 /// The type of a function.
-#[derive(Debug, Drop)]
+#[derive(Drop)]
 pub struct FunctionType {
     /// The type of its value, or `None` for void.
     pub result: Option<ScalarType>,
@@ -21,7 +21,7 @@ pub struct FunctionType {
 }
 
 /// What a name stands for.
-#[derive(Debug, Drop)]
+#[derive(Drop)]
 pub enum Meaning {
     Object {
         reference: VarRef,
@@ -31,7 +31,7 @@ pub enum Meaning {
 }
 
 /// What a declarator declares.
-#[derive(Debug, Drop)]
+#[derive(Drop)]
 pub enum Declared {
     /// Its type is none.
     Untyped,

@@ -17,7 +17,7 @@ use c_tree::{
 use word_base::{signed, zero_ext};
 
 /// A value of a type: an operand of an operator.
-#[derive(Clone, Copy, Debug, PartialEq, Eq)]
+#[derive(Clone, Copy, PartialEq, Eq)]
 pub struct Operand {
     pub kind: Option<ScalarType>,
     pub value: Value,

@@ -12,14 +12,14 @@ use word_base::{Ending, NoMemory, UndefinedKind};
 
 /// An object by its number, which no other object of the run has. It is found at its place among the living ones, unless one that
 /// was made before it has ended.
-#[derive(Clone, Copy, Debug, PartialEq, Eq)]
+#[derive(Clone, Copy, PartialEq, Eq)]
 pub struct Name {
     pub number: u64,
     pub place: usize,
 }
 
 /// A value of one cell.
-#[derive(Clone, Copy, Debug, PartialEq, Eq)]
+#[derive(Clone, Copy, PartialEq, Eq)]
 pub enum Value {
     Word(u16),
     /// A pointer to a cell of an object, or one past its last.
@@ -40,14 +40,14 @@ impl Value {
 }
 
 /// A cell, which holds a value once it was written.
-#[derive(Clone, Copy, Debug, PartialEq, Eq)]
+#[derive(Clone, Copy, PartialEq, Eq)]
 pub enum Cell {
     Unset,
     Holds(Value),
 }
 
 /// A place in the store: an object, and the index of a cell.
-#[derive(Clone, Copy, Debug, PartialEq, Eq)]
+#[derive(Clone, Copy, PartialEq, Eq)]
 pub struct Spot {
     pub object: Name,
     pub index: u16,
@@ -62,7 +62,7 @@ pub(crate) struct Living {
 }
 
 /// Why a part of a run gives no value.
-#[derive(Clone, Copy, Debug, PartialEq, Eq)]
+#[derive(Clone, Copy, PartialEq, Eq)]
 pub enum Stop {
     Ended(Ending),
     /// A loop would begin a turn too many.

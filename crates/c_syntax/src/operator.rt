@@ -1,7 +1,7 @@
 //! The operators of typed expressions.
 
 /// An operator on one integer. `!` is a form of its own.
-#[derive(Clone, Copy, Debug, PartialEq, Eq)]
+#[derive(Clone, Copy, PartialEq, Eq)]
 pub enum UnaryOp {
     Minus,
     Plus,
@@ -10,7 +10,7 @@ pub enum UnaryOp {
 
 /// An operator on two values. `&&` and `||` are forms of their own. `Add`, `Sub` and all comparisons take
 /// pointers too.
-#[derive(Clone, Copy, Debug, PartialEq, Eq)]
+#[derive(Clone, Copy, PartialEq, Eq)]
 pub enum BinaryOp {
     Add,
     Sub,

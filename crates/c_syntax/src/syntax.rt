@@ -1,7 +1,7 @@
 //! The words and operators of syntax trees.
 
 /// A word of a type, or `static` before it.
-#[derive(Clone, Copy, Debug, PartialEq, Eq)]
+#[derive(Clone, Copy, PartialEq, Eq)]
 pub enum SpecWord {
     Static,
     Void,
@@ -13,7 +13,7 @@ pub enum SpecWord {
 }
 
 /// An operator before one operand. `sizeof`, `++` and `--` are forms of their own.
-#[derive(Clone, Copy, Debug, PartialEq, Eq)]
+#[derive(Clone, Copy, PartialEq, Eq)]
 pub enum PrefixOp {
     /// `&`.
     Address,

@@ -136,7 +136,7 @@ pub enum Punct {
 }
 
 /// What a token is, and its value.
-#[derive(Debug, Drop)]
+#[derive(Drop)]
 pub enum TokenKind {
     Word(Keyword),
     /// A name that is no keyword, of 1 to 127 characters.
@@ -156,7 +156,7 @@ pub enum TokenKind {
 }
 
 /// A token of a source.
-#[derive(Debug, Drop)]
+#[derive(Drop)]
 pub struct Token {
     pub kind: TokenKind,
     /// Where its spelling begins, in bytes from the start of the source.

@@ -2,7 +2,7 @@
 use crate::program::VarRef;
 
 /// An address that is taken, a function that is called, or the size of a switch.
-#[derive(Clone, Copy, Debug, PartialEq, Eq)]
+#[derive(Clone, Copy, PartialEq, Eq)]
 pub enum Use {
     /// The address of what a name stands for is taken.
     Address(VarRef),

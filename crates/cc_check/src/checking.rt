@@ -23,7 +23,7 @@ use word_base::NoMemory;
 
 /// The lines of a check, each with its line feed, and whether all frames pass their tests. A function without a frame has a line and
 /// no test.
-#[derive(Debug, Drop)]
+#[derive(Drop)]
 pub struct Checked {
     pub text: Vec<u8>,
     pub passes: bool,

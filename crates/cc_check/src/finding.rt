@@ -6,7 +6,7 @@ use lay_cert::Verdict;
 
 /// What a check finds of a frame: the first test that fails, or where none does, what the replay shows. Blocks and marks are counted
 /// from 0, and places are program addresses.
-#[derive(Clone, Copy, Debug, PartialEq, Eq)]
+#[derive(Clone, Copy, PartialEq, Eq)]
 pub enum Finding {
     /// No function of the image has the name of the frame.
     NotInImage,

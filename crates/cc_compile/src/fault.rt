@@ -9,7 +9,7 @@ use word_base::NoMemory;
 
 /// Why a source isn't compiled, in the order in which these are answered. A place is a byte offset in the source. Want of
 /// memory in a part is `NoMemory` here, and stands in none of the others.
-#[derive(Debug, Drop)]
+#[derive(Drop)]
 pub enum BuildFault {
     /// It has no tokens.
     Lex(LexFault),

@@ -17,7 +17,7 @@ use std::thread::Threads;
 use word_base::{Gate, NoMemory};
 
 /// What a source is compiled to.
-#[derive(Debug, Drop)]
+#[derive(Drop)]
 pub struct Built {
     /// The words, and the range of each function.
     pub image: Image,

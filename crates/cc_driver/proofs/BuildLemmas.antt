@@ -9,7 +9,7 @@ use Rattle.cc_report.specs.Report.{report_lines}
 use Rattle.cc_files.specs.frame_layouts.Frames.{AreOptions}
 use Rattle.cc_files.specs.frame_layouts.Rows.{row_of}
 use Rattle.cc_words.specs.Asked.{ToBuild}
-use Rattle.cc_words.specs.Plain.{IsWithinBounds}
+use Rattle.cc_words.specs.Bounds.{IsWithinBounds}
 use Rattle.cc_answers.specs.Answers.{Answered}
 use Rattle.cc_driver.specs.declared.build.Texts.{Texts}
 use Rattle.cc_files.specs.Stores.{Stored}

@@ -3,8 +3,8 @@ use Rattle.std.proofs.Common.{arith, inl, inr, ◌≡◌, ◌≢◌, ◌∙◌, 
 use Rattle.std.specs.Prelude.{Result, IfErr, IfSome, IsErrAnd}
 use Rattle.cc_shelf.specs.Stock.{Stock}
 use Rattle.cc_words.specs.Asked.{Asked, asked}
-use Rattle.cc_words.specs.Plain.{IsWithinBounds}
-use Rattle.cc_words.proofs.PlainLemmas.{within_asked}
+use Rattle.cc_words.specs.Bounds.{IsWithinBounds}
+use Rattle.cc_words.proofs.BoundsLemmas.{within_asked}
 use Rattle.c25_image.specs.ImageFaults.{Says}
 use Rattle.c25_image.specs.PortText.{PortSays}
 use Rattle.c25_image.specs.declared.fault.ImageFault.{ImageFault}

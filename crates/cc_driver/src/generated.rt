@@ -3,7 +3,7 @@ ghost use Rattle.std.specs.Prelude.{◌≢◌, ◌≤◌, length, [], IfOk, IfEr
 ghost use Rattle.cc_files.specs.cc_compile.Compiles.{IsBuilt};
 ghost use Rattle.cc_gen.specs.Generated.{generated};
 ghost use Rattle.cc_words.specs.Asked.{ToGenerate};
-ghost use Rattle.cc_words.specs.Plain.{IsWithinBounds};
+ghost use Rattle.cc_words.specs.Bounds.{IsWithinBounds};
 ghost use Rattle.cc_files.specs.cc_text.Refusals.{why_of, OfMemory};
 ghost use Rattle.cc_answers.specs.Answers.{answered};
 ghost use Rattle.cc_driver.specs.Build as build;

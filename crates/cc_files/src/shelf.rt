@@ -65,7 +65,7 @@ pub fn fetch<'a, F: Shelf>(
 }
 
 /// The bytes of two files.
-#[derive(Debug, Drop)]
+#[derive(Drop)]
 pub struct Fetched {
     /// The bytes of the one that was fetched first.
     pub bytes: Vec<u8>,

@@ -6,7 +6,7 @@ use mem_plan::PlanFault;
 use word_base::NoMemory;
 
 /// Why a typed program has no image. Want of memory in a part is `NoMemory` here, and stands in none of the others.
-#[derive(Debug, Drop)]
+#[derive(Drop)]
 pub enum TranslationFault {
     /// Its data find no room.
     Plan(PlanFault),

@@ -35,7 +35,7 @@ use tree_code::TreeProgram;
 use word_base::{Gate, NoMemory};
 
 /// What a typed program becomes: its words, and what shows how its frames are laid out.
-#[derive(Debug, Drop)]
+#[derive(Drop)]
 pub struct Translated {
     pub image: Image,
     pub certificate: Certificate,

@@ -12,14 +12,14 @@ use std::alloc::Global;
 use word_base::{NoMemory, Text};
 
 /// A file of a shelf in memory.
-#[derive(Debug, Drop)]
+#[derive(Drop)]
 pub struct MemFile {
     pub name: Text,
     pub bytes: Vec<u8>,
 }
 
 // A fetch: the name that it asked for, and whether it failed.
-#[derive(Debug, Drop)]
+#[derive(Drop)]
 struct MemFetch {
     name: Text,
     failed: bool,
@@ -28,7 +28,7 @@ struct MemFetch {
 /// A shelf that tells its files, whose names differ, and its fetches. `fail_at` has the numbers,
 /// from 0, of the calls that are to fail, fetches and stores counted together; a failed one changes
 /// no file.
-#[derive(Debug, Drop)]
+#[derive(Drop)]
 pub struct MemShelf {
     pub files: Vec<MemFile>,
     pub calls: u64,

@@ -8,7 +8,7 @@ use std::alloc::Global;
 
 /// A sink that keeps and tells the bytes put. `fail_at` has the numbers, from 0, of the calls of
 /// `put` that are to fail; a failed one puts nothing.
-#[derive(Debug, Drop)]
+#[derive(Drop)]
 pub struct MemSink {
     pub bytes: Vec<u8>,
     pub calls: u64,

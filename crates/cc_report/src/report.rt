@@ -9,7 +9,7 @@ use word_base::{NoMemory, Text};
 
 /// What is told of a function: its name, the scalars of its frame, temporaries among them, over how many address registers they are
 /// laid out, how often they are accessed, how many address instructions this takes, and whether no layout takes fewer.
-#[derive(Debug, Drop)]
+#[derive(Drop)]
 pub struct ReportRow {
     pub name: Text,
     pub scalars: u8,

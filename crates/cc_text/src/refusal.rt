@@ -9,7 +9,7 @@ use lay_text::SeqFault;
 use word_base::NoMemory;
 
 /// Why a file is refused.
-#[derive(Clone, Copy, Debug, PartialEq, Eq)]
+#[derive(Clone, Copy, PartialEq, Eq)]
 pub enum FileFault {
     /// It couldn't be read, or there is none.
     Read,
@@ -44,7 +44,7 @@ impl FileFault {
 }
 
 /// Why a command is refused. Want of memory in a part is `NoMemory` here, and stands in none of the others.
-#[derive(Debug, Drop)]
+#[derive(Drop)]
 pub enum Refusal<'a> {
     /// One of its files, of this name.
     File { name: &'a str, why: FileFault },

@@ -1,5 +1,2 @@
 pub mod AskedLemmas
-pub mod PlainLemmas
-pub mod LayoutLemmas
-pub mod BuildLemmas
-pub mod AssemblyLemmas
+pub mod BoundsLemmas

@@ -1,4 +1,4 @@
 pub mod Commands
 pub mod Asked
-pub mod Plain
+pub mod Bounds
 pub mod Tables

@@ -17,7 +17,7 @@ use std::alloc::Global;
 use word_base::NoMemory;
 
 /// What is asked for, by command.
-#[derive(Clone, Copy, Debug)]
+#[derive(Clone, Copy)]
 pub enum Request<'a> {
     Build(Build<'a>),
     Run(Run<'a>),

@@ -9,7 +9,7 @@ use crate::options::byte;
 use cc_options::Given;
 
 /// To compile a source and store its image.
-#[derive(Clone, Copy, Debug)]
+#[derive(Clone, Copy)]
 pub struct Build<'a> {
     /// The name of the source.
     pub source: &'a str,

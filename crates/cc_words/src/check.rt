@@ -7,7 +7,7 @@ use crate::asked::Request;
 use cc_options::Given;
 
 /// To check an image by a certificate.
-#[derive(Clone, Copy, Debug)]
+#[derive(Clone, Copy)]
 pub struct Check<'a> {
     /// The name of the image.
     pub image: &'a str,

@@ -7,7 +7,7 @@ use crate::asked::Request;
 use cc_options::Given;
 
 /// To list the words of an image.
-#[derive(Clone, Copy, Debug)]
+#[derive(Clone, Copy)]
 pub struct Dis<'a> {
     /// The name of the image.
     pub image: &'a str,

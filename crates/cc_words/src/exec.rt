@@ -7,7 +7,7 @@ use crate::asked::Request;
 use cc_options::Given;
 
 /// To compile a source and run it.
-#[derive(Clone, Copy, Debug)]
+#[derive(Clone, Copy)]
 pub struct Exec<'a> {
     /// The name of the source.
     pub source: &'a str,

@@ -6,7 +6,7 @@ use crate::asked::Request;
 use cc_options::Given;
 
 /// To make a program from a number and run it.
-#[derive(Clone, Copy, Debug)]
+#[derive(Clone, Copy)]
 pub struct Gen {
     /// The number, from 1 to 200.
     pub number: u32,

@@ -9,7 +9,7 @@ use crate::options::byte;
 use cc_options::Given;
 
 /// To search a layout for an access sequence.
-#[derive(Clone, Copy, Debug)]
+#[derive(Clone, Copy)]
 pub struct Layout<'a> {
     /// The name of the file that holds the sequence.
     pub sequence: &'a str,

@@ -12,7 +12,6 @@ mod layout;
 mod means;
 mod name;
 mod options;
-mod plain;
 mod run;
 
 pub use asked::{Request, requested};
@@ -24,5 +23,4 @@ pub use exec::Exec;
 pub use generated::Gen;
 pub use layout::Layout;
 pub use means::Means;
-pub use plain::plain_words;
 pub use run::Run;

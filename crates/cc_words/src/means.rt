@@ -7,7 +7,7 @@ use crate::asked::Request;
 use cc_options::Given;
 
 /// To evaluate a source.
-#[derive(Clone, Copy, Debug)]
+#[derive(Clone, Copy)]
 pub struct Means<'a> {
     /// The name of the source.
     pub source: &'a str,

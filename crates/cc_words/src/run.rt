@@ -7,7 +7,7 @@ use crate::asked::Request;
 use cc_options::Given;
 
 /// To run an image.
-#[derive(Clone, Copy, Debug)]
+#[derive(Clone, Copy)]
 pub struct Run<'a> {
     /// The name of the image.
     pub image: &'a str,

@@ -5,7 +5,7 @@ ghost use Rattle.emit_blocks.specs.Steps as steps;
 use acc_code::AccOp;
 
 /// What an operation does to the accumulator.
-#[derive(Clone, Copy, Debug)]
+#[derive(Clone, Copy)]
 pub enum ToAccumulator {
     Leaves,
     Loads,

@@ -11,7 +11,7 @@ use c_tree::VarRef;
 pub(crate) const FIRST_SCRATCH: u16 = 768;
 
 /// Where a scalar of a frame lies.
-#[derive(Clone, Copy, Debug)]
+#[derive(Clone, Copy)]
 pub struct ScalarPlace {
     /// The address register that goes over its list, from 2 to 5.
     pub register: u8,

@@ -3,7 +3,7 @@ use crate::site::ScalarPlace;
 use acc_code::AccOp;
 
 /// How a step reaches what it works on.
-#[derive(Clone, Copy, Debug)]
+#[derive(Clone, Copy)]
 pub enum Reach {
     /// Through the register of a scalar's list.
     Scalar(ScalarPlace),
@@ -16,7 +16,7 @@ pub enum Reach {
 }
 
 /// A row, and how it reaches what it works on. `AccOp::Point` stands here for a load of AR1.
-#[derive(Clone, Copy, Debug)]
+#[derive(Clone, Copy)]
 pub struct Step {
     pub row: AccOp,
     pub reach: Reach,

@@ -22,7 +22,7 @@ pub struct Setting<'a> {
 }
 
 /// Words of data memory, from an address on.
-#[derive(Clone, Copy, Debug)]
+#[derive(Clone, Copy)]
 pub struct Words {
     pub first: u16,
     pub count: u16,

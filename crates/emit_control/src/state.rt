@@ -8,7 +8,7 @@ ghost use Rattle.emit_blocks.specs.Steps.{run_at};
 use acc_code::{AccItem, AccOperand};
 
 /// What stands directly before.
-#[derive(Clone, Copy, Debug, PartialEq, Eq)]
+#[derive(Clone, Copy, PartialEq, Eq)]
 pub enum Before {
     /// An access through a list's register, behind the last cut.
     Open,

@@ -8,7 +8,7 @@ use acc_code::{AccItem, CaseLabel};
 use word_base::NoMemory;
 
 /// Labels to which control goes.
-#[derive(Clone, Copy, Debug)]
+#[derive(Clone, Copy)]
 pub struct Ways {
     /// Where the list ends.
     pub onward: u32,
@@ -57,7 +57,7 @@ pub(crate) fn is_end(items: &[AccItem]) -> bool
 }
 
 /// Where items stand.
-#[derive(Clone, Copy, Debug)]
+#[derive(Clone, Copy)]
 pub(crate) struct Spot {
     pub(crate) ways: Ways,
     /// The first label that the items own.

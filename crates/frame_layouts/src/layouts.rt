@@ -18,7 +18,7 @@ use std::thread::Threads;
 use word_base::{Gate, NoMemory, Text};
 
 /// The accesses of a function's frame, and what a search found of it beside its layout.
-#[derive(Debug, Drop)]
+#[derive(Drop)]
 pub struct Finding {
     pub name: Text,
     pub accesses: Sequence,
@@ -28,7 +28,7 @@ pub struct Finding {
 }
 
 /// The layouts of functions' frames, in order, and what else was found of them.
-#[derive(Debug, Drop)]
+#[derive(Drop)]
 pub struct Layouts {
     pub arrangements: Vec<Arrangement>,
     pub findings: Vec<Finding>,

@@ -1,7 +1,7 @@
 //! What a command chooses.
 
 /// How frames are laid out.
-#[derive(Debug, Clone, Copy, PartialEq, Eq)]
+#[derive(Clone, Copy, PartialEq, Eq)]
 pub struct Options {
     /// Over how many address registers, from 1 to 4.
     pub registers: u8,

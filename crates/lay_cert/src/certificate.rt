@@ -22,7 +22,7 @@ pub enum Claim {
 
 /// A frame by its name, over how many registers it is laid out, from 1 to 4, its accesses, its layout in at most as many lists, the base address of each list,
 /// the cost, what is claimed, and the log. Contracts see all of these.
-#[derive(Debug, Drop)]
+#[derive(Drop)]
 pub struct CertFrame {
     name: Text,
     registers: u8,
@@ -132,7 +132,7 @@ impl CertFrame {
 }
 
 /// The frames of a program, in order. Contracts see the list of them.
-#[derive(Debug, Drop)]
+#[derive(Drop)]
 pub struct Certificate {
     pub frames: Vec<CertFrame>,
 }

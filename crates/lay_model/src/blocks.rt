@@ -7,14 +7,14 @@ use std::marker::Model;
 use word_base::NoMemory;
 
 // How often a block counts, and how many accesses there are up to its end.
-#[derive(Clone, Copy, Debug)]
+#[derive(Clone, Copy)]
 struct BlockEnd {
     weight: u32,
     end: u32,
 }
 
 /// Blocks of accesses, of which each takes 8 bytes and its accesses a byte each. Contracts see the list of the blocks.
-#[derive(Debug, Drop)]
+#[derive(Drop)]
 pub struct Blocks {
     accesses: Vec<u8>,
     ends: Vec<BlockEnd>,

@@ -13,7 +13,7 @@ pub const MOST_SCALARS: u8 = 64;
 pub const MOST_STEP: u8 = 8;
 
 /// Accesses one behind another, between two cuts. Contracts see the weight and the list of the scalars.
-#[derive(Debug, Drop)]
+#[derive(Drop)]
 pub struct Block {
     weight: u32,
     accesses: ScalarList,
@@ -57,7 +57,7 @@ impl Block {
 
 /// The accesses of a frame: how many scalars it has, at most 64; the step, 1 to 8, by which a move may be free beside one by 1; and the blocks. Weights times
 /// numbers of accesses are at most 2^60 together, so no cost passes 64 bits. Contracts see the numbers and the list of the blocks.
-#[derive(Debug, Drop)]
+#[derive(Drop)]
 pub struct Sequence {
     scalars: u8,
     step: u8,

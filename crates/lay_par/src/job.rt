@@ -6,7 +6,7 @@ use std::marker::Model;
 
 /// An arrangement over so many registers, 1 at least, that costs least is wanted, with so many nodes in all at most. Contracts see the
 /// sequence and the numbers.
-#[derive(Debug, Drop)]
+#[derive(Drop)]
 pub struct Job {
     sequence: Sequence,
     registers: u8,

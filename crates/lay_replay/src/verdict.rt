@@ -3,7 +3,7 @@ ghost use Rattle.std.specs.Prelude.{◌≡◌};
 ghost use Rattle.lay_replay.specs.LogVerdicts.{verdict_of, replay_at};
 
 /// Whether a log fits the tree for a cost, and else the first mark that doesn't. Marks are counted from 0.
-#[derive(Clone, Copy, Debug, PartialEq, Eq)]
+#[derive(Clone, Copy, PartialEq, Eq)]
 pub enum LogVerdict {
     /// No layout costs less.
     Fits,

@@ -15,7 +15,7 @@ use std::alloc::Global;
 use word_base::NoMemory;
 
 /// How a search begins.
-#[derive(Debug, Drop)]
+#[derive(Drop)]
 pub enum Opening {
     /// Nothing is to be searched.
     Done(Answer),

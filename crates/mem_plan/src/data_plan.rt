@@ -17,7 +17,7 @@ pub const MOST_DATA_WORDS: u32 = 64_768;
 pub const MOST_LISTS: usize = 4;
 
 /// Where the frame of a function lies.
-#[derive(Debug, Drop)]
+#[derive(Drop)]
 pub struct FramePlan {
     /// For each list of the arrangement, the address of its first scalar. The others follow it in order.
     pub bases: Items<u16>,
@@ -28,7 +28,7 @@ pub struct FramePlan {
 }
 
 /// Where the data of a program lies.
-#[derive(Debug, Drop)]
+#[derive(Drop)]
 pub struct DataPlan {
     /// The address of each static object, by its number.
     pub statics: Items<u16>,
@@ -39,7 +39,7 @@ pub struct DataPlan {
 }
 
 /// Why there is no plan.
-#[derive(Debug, Drop)]
+#[derive(Drop)]
 pub enum PlanFault {
     /// The program needs this many words, more than `MOST_DATA_WORDS`.
     DataFull { words: u64 },

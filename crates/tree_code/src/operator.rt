@@ -5,7 +5,7 @@ ghost use Rattle.tree_code.specs.Operations as operations;
 use c_tree::{BinaryOp, ScalarType, is_unsigned, points};
 
 /// An operation on two words. Where the sign matters there are two, and else it wraps.
-#[derive(Clone, Copy, Debug, PartialEq, Eq)]
+#[derive(Clone, Copy, PartialEq, Eq)]
 pub enum WordOp {
     Add,
     Sub,

@@ -11,7 +11,7 @@ pub enum Ending {
 }
 
 /// An operation that C leaves undefined.
-#[derive(Clone, Copy, Debug, PartialEq, Eq)]
+#[derive(Clone, Copy, PartialEq, Eq)]
 pub enum UndefinedKind {
     /// The value of a signed operation is outside -32768 to 32767.
     Overflow,
@@ -27,7 +27,7 @@ pub enum UndefinedKind {
 }
 
 /// What a run of a source comes to, each with the words put out before.
-#[derive(Debug, Drop)]
+#[derive(Drop)]
 pub enum Outcome {
     Ended {
         outs: Outs,

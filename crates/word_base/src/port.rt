@@ -46,7 +46,7 @@ impl PortWord {
 
 /// What the ports are given: words with their ports, in the order of their lines. The input of a
 /// port is the words of its lines in order. Contracts see the list of the lines.
-#[derive(Debug, Drop)]
+#[derive(Drop)]
 pub struct Ports {
     lines: Vec<PortWord>,
 }
@@ -82,7 +82,7 @@ impl Ports {
 }
 
 /// The words that were put out, in order, each with its port. Contracts see the list of them.
-#[derive(Debug, Drop)]
+#[derive(Drop)]
 pub struct Outs {
     words: Vec<PortWord>,
 }

@@ -11,8 +11,8 @@ use Rattle.clap.specs.Walk.{is_empty}
 use Rattle.clap.proofs.OnLiterals.{clap_on_literals}
 use Rattle.cc_words.specs.Asked.{ToAssemble, ToGenerate, ToList, asked, asked_to, asked_to_assemble, asked_to_generate, asked_to_list, asm_of, dis_of, gen_of, is_number_to, is_plain_word, is_taken, number_to}
 use Rattle.cc_words.specs.Commands.{asm_app, count_rule, dis_app, gen_app, greatest_program}
-use Rattle.cc_words.specs.Plain.{AssemblesNoOtherNames, GeneratesOneNumber, ListsNoOtherNames}
-use Rattle.cc_words.proofs.PlainLemmas.{IsNoFlag, no_flag, number_fault, number_fault_by, number_in, or_nothing}
+use Rattle.cc_words_proof.specs.Plain.{AssemblesNoOtherNames, GeneratesOneNumber, ListsNoOtherNames}
+use Rattle.cc_words_proof.proofs.PlainLemmas.{IsNoFlag, no_flag, number_fault, number_fault_by, number_in, or_nothing}
 
 -- `asm` of two names, of fewer, and of more
 asm_taken : (a b : Text) → IsNoFlag a → IsNoFlag b → is_taken asm_app (codes "asm" ∷ a ∷ b ∷ []) ≡ true

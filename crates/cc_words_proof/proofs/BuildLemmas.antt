@@ -17,8 +17,8 @@ use Rattle.clap.specs.Walk.{Walk, finished, idle, is_empty, nothing_held, settle
 use Rattle.clap.proofs.OnLiterals.{clap_on_literals}
 use Rattle.cc_words.specs.Asked.{ToBuild, asked, asked_to, asked_to_build, build_of, is_number_to, is_taken, number_of, number_to}
 use Rattle.cc_words.specs.Commands.{budget_rule, build_app, greatest_budget, greatest_registers, greatest_step, named_app, registers_rule, step_rule}
-use Rattle.cc_words.specs.Plain.{AsksFor, BuildsFor, BuildsWithAll, BuildsWithBudget, BuildsWithRegisters, BuildsWithStep, BuildsWithStepAttached}
-use Rattle.cc_words.proofs.PlainLemmas.{IsNoFlag, no_flag, number_fault, number_fault_by, number_in}
+use Rattle.cc_words_proof.specs.Plain.{AsksFor, BuildsFor, BuildsWithAll, BuildsWithBudget, BuildsWithRegisters, BuildsWithStep, BuildsWithStepAttached}
+use Rattle.cc_words_proof.proofs.PlainLemmas.{IsNoFlag, no_flag, number_fault, number_fault_by, number_in}
 
 -- `build` with any parsers of its numbers
 abbrev build_with : ValueParser → ValueParser → ValueParser → App

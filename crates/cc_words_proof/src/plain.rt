@@ -1,14 +1,15 @@
 //! What the usual words ask for.
-ghost use Rattle.cc_words.specs.Plain.{AsksWithin, BuildsNoOtherNames, BuildsTwoNames, RunsTwoNames, MeansTwoNames};
-ghost use Rattle.cc_words.specs.Plain.{BuildsWithRegisters, BuildsWithBudget, BuildsWithStep, BuildsWithStepAttached, BuildsWithAll};
-ghost use Rattle.cc_words.specs.Plain.{ChecksTwoNames, ChecksNoOtherNames, AssemblesTwoNames, AssemblesNoOtherNames};
-ghost use Rattle.cc_words.specs.Plain.{ListsOneName, ListsNoOtherNames, GeneratesOneNumber, GeneratesNoOtherWords};
-ghost use Rattle.cc_words.specs.Plain.{RunsWithSteps, RunsWithStepsAttached, RunsWithStepsFirst};
-ghost use Rattle.cc_words.specs.Plain.{ExecutesTwoNames, ExecutesWithSteps, ExecutesWithStepsAttached, ExecutesWithStepsFirst};
-ghost use Rattle.cc_words.specs.Plain.{MeansWithTurns, MeansWithTurnsAttached, MeansWithTurnsFirst};
-ghost use Rattle.cc_words.specs.Plain.{LaysOutOneName, LaysOutNoOtherNames, LaysOutWithRegisters, LaysOutWithRegistersFirst};
-ghost use Rattle.cc_words.specs.Plain.{LaysOutWithRegistersAttached, LaysOutWithBudget, LaysOutWithBudgetFirst};
-ghost use Rattle.cc_words.specs.Plain.{LaysOutWithBudgetAttached, LaysOutWithBoth, LaysOutWithBothFirst, LaysOutWithBothTurned};
+ghost use Rattle.cc_words.specs.Bounds.{AsksWithin};
+ghost use Rattle.cc_words_proof.specs.Plain.{BuildsNoOtherNames, BuildsTwoNames, RunsTwoNames, MeansTwoNames};
+ghost use Rattle.cc_words_proof.specs.Plain.{BuildsWithRegisters, BuildsWithBudget, BuildsWithStep, BuildsWithStepAttached, BuildsWithAll};
+ghost use Rattle.cc_words_proof.specs.Plain.{ChecksTwoNames, ChecksNoOtherNames, AssemblesTwoNames, AssemblesNoOtherNames};
+ghost use Rattle.cc_words_proof.specs.Plain.{ListsOneName, ListsNoOtherNames, GeneratesOneNumber, GeneratesNoOtherWords};
+ghost use Rattle.cc_words_proof.specs.Plain.{RunsWithSteps, RunsWithStepsAttached, RunsWithStepsFirst};
+ghost use Rattle.cc_words_proof.specs.Plain.{ExecutesTwoNames, ExecutesWithSteps, ExecutesWithStepsAttached, ExecutesWithStepsFirst};
+ghost use Rattle.cc_words_proof.specs.Plain.{MeansWithTurns, MeansWithTurnsAttached, MeansWithTurnsFirst};
+ghost use Rattle.cc_words_proof.specs.Plain.{LaysOutOneName, LaysOutNoOtherNames, LaysOutWithRegisters, LaysOutWithRegistersFirst};
+ghost use Rattle.cc_words_proof.specs.Plain.{LaysOutWithRegistersAttached, LaysOutWithBudget, LaysOutWithBudgetFirst};
+ghost use Rattle.cc_words_proof.specs.Plain.{LaysOutWithBudgetAttached, LaysOutWithBoth, LaysOutWithBothFirst, LaysOutWithBothTurned};
 
 /// The words that hold no option but those of their command ask for what one would say, and no words
 /// ask for a run of other than 1 to 100,000,000 steps, for an evaluation of other than 1 to 1,000,000

@@ -1,9 +1,9 @@
 -- What the usual words ask for: what `clap`'s function of the words comes to there.
-use Rattle.std.specs.Prelude.{◌≡◌, ◌≢◌, ◌≤◌, ◌++◌, ℕ, ⊤, true, false, List, [], ◌∷◌, IfSome, codes}
+use Rattle.std.specs.Prelude.{◌≡◌, ◌≢◌, ◌++◌, ℕ, true, false, List, [], ◌∷◌, codes}
 use Rattle.std.specs.Str.Parse.{digits_value, without_leading_plus}
 use Rattle.clap.specs.Words.{Text}
 use Rattle.cc_words.specs.Asked.{Asked, ToBuild, ToRun, ToEvaluate, ToExecute, ToLayOut, ToCheck, ToAssemble, ToList, ToGenerate}
-use Rattle.cc_words.specs.Asked.{Asks, AsksNothing, asked, is_number_to, is_plain_word}
+use Rattle.cc_words.specs.Asked.{Asks, AsksNothing, is_number_to, is_plain_word}
 use Rattle.cc_words.specs.Commands.{greatest_budget, greatest_program, greatest_registers, greatest_step}
 use Rattle.cc_words.specs.Commands.{greatest_steps, greatest_turns}
 
@@ -253,24 +253,3 @@ GeneratesOneNumber = (text : Text) → is_plain_word text ≡ true
 -- `gen` with no number
 abbrev pub GeneratesNoOtherWords : Type 0
 GeneratesNoOtherWords = AsksNothing (codes "gen" ∷ [])
-
--- a run is of 1 to 100,000,000 steps, a loop of an evaluation has 1 to 1,000,000 turns, a search for a
--- layout is for 1 to 4 registers within a budget of 1 to 1,000,000 nodes, and those of a build are so at
--- a step of 1 to 8; a program is made from a number of 1 to 200
-abbrev pub IsWithinBounds : Asked → Type 0
-IsWithinBounds (ToBuild source image registers budget step) = (1 ≤ registers)
-    × (registers ≤ greatest_registers) × (1 ≤ budget) × (budget ≤ greatest_budget)
-    × (1 ≤ step) × (step ≤ greatest_step)
-IsWithinBounds (ToRun image ports steps) = (1 ≤ steps) × (steps ≤ greatest_steps)
-IsWithinBounds (ToEvaluate source ports turns) = (1 ≤ turns) × (turns ≤ greatest_turns)
-IsWithinBounds (ToExecute source ports steps) = (1 ≤ steps) × (steps ≤ greatest_steps)
-IsWithinBounds (ToLayOut sequence registers budget) = (1 ≤ registers)
-    × (registers ≤ greatest_registers) × (1 ≤ budget) × (budget ≤ greatest_budget)
-IsWithinBounds (ToCheck image certificate) = ⊤
-IsWithinBounds (ToAssemble text image) = ⊤
-IsWithinBounds (ToList image) = ⊤
-IsWithinBounds (ToGenerate number) = (1 ≤ number) × (number ≤ greatest_program)
-
--- and that holds of whatever is asked for
-abbrev pub AsksWithin : Type 0
-AsksWithin = (words : List Text) → IfSome (asked words) IsWithinBounds

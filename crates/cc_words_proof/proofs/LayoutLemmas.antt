@@ -11,8 +11,8 @@ use Rattle.clap.specs.Walk.{is_empty}
 use Rattle.clap.proofs.OnLiterals.{clap_on_literals}
 use Rattle.cc_words.specs.Asked.{ToLayOut, asked, asked_to, asked_to_lay_out, is_number_to, is_plain_word, is_taken, layout_of, number_of, number_to}
 use Rattle.cc_words.specs.Commands.{budget_rule, greatest_budget, greatest_registers, layout_app, name_rule, registers_rule}
-use Rattle.cc_words.specs.Plain.{AsksFor, LaysOutFor, LaysOutNoOtherNames, LaysOutWithBoth, LaysOutWithBothFirst, LaysOutWithBothTurned, LaysOutWithBudget, LaysOutWithBudgetAttached, LaysOutWithBudgetFirst, LaysOutWithRegisters, LaysOutWithRegistersAttached, LaysOutWithRegistersFirst}
-use Rattle.cc_words.proofs.PlainLemmas.{IsNoFlag, no_flag, number_fault, number_in, or_nothing}
+use Rattle.cc_words_proof.specs.Plain.{AsksFor, LaysOutFor, LaysOutNoOtherNames, LaysOutWithBoth, LaysOutWithBothFirst, LaysOutWithBothTurned, LaysOutWithBudget, LaysOutWithBudgetAttached, LaysOutWithBudgetFirst, LaysOutWithRegisters, LaysOutWithRegistersAttached, LaysOutWithRegistersFirst}
+use Rattle.cc_words_proof.proofs.PlainLemmas.{IsNoFlag, no_flag, number_fault, number_in, or_nothing}
 
 -- `layout` with any parsers of its numbers
 abbrev layout_with : ValueParser → ValueParser → App

@@ -1,0 +1,4 @@
+pub mod PlainLemmas
+pub mod LayoutLemmas
+pub mod BuildLemmas
+pub mod AssemblyLemmas
