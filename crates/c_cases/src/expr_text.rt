@@ -119,15 +119,14 @@ impl<'b> Writer<'b> {
         before: &str,
         expr: &'a Expr,
     ) -> Result<(), NoMemory> {
-        let Some((form, [first, second, third])) = shape(&expr.kind) else {
-            return self.leaf(before, expr);
-        };
-        write!(self.line, "{before}({form}")?;
-        self.place(expr.at)?;
-        for piece in [Piece::Close, third, second, first] {
-            todo.push(piece)?;
+        match shape(&expr.kind) {
+            Some((form, first, second, third)) => {
+                write!(self.line, "{before}(")?;
+                self.form("", form, expr.at)?;
+                follow(todo, first, second, third)
+            }
+            None => self.leaf(before, expr),
         }
-        Ok(())
     }
 
     fn leaf(&mut self, before: &str, expr: &Expr) -> Result<(), NoMemory> {
@@ -149,8 +148,22 @@ impl<'b> Writer<'b> {
     }
 }
 
+// Has these parts of a node written next, and then its end.
+fn follow<'a>(
+    todo: &mut Vec<Piece<'a>>,
+    first: Piece<'a>,
+    second: Piece<'a>,
+    third: Piece<'a>,
+) -> Result<(), NoMemory> {
+    todo.push(Piece::Close)?;
+    todo.push(third)?;
+    todo.push(second)?;
+    todo.push(first)?;
+    Ok(())
+}
+
 // The form of an expression and its parts, where it has any.
-fn shape<'a>(kind: &'a ExprKind) -> Option<(&'static str, [Piece<'a>; 3])> {
+fn shape<'a>(kind: &'a ExprKind) -> Option<(&'static str, Piece<'a>, Piece<'a>, Piece<'a>)> {
     let none = Piece::Nothing;
     let (form, first, second) = match kind {
         ExprKind::Name(_) | ExprKind::Number { .. } | ExprKind::Char(_) => return None,
@@ -183,11 +196,13 @@ fn shape<'a>(kind: &'a ExprKind) -> Option<(&'static str, [Piece<'a>; 3])> {
         ExprKind::Assign { left, right } => ("=", Piece::Expr(left), Piece::Expr(right)),
         ExprKind::Comma { left, right } => (",", Piece::Expr(left), Piece::Expr(right)),
         ExprKind::Conditional { test, yes, no } => {
-            let parts = [Piece::Expr(test), Piece::Expr(yes), Piece::Expr(no)];
-            return Some(("?", parts));
+            let test = Piece::Expr(test);
+            let yes = Piece::Expr(yes);
+            let no = Piece::Expr(no);
+            return Some(("?", test, yes, no));
         }
     };
-    Some((form, [first, second, none]))
+    Some((form, first, second, none))
 }
 
 fn spec_text(word: SpecWord) -> &'static str {

@@ -105,15 +105,15 @@ impl<'b> Writer<'b> {
         todo: &mut Vec<Piece<'a>>,
         expr: &'a TypedExpr,
     ) -> Result<(), NoMemory> {
-        let Some((form, [first, second, third])) = shape(&expr.form) else {
-            return self.leaf(expr);
-        };
-        write!(self.line, " ({form}")?;
-        self.typed(expr)?;
-        for piece in [Piece::Close, third, second, first] {
-            todo.push(piece)?;
+        match shape(&expr.form) {
+            Some((form, first, second, third)) => {
+                self.text(" (")?;
+                self.text(form)?;
+                self.typed(expr)?;
+                follow(todo, first, second, third)
+            }
+            None => self.leaf(expr),
         }
-        Ok(())
     }
 
     fn leaf(&mut self, expr: &TypedExpr) -> Result<(), NoMemory> {
@@ -151,8 +151,22 @@ impl<'b> Writer<'b> {
     }
 }
 
+// Has these parts of a node written next, and then its end.
+fn follow<'a>(
+    todo: &mut Vec<Piece<'a>>,
+    first: Piece<'a>,
+    second: Piece<'a>,
+    third: Piece<'a>,
+) -> Result<(), NoMemory> {
+    todo.push(Piece::Close)?;
+    todo.push(third)?;
+    todo.push(second)?;
+    todo.push(first)?;
+    Ok(())
+}
+
 // The form of an expression and its parts, where it has any.
-fn shape<'a>(form: &'a ExprForm) -> Option<(&'static str, [Piece<'a>; 3])> {
+fn shape<'a>(form: &'a ExprForm) -> Option<(&'static str, Piece<'a>, Piece<'a>, Piece<'a>)> {
     let none = Piece::Nothing;
     let (form, first, second) = match form {
         ExprForm::Const(_) | ExprForm::Read(_) | ExprForm::AddressOf(_) => return None,
@@ -180,17 +194,22 @@ fn shape<'a>(form: &'a ExprForm) -> Option<(&'static str, [Piece<'a>; 3])> {
             let function = Piece::Number("f", u32::from(*function));
             ("call", function, Piece::Exprs(args))
         }
-        ExprForm::In { port } => ("in", Piece::Number("", u32::from(port.number())), none),
+        ExprForm::In { port } => {
+            let port = Piece::Number("", u32::from(port.number()));
+            ("in", port, none)
+        }
         ExprForm::Out { port, value } => {
             let port = Piece::Number("", u32::from(port.number()));
             ("out", port, Piece::Expr(value))
         }
         ExprForm::Pick { test, yes, no } => {
-            let parts = [Piece::Expr(test), Piece::Expr(yes), Piece::Expr(no)];
-            return Some(("?", parts));
+            let test = Piece::Expr(test);
+            let yes = Piece::Expr(yes);
+            let no = Piece::Expr(no);
+            return Some(("?", test, yes, no));
         }
     };
-    Some((form, [first, second, none]))
+    Some((form, first, second, none))
 }
 
 fn base_text(base: Base) -> &'static str {
