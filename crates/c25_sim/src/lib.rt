@@ -5,7 +5,9 @@ mod arithmetic;
 mod effect;
 mod machine;
 mod port_input;
+mod registers;
 mod run;
 mod traps;
 
 pub use machine::Machine;
+pub use registers::Registers;

@@ -1,6 +1,6 @@
-//! Machines that are run again, and that are run for no step.
+//! Machines that are run again, that are run for no step, and that are looked at between steps.
 use c25_isa::{Image, Start, Stop, TrapKind};
-use c25_sim::Machine;
+use c25_sim::{Machine, Registers};
 use std::process::Abort;
 use std::test::Fail;
 use word_base::{Ending, PortWord, Ports};
@@ -49,4 +49,34 @@ fn runs_after_an_end(rt: HostRuntime) -> Result<(), Fail> {
     let trap = |kind: TrapKind| Stop::Trap { kind, at: 0 };
     stands(&rt, &[0xce26], 9, &[], trap(TrapKind::StackEmpty))?;
     stands(&rt, &[0xce00], 9, &[], trap(TrapKind::BadWord))
+}
+
+// The machine of these words behind so many steps.
+fn behind<R: AllocGlobal + Abort>(rt: &R, words: &[u16], steps: u64) -> Result<Machine, Fail> {
+    let alloc = rt.alloc();
+    assert!(rt; words.len() <= 65_536);
+    let image = Image::new(words.to_vec(alloc)?, Vec::new(alloc));
+    let start = Start::zero(alloc, &image)?;
+    let mut machine = Machine::new(alloc, start, Ports::new(Vec::new(alloc)))?;
+    machine.run(alloc, steps)?;
+    Ok(machine)
+}
+
+#[test]
+fn registers_and_words(rt: HostRuntime) -> Result<(), Fail> {
+    let machine = behind(&rt, SEVEN, 3)?;
+    let Registers { acc, ar, dp, .. } = machine.registers();
+    assert_eq!(&rt; (machine.pc(), acc, dp), (3, 7, 6));
+    assert_eq!(&rt; ar, [0; 8]);
+    assert_eq!(&rt; machine.ram_word(0x305), 7);
+    Ok(())
+}
+
+// The first of two calls within one another comes first.
+#[test]
+fn stacked_words(rt: HostRuntime) -> Result<(), Fail> {
+    let machine = behind(&rt, &[0xfe80, 2, 0xfe80, 4, 0xce1f], 2)?;
+    assert_eq!(&rt; machine.depth(), 2);
+    assert_eq!(&rt; (machine.stack_word(0), machine.stack_word(1)), (2, 4));
+    Ok(())
 }
