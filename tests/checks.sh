@@ -140,11 +140,6 @@ frame 1 1 0 'cost 0\nclaim optimal' c > c
 "$program" check bad.img c | grep -Eq '^f: (bad word|unknown address) 0000$' || fail "a bad word gave: $("$program" check bad.img c)"
 
 # One access of a list of two registers: LRLK AR2,0310h; LARP 2; SACL *+; SACL *; RET.
-image() {
-    echo 'C25 IMAGE 1'
-    echo "words $#"
-    printf '%s\n' "$*" | fold -w 40 | sed 's/ $//'
-}
 { image d200 0310 558a 60a0 6080 ce26; printf 'func f 0000 0005\nend\n'; } > f.img
 # The bound of the root is 1 for the block and 1 for the neighbours, less 1 for the greatest weight of each scalar; behind a scalar it is 1.
 frame 1 1 2 'block 1 0 1\nlist 0310 0 1\ncost 1\nclaim optimal' bcc > c

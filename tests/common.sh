@@ -17,3 +17,16 @@ wants() {
     [ "$got" = "${text:+$text
 }status $status" ] || fail "'$*' gave: $got"
 }
+
+# shows TEXT: the text that printf %b reads, or nothing for the word none.
+shows() { [ "$1" = none ] || printf '%b' "$1"; }
+
+# image WORD..: the text of an image of these words, without its last line.
+image() {
+    echo 'C25 IMAGE 1'
+    echo "words $#"
+    printf '%s\n' "$*" | fold -w 40 | sed 's/ $//'
+}
+
+# handmade WORD..: the text of an image of these words, in which no function is named.
+handmade() { image "$@"; echo end; }

@@ -152,6 +152,8 @@ output() {
     each 0 run ../output.img ../none
     each 0 check ../output.img ../output.img.crt
     each 0 dis ../output.img
+    printf 'break 0003\ngo 100\nregs\nmem 0300 16\nstack\ngo 100\n' > script
+    each 0 debug ../output.img ../none ../script
 }
 
 filter() {

@@ -2,6 +2,7 @@ pub use Rattle.text_base.specs.Hex
 pub use Rattle.text_base.specs.Lines
 pub mod ImageText
 pub mod OutsText
+pub mod StopLines
 pub mod ImageReading
 pub mod ImageFaults
 pub mod ImageStops

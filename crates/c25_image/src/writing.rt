@@ -89,8 +89,8 @@ pub fn write_image(alloc: Global, image: &Image) -> Result<Vec<u8>, NoMemory>
     Ok(text)
 }
 
-// The line of an output.
-fn push_out(text: &mut Vec<u8>, out: PortWord) -> Result<(), NoMemory>
+/// Puts the line of an output behind a text: the port in decimal and the word as four lower-case hexadecimal digits.
+pub fn push_out(text: &mut Vec<u8>, out: PortWord) -> Result<(), NoMemory>
     ensures text { OnOk result (text.new.items ≡ text.old.items ++ with_feed (out_line out)) }
     ensures out { IsOut out }
 {

@@ -50,12 +50,12 @@ after_more m s = let e : m + 1 ≡ suc m = omega arith in ap (λ k. state_after 
     last (suc m) s = last m (behind (step s) s)
 
 -- steps behind steps
-after_both : (m n : ℕ) (s : State) → state_after (m + n) s ≡ state_after n (state_after m s)
+pub after_both : (m n : ℕ) (s : State) → state_after (m + n) s ≡ state_after n (state_after m s)
 after_both zero n s = let e : 0 + n ≡ n = omega arith in ap (λ k. state_after k s) e
 after_both (suc m) n s = let e : suc m + n ≡ suc (m + n) = omega arith in ap (λ k. state_after k s) e ∙ after_both m n (behind (step s) s)
 
 -- a state that a step leaves as it is
-stays : (m : ℕ) (s : State) → behind (step s) s ≡ s → state_after m s ≡ s
+pub stays : (m : ℕ) (s : State) → behind (step s) s ≡ s → state_after m s ≡ s
 stays zero s e = refl
 stays (suc m) s e = ap (state_after m) e ∙ stays m s e
 

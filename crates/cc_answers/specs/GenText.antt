@@ -8,7 +8,8 @@ use Rattle.c25_isa.specs.declared.event.Stop.TheVariants.{Ended, Trap, Running}
 use Rattle.c25_image.specs.Hex.{hex4}
 use Rattle.c25_image.specs.Lines.{with_feed}
 use Rattle.cc_answers.specs.Answers.{Answered}
-use Rattle.cc_answers.specs.RunText.{ending_line, run_answer}
+use Rattle.c25_image.specs.StopLines.{ending_line}
+use Rattle.cc_answers.specs.RunText.{run_answer}
 
 -- the word of the last output, or 0 where there is none
 abbrev pub last_word : Outputs → ℕ

@@ -7,7 +7,8 @@ use Rattle.word_base.specs.declared.outcome.Outcome.TheVariants.{Ended, More, Un
 use Rattle.word_base.specs.Outcome.{outputs_of}
 use Rattle.c25_image.specs.Lines.{with_feed}
 use Rattle.c25_image.specs.OutsText.{outs_text}
-use Rattle.cc_answers.specs.RunText.{ending_line, running_line}
+use Rattle.c25_image.specs.StopLines.{ending_line}
+use Rattle.cc_answers.specs.RunText.{running_line}
 use Rattle.cc_answers.specs.Answers.{Answered}
 
 abbrev pub undefined_kind_name : UndefinedKind → List ℕ

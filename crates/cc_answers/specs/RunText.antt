@@ -1,33 +1,12 @@
 -- The statuses and the lines of a run (docs/COMMANDS.md, "run").
 use Rattle.std.specs.Prelude.{ℕ, List, ◌++◌, codes, decimal, Some}
-use Rattle.word_base.specs.declared.outcome.Ending.{Ending}
-use Rattle.word_base.specs.declared.outcome.Ending.TheVariants.{Returned, InputEnded}
 use Rattle.word_base.specs.Ports.{Outputs}
-use Rattle.c25_isa.specs.declared.trap.TrapKind.{TrapKind}
-use Rattle.c25_isa.specs.declared.trap.TrapKind.TheVariants as trap
 use Rattle.c25_isa.specs.declared.event.Stop.{Stop}
 use Rattle.c25_isa.specs.declared.event.Stop.TheVariants as stop
-use Rattle.c25_image.specs.Hex.{hex4}
 use Rattle.c25_image.specs.Lines.{with_feed}
 use Rattle.c25_image.specs.OutsText.{outs_text}
+use Rattle.c25_image.specs.StopLines.{ending_line, trap_line}
 use Rattle.cc_answers.specs.Answers.{Answered}
-
-abbrev pub trap_name : TrapKind → List ℕ
-trap_name trap.BadWord = codes "bad-word"
-trap_name trap.StackFull = codes "stack-full"
-trap_name trap.StackEmpty = codes "stack-empty"
-trap_name trap.Mode = codes "mode"
-trap_name trap.Divide = codes "divide"
-trap_name trap.Repeat = codes "repeat"
-trap_name trap.SameRegister = codes "same-register"
-trap_name trap.NoRam = codes "no-ram"
-
-abbrev pub ending_line : Ending → List ℕ
-ending_line (Returned word) = codes "returned " ++ hex4 word
-ending_line (InputEnded port) = codes "input " ++ (decimal port ++ codes " ended")
-
-abbrev pub trap_line : TrapKind → ℕ → List ℕ
-trap_line kind at = codes "trap " ++ (trap_name kind ++ (codes " at " ++ hex4 at))
 
 -- the line of a run that went on behind so many of its steps or turns
 abbrev pub running_line : ℕ → List ℕ → List ℕ

@@ -6,8 +6,8 @@ ghost use Rattle.cc_answers.specs.GenText.{summary_line, summary_answer, gen_ans
 ghost use Rattle.cc_answers.specs.Answers.{answered};
 
 use crate::answer::Answer;
-use crate::run_text::{push_ending, run_answer};
-use c25_image::{push_decimal, push_hex};
+use crate::run_text::run_answer;
+use c25_image::{push_decimal, push_ending, push_hex};
 use c25_isa::{RunOutcome, Stop};
 use std::alloc::Global;
 use word_base::{Ending, NoMemory, PortWord};

@@ -5,8 +5,8 @@ ghost use Rattle.cc_answers.specs.Answers.{answered};
 ghost use Rattle.word_base.specs.Outcome.{outputs_of};
 
 use crate::answer::Answer;
-use crate::run_text::{push_ending, push_running};
-use c25_image::{push_decimal, write_outs};
+use crate::run_text::push_running;
+use c25_image::{push_decimal, push_ending, write_outs};
 use std::alloc::Global;
 use word_base::{NoMemory, Outcome, PortWord, UndefinedKind};
 

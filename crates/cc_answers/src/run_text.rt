@@ -1,57 +1,13 @@
 //! The text that a run puts.
 ghost use Rattle.std.specs.Prelude.{◌≡◌, ◌++◌, IfOk, OnOk};
-ghost use Rattle.cc_answers.specs.RunText.{trap_name, ending_line, trap_line, running_line, stop_line, stop_status, run_answer};
+ghost use Rattle.cc_answers.specs.RunText.{running_line, stop_line, stop_status, run_answer};
 ghost use Rattle.cc_answers.specs.Answers.{answered};
 
 use crate::answer::Answer;
-use c25_image::{push_decimal, push_hex, write_outs};
-use c25_isa::{RunOutcome, Stop, TrapKind};
+use c25_image::{push_decimal, push_ending, push_trap, write_outs};
+use c25_isa::{RunOutcome, Stop};
 use std::alloc::Global;
-use word_base::{Ending, NoMemory};
-
-fn trap_name(kind: TrapKind) -> &'static str
-    ensures { result.now ≡ trap_name kind }
-{
-    match kind {
-        TrapKind::BadWord => "bad-word",
-        TrapKind::StackFull => "stack-full",
-        TrapKind::StackEmpty => "stack-empty",
-        TrapKind::Mode => "mode",
-        TrapKind::Divide => "divide",
-        TrapKind::Repeat => "repeat",
-        TrapKind::SameRegister => "same-register",
-        TrapKind::NoRam => "no-ram",
-    }
-}
-
-/// The line of an ending, without its line feed.
-pub(crate) fn push_ending(text: &mut Vec<u8>, ending: Ending) -> Result<(), NoMemory>
-    ensures { OnOk result (text.new.items ≡ text.old.items ++ ending_line ending) }
-{
-    match ending {
-        Ending::Returned(word) => {
-            text.extend_from_slice(b"returned ")?;
-            push_hex(text, word)?;
-        }
-        Ending::InputEnded(port) => {
-            text.extend_from_slice(b"input ")?;
-            push_decimal(text, u64::from(port))?;
-            text.extend_from_slice(b" ended")?;
-        }
-    }
-    Ok(())
-}
-
-// The line of a trap, without its line feed.
-fn push_trap(text: &mut Vec<u8>, kind: TrapKind, at: u16) -> Result<(), NoMemory>
-    ensures { OnOk result (text.new.items ≡ text.old.items ++ trap_line kind at) }
-{
-    text.extend_from_slice(b"trap ")?;
-    text.extend_from_slice(trap_name(kind).as_bytes())?;
-    text.extend_from_slice(b" at ")?;
-    push_hex(text, at)?;
-    Ok(())
-}
+use word_base::NoMemory;
 
 /// The line of a run that went on behind so many of its steps or turns, without its line feed.
 pub(crate) fn push_running(text: &mut Vec<u8>, count: u64, what: &str) -> Result<(), NoMemory>

@@ -1,5 +1,5 @@
 -- What `build` makes, from its parts.
-use Rattle.std.proofs.Common.{◌≡◌, ◌∷◌, [], ℕ, List, ap, ap₂, map, sym, refl, ◌∙◌}
+use Rattle.std.proofs.Common.{◌≡◌, ◌∷◌, [], ℕ, List, ap, ap₂, map, ◌∙◌}
 use Rattle.std.specs.Prelude.{Some, string_bytes}
 use Rattle.c25_isa.specs.Image.{Contents}
 use Rattle.c25_image.specs.ImageText.{image_text}

@@ -1,7 +1,7 @@
 -- The told files come to one thing or are refused for one, for each command.
 use Rattle.std.proofs.Common.{◌≡◌, ◌≢◌, ◌∙◌, ◌++◌, ℕ, List, [], ◌∷◌, length, refl, sym, ap, subst, lit<, IsTrue}
 use Rattle.std.specs.Prelude.{Result, Ok, Err}
-use Rattle.cc_words.specs.Asked.{Asked, ToBuild, ToRun, ToEvaluate, ToExecute, ToLayOut, ToCheck, ToAssemble, ToList, ToGenerate}
+use Rattle.cc_words.specs.Asked.{Asked, ToBuild, ToRun, ToEvaluate, ToExecute, ToLayOut, ToCheck, ToAssemble, ToList, ToGenerate, ToDebug}
 use Rattle.word_base.specs.Ports.{Outputs, input_of}
 use Rattle.c_tree.specs.SourceRun.{source_run}
 use Rattle.c25_isa.specs.Image.{Contents}
@@ -17,6 +17,9 @@ use Rattle.c25_image.specs.PortText.{PortText, PortSays}
 use Rattle.c25_image.proofs.ImageEnds.{text_injective}
 use Rattle.c25_image.proofs.ImageExact.{says_no_text}
 use Rattle.c25_image.proofs.PortLines.{bad_no_text, one_port_text}
+use Rattle.c25_debug.specs.declared.command.Command.{Command}
+use Rattle.c25_debug.specs.Session.{Session}
+use Rattle.c25_debug.proofs.OneSession.{session_one, scripts_same, says_no_script}
 use Rattle.c25_asm.specs.AssemblerText.{assembled}
 use Rattle.c25_asm.specs.declared.fault.AsmFault.{AsmFault}
 use Rattle.lay_text.proofs.Exact.{sequences_same, says_not_read}
@@ -50,10 +53,12 @@ use Rattle.cc_driver.specs.Check as check
 use Rattle.cc_driver.specs.Asm.{AssemblesTo, AssembleRefused}
 use Rattle.cc_driver.specs.Dis.{ListsTo, listing_answer}
 use Rattle.cc_driver.specs.Gen.{Summarizes, GeneratesTo, GenerateRefused, gen_steps}
+use Rattle.cc_driver.specs.Debug.{DebugsTo, DebugRefused, session_answer}
+use Rattle.cc_driver.specs.Debug as debug
 use Rattle.cc_driver.specs.Commands.{files_of, stores_under, Comes, Rejects}
 use Rattle.cc_files.specs.Puts.{IsStatus}
 use Rattle.cc_driver.proofs.StatusLemmas.{of_report, of_stop, of_summary, of_outcome, of_check}
-use Rattle.cc_driver.proofs.FileLemmas.{one_file, two_files}
+use Rattle.cc_driver.proofs.FileLemmas.{one_file, two_files, three_files}
 
 -- ---- what is refused or done was told
 
@@ -67,6 +72,7 @@ comes_told (ToCheck image certificate) shelf answer texts c = ((c.0.bytes, c.0.f
 comes_told (ToAssemble text image) shelf answer texts c = ((c.bytes, c.fetched), tt {0})
 comes_told (ToList image) shelf answer texts c = ((c.0.bytes, c.0.fetched), tt {0})
 comes_told (ToGenerate number) shelf answer texts c = tt {0}
+comes_told (ToDebug image ports script) shelf answer texts c = ((c.0.bytes, c.0.fetched), ((c.0.more, c.0.also), ((c.0.last, c.0.too), tt {0})))
 
 pub refuses_told : (what : Asked) (shelf : Shelves) (why : Why) → Rejects what shelf why → AreFetched shelf (files_of what)
 refuses_told (ToBuild source image registers budget step) shelf why r = ((r.bytes, r.fetched), tt {0})
@@ -78,6 +84,7 @@ refuses_told (ToCheck image certificate) shelf why r = ((r.bytes, r.fetched), ((
 refuses_told (ToAssemble text image) shelf why r = ((r.bytes, r.fetched), tt {0})
 refuses_told (ToList image) shelf why r = ((r.bytes, r.fetched), tt {0})
 refuses_told (ToGenerate number) shelf why r = tt {0}
+refuses_told (ToDebug image ports script) shelf why r = ((r.bytes, r.fetched), ((r.more, r.also), ((r.last, r.too), tt {0})))
 
 -- ---- stores
 
@@ -99,6 +106,7 @@ some_store (ToCheck image certificate) shelf answer texts c h = none_fails (ToCh
 some_store (ToAssemble text image) shelf answer texts c h = λ e. cc
 some_store (ToList image) shelf answer texts c h = none_fails (ToList image) shelf texts c.1 h
 some_store (ToGenerate number) shelf answer texts c h = none_fails (ToGenerate number) shelf texts c.1 h
+some_store (ToDebug image ports script) shelf answer texts c h = none_fails (ToDebug image ports script) shelf texts c.1 h
 
 -- ---- ports
 
@@ -293,6 +301,28 @@ gen_one number a b r s =
 gen_not : (number : ℕ) (a : Answered) (why : Why) → GeneratesTo number a → GenerateRefused number why → ⊥
 gen_not number a why r bad = accepted_no_fault plain_options (generated number) bad.fault (accepted plain_options (generated number) r.image r.frames r.built) bad.has
 
+-- ---- debug
+
+debug_one : (i p s : List ℕ) (a b : Answered) → DebugsTo i p s a → DebugsTo i p s b → a ≡ b
+debug_one i p s a b r q =
+    let contents = one_contents i r.contents q.contents r.image q.image in
+    let lines = one_port_text p r.lines q.lines r.ports q.ports in
+    let script = scripts_same s r.script q.script r.text q.text in
+    let here : Session q.contents.words q.lines q.script r.shown =
+    subst (λ (c : Contents). Session c.words q.lines q.script r.shown) contents
+    (subst (λ l. Session r.contents.words l q.script r.shown) lines (subst (λ (c : List Command). Session r.contents.words r.lines c r.shown) script r.session)) in
+    r.is ∙ ap session_answer (session_one q.contents.words q.lines q.script r.shown q.shown here q.session) ∙ sym q.is
+
+debug_not : (image ports script i p s : List ℕ) (a : Answered) (why : Why) → DebugsTo i p s a → DebugRefused image ports script i p s why → ⊥
+debug_not image ports script i p s a why r (debug.BadImage bad) = not_image image i why r.contents bad r.image
+debug_not image ports script i p s a why r (debug.BadPorts contents is bad) = ports_refused ports p why r.lines bad r.ports
+debug_not image ports script i p s a why r (debug.BadScript contents lines is text bad) = says_no_script s bad.fault r.script bad.some bad.says r.text r.few
+
+debug_status_nine : (image ports script i p s : List ℕ) (why : Why) → DebugRefused image ports script i p s why → refusal_status why ≡ 9
+debug_status_nine image ports script i p s why (debug.BadImage bad) = ap refusal_status bad.is
+debug_status_nine image ports script i p s why (debug.BadPorts contents is bad) = ap refusal_status bad.is
+debug_status_nine image ports script i p s why (debug.BadScript contents lines is text bad) = ap refusal_status bad.is
+
 -- ---- all commands
 
 pub comes_one : (what : Asked) (shelf : Shelves) (tells : IsTrue shelf.tells) (a b : Answered) (s t : List Stored) → Comes what shelf a s → Comes what shelf b t → a ≡ b
@@ -321,6 +351,9 @@ comes_one (ToList image) shelf tells a b s t c d =
     let h = one_file shelf tells _ _ _ c.0 d.0 in
     dis_one h.0 a b h.1 h.2
 comes_one (ToGenerate number) shelf tells a b s t c d = gen_one number a b c.0 d.0
+comes_one (ToDebug image ports script) shelf tells a b s t c d =
+    let h = three_files shelf tells _ _ _ _ _ c.0 d.0 in
+    debug_one h.0 h.1.0 h.1.1.0 a b h.1.1.1 h.1.1.2
 
 pub comes_not : (what : Asked) (shelf : Shelves) (tells : IsTrue shelf.tells) (a : Answered) (s : List Stored) (why : Why) → Comes what shelf a s → Rejects what shelf why → ⊥
 comes_not (ToBuild source image registers budget step) shelf tells a s why c r =
@@ -348,6 +381,9 @@ comes_not (ToList image) shelf tells a s why c r =
     let h = one_file shelf tells _ _ _ c.0 r in
     dis_not image h.0 a why h.1 h.2
 comes_not (ToGenerate number) shelf tells a s why c r = gen_not number a why c.0 r
+comes_not (ToDebug image ports script) shelf tells a s why c r =
+    let h = three_files shelf tells _ _ _ _ _ c.0 r in
+    debug_not image ports script h.0 h.1.0 h.1.1.0 a why h.1.1.1 h.1.1.2
 
 pub refuses_one : (what : Asked) (shelf : Shelves) (tells : IsTrue shelf.tells) (v w : Why) → Rejects what shelf v → Rejects what shelf w → refusal_status v ≡ refusal_status w
 refuses_one (ToBuild source image registers budget step) shelf tells v w r s =
@@ -375,6 +411,9 @@ refuses_one (ToList image) shelf tells v w r s =
     let h = one_file shelf tells _ _ _ r s in
     dis_status_nine image h.0 v h.1 ∙ sym (dis_status_nine image h.0 w h.2)
 refuses_one (ToGenerate number) shelf tells v w r s = build_refused_one plain_options (generated number) v w r s
+refuses_one (ToDebug image ports script) shelf tells v w r s =
+    let h = three_files shelf tells _ _ _ _ _ r s in
+    debug_status_nine image ports script h.0 h.1.0 h.1.1.0 v h.1.1.1 ∙ sym (debug_status_nine image ports script h.0 h.1.0 h.1.1.0 w h.1.1.2)
 
 image_run_status : (words : List ℕ) (lines : List (ℕ × ℕ)) (steps : ℕ) (answer : Answered) → ImageRuns words lines steps answer → IsStatus answer.status
 image_run_status words lines steps answer r = subst (λ a. IsStatus a.status) (sym r.is) (of_stop r.stands)
@@ -392,3 +431,4 @@ comes_status (ToAssemble text image) shelf answer texts c = subst (λ a. IsStatu
 comes_status (ToList image) shelf answer texts c = subst (λ a. IsStatus a.status) (sym c.0.holds.is) (0, lit< tt, refl)
 comes_status (ToGenerate number) shelf answer texts c =
     subst (λ a. IsStatus a.status) (sym c.0.summarizes.is) (of_summary number (length c.0.image.functions) gen_steps c.0.summarizes.outs c.0.summarizes.stands)
+comes_status (ToDebug image ports script) shelf answer texts c = subst (λ a. IsStatus a.status) (sym c.0.holds.is) (0, lit< tt, refl)

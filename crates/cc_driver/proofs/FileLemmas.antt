@@ -3,7 +3,7 @@ use Rattle.std.proofs.Common.{◌≡◌, ◌∙◌, ◌<◌, ◌≤◌, ◌++◌
 use Rattle.cc_files.specs.World.{Shelves}
 use Rattle.cc_files.specs.Fetches.{Wanted, IsFetched, AreFetched}
 use Rattle.cc_driver.specs.Build.{FileHas}
-use Rattle.cc_driver.specs.Commands.{FilesHave}
+use Rattle.cc_driver.specs.Commands.{FilesHave, ThreeFilesHave}
 use Rattle.cc_driver.specs.Answers.{IsUnfetchable, NoFile, LongFile}
 
 -- of one file one text is told
@@ -58,3 +58,12 @@ module _ (shelf : Shelves) (tells : IsTrue shelf.tells) where
       let one = told_same (shelf.before.files w.name) h.bytes k.bytes (h.fetched.told tells) (k.fetched.told tells) in
       let two = told_same (shelf.before.files v.name) h.more k.more (h.also.told tells) (k.also.told tells) in
       (k.bytes, (k.more, subst (λ s. P s k.more) one (subst (λ p. P h.bytes p) two h.holds), k.holds))
+
+  -- and so are three
+  pub three_files : (w v u : Wanted) (P Q : List ℕ → List ℕ → List ℕ → Type 0) → ThreeFilesHave shelf w v u P → ThreeFilesHave shelf w v u Q
+      → (i : List ℕ) × ((p : List ℕ) × ((s : List ℕ) × P i p s × Q i p s))
+  three_files w v u P Q h k =
+      let one = told_same (shelf.before.files w.name) h.bytes k.bytes (h.fetched.told tells) (k.fetched.told tells) in
+      let two = told_same (shelf.before.files v.name) h.more k.more (h.also.told tells) (k.also.told tells) in
+      let three = told_same (shelf.before.files u.name) h.last k.last (h.too.told tells) (k.too.told tells) in
+      (k.bytes, (k.more, (k.last, subst (λ i. P i k.more k.last) one (subst (λ p. P h.bytes p k.last) two (subst (λ s. P h.bytes h.more s) three h.holds)), k.holds)))

@@ -1,6 +1,6 @@
 -- The status of a run by where the machine stands, and its bound by the work of the word tree.
 use Rattle.std.proofs.Common.{◌≡◌, ℕ, refl, arith}
-use Rattle.word_base.specs.Ports.{Input, IsInput, Outputs}
+use Rattle.word_base.specs.Ports.{Input, Outputs}
 use Rattle.c_tree.specs.SourceRun.{source_run}
 use Rattle.c_tree.specs.TypedTree.{ProgramTree}
 use Rattle.tree_code.specs.Lowered.{lowered_program}

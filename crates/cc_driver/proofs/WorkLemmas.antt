@@ -22,12 +22,16 @@ use Rattle.cc_files.specs.cc_compile.declared.fault.BuildFault.TheVariants as bu
 use Rattle.cc_answers.specs.declared.answer.Answer.{Answer}
 use Rattle.cc_files.specs.cc_text.declared.refusal.Refusal.{Refusal}
 use Rattle.cc_answers.specs.Answers.{Answered, answered}
-use Rattle.cc_files.specs.cc_text.Refusals.{Why, OfFile, OfSource, OfStore, OfMemory, why_of, of_build_fault, of_image_fault, of_port_fault, of_sequence_fault, of_certificate_fault}
+use Rattle.cc_files.specs.cc_text.Refusals.{Why, OfFile, OfSource, OfStore, OfMemory, why_of, of_build_fault, of_image_fault, of_port_fault, of_sequence_fault, of_certificate_fault, of_script_fault}
 use Rattle.cc_files.specs.World.{Shelves, shelves}
 use Rattle.cc_files.specs.Fetches.{Wanted, IsFetched, AreFetched, NoneFailed, ForMemory}
 use Rattle.cc_driver.specs.Run.{IsImageRefused, ArePortsRefused}
 use Rattle.cc_driver.specs.Layout.{LayoutRefused}
 use Rattle.cc_driver.specs.Check.{IsCertificateRefused}
+use Rattle.cc_driver.specs.Debug.{IsScriptRefused}
+use Rattle.c25_debug.specs.declared.fault.ScriptFault.{ScriptFault}
+use Rattle.c25_debug.specs.declared.fault.ScriptFault.TheVariants as script_faults
+use Rattle.c25_debug.specs.Script.{ScriptSays}
 use Rattle.cc_files.specs.Stores.{Stored, NothingStored, OnlyUnder, StoresStopped}
 use Rattle.cc_driver.specs.Commands.{files_of, stores_under, Comes, Rejects}
 use Rattle.cc_driver.specs.Work.{WorkRefused, WorkLeaves, AtFetch, AtFiles, AtStore, AtMemory, AtStoreForMemory}
@@ -62,6 +66,11 @@ certificate_fault_of name bytes (certificate_faults.BadLine line) why says e som
 certificate_fault_of name bytes (certificate_faults.Short frame) why says e some = record { fault = certificate_faults.Short frame; some = λ f. cc; says = says; is = e }
 certificate_fault_of name bytes (certificate_faults.Version found) why says e some = record { fault = certificate_faults.Version found; some = λ f. cc; says = says; is = e }
 certificate_fault_of name bytes certificate_faults.NoMemory why says e some = absurd (some e)
+
+pub script_fault_of : (name bytes : List ℕ) (fault : ScriptFault) (why : Why) → ScriptSays bytes fault → why ≡ of_script_fault name fault → why ≢ OfMemory → IsScriptRefused name bytes why
+script_fault_of name bytes (script_faults.BadLine line) why says e some = record { fault = script_faults.BadLine line; some = λ f. cc; says = says; is = e }
+script_fault_of name bytes (script_faults.TooLong count) why says e some = record { fault = script_faults.TooLong count; some = λ f. cc; says = says; is = e }
+script_fault_of name bytes script_faults.NoMemory why says e some = absurd (some e)
 
 pub build_fault_of : (fault : BuildFault) (why : Why) → why ≡ of_build_fault fault → why ≢ OfMemory → (fault ≢ build_faults.NoMemory) × (why ≡ OfSource fault)
 build_fault_of (build_faults.Lex l) why e some = (λ f. cc, e)

@@ -1,7 +1,7 @@
 -- The commands, a row each: which files one fetches, under which names it stores, what it comes to, and for what its files are refused
 -- (docs/COMMANDS.md).
 use Rattle.std.specs.Prelude.{◌≡◌, ℕ, List, [], ◌∷◌}
-use Rattle.cc_words.specs.Asked.{Asked, ToBuild, ToRun, ToEvaluate, ToExecute, ToLayOut, ToCheck, ToAssemble, ToList, ToGenerate}
+use Rattle.cc_words.specs.Asked.{Asked, ToBuild, ToRun, ToEvaluate, ToExecute, ToLayOut, ToCheck, ToAssemble, ToList, ToGenerate, ToDebug}
 use Rattle.cc_answers.specs.Answers.{Answered}
 use Rattle.cc_files.specs.cc_text.Refusals.{Why}
 use Rattle.cc_files.specs.World.{Shelves}
@@ -16,6 +16,7 @@ use Rattle.cc_driver.specs.Check.{certificate_file, ChecksTo, CheckRefused}
 use Rattle.cc_driver.specs.Asm.{text_file, AssemblesTo, AssembleRefused}
 use Rattle.cc_driver.specs.Dis.{ListsTo}
 use Rattle.cc_driver.specs.Gen.{GeneratesTo, GenerateRefused}
+use Rattle.cc_driver.specs.Debug.{script_file, DebugsTo, DebugRefused}
 
 -- the files that a command fetches, in this order
 abbrev pub files_of : Asked → List Wanted
@@ -28,6 +29,7 @@ files_of (ToCheck image certificate) = image_file image ∷ certificate_file cer
 files_of (ToAssemble text image) = text_file text ∷ []
 files_of (ToList image) = image_file image ∷ []
 files_of (ToGenerate number) = []
+files_of (ToDebug image ports script) = image_file image ∷ ports_file ports ∷ script_file script ∷ []
 
 -- the names under which a command stores, in this order
 abbrev pub stores_under : Asked → List (List ℕ)
@@ -40,6 +42,7 @@ stores_under (ToCheck image certificate) = []
 stores_under (ToAssemble text image) = image ∷ []
 stores_under (ToList image) = []
 stores_under (ToGenerate number) = []
+stores_under (ToDebug image ports script) = []
 
 -- the bytes of two files have a property
 pub record FilesHave (shelf : Shelves) (first second : Wanted) (P : List ℕ → List ℕ → Type 0) : Type 0 where
@@ -48,6 +51,16 @@ pub record FilesHave (shelf : Shelves) (first second : Wanted) (P : List ℕ →
   pub fetched : IsFetched shelf first bytes
   pub also : IsFetched shelf second more
   pub holds : P bytes more
+
+-- the bytes of three files have a property
+pub record ThreeFilesHave (shelf : Shelves) (first second third : Wanted) (P : List ℕ → List ℕ → List ℕ → Type 0) : Type 0 where
+  pub bytes : List ℕ
+  pub more : List ℕ
+  pub last : List ℕ
+  pub fetched : IsFetched shelf first bytes
+  pub also : IsFetched shelf second more
+  pub too : IsFetched shelf third last
+  pub holds : P bytes more last
 
 -- what a command comes to over its files: what it answers, and what it stores
 abbrev pub Comes : Asked → Shelves → Answered → List Stored → Type 0
@@ -66,6 +79,8 @@ Comes (ToCheck image certificate) shelf answer texts =
 Comes (ToAssemble text image) shelf answer texts = FileHas shelf (text_file text) (λ t. AssemblesTo image t answer texts)
 Comes (ToList image) shelf answer texts = FileHas shelf (image_file image) (λ i. ListsTo i answer) × (texts ≡ [])
 Comes (ToGenerate number) shelf answer texts = GeneratesTo number answer × (texts ≡ [])
+Comes (ToDebug image ports script) shelf answer texts =
+    ThreeFilesHave shelf (image_file image) (ports_file ports) (script_file script) (λ i p s. DebugsTo i p s answer) × (texts ≡ [])
 
 -- for what a command refuses its files, which all fit
 abbrev pub Rejects : Asked → Shelves → Why → Type 0
@@ -83,3 +98,5 @@ Rejects (ToCheck image certificate) shelf why =
 Rejects (ToAssemble text image) shelf why = FileHas shelf (text_file text) (λ t. AssembleRefused text t why)
 Rejects (ToList image) shelf why = FileHas shelf (image_file image) (λ i. IsImageRefused image i why)
 Rejects (ToGenerate number) shelf why = GenerateRefused number why
+Rejects (ToDebug image ports script) shelf why =
+    ThreeFilesHave shelf (image_file image) (ports_file ports) (script_file script) (λ i p s. DebugRefused image ports script i p s why)

@@ -9,7 +9,7 @@ use Rattle.cc_shelf.specs.ShelfAnswers.{AfterFetch, FetchRefused, NoFetchFailed}
 use Rattle.cc_shelf.specs.declared.shelf.ShelfFault.{ShelfFault}
 use Rattle.cc_shelf.specs.declared.shelf.ShelfFault.TheVariants as shelf_faults
 use Rattle.cc_text.specs.declared.refusal.FileFault.{FileFault}
-use Rattle.cc_text.specs.declared.refusal.FileFault.TheVariants.{Read, TooLong, Image, Ports, Sequence, Certificate, Assembly}
+use Rattle.cc_text.specs.declared.refusal.FileFault.TheVariants.{Read, TooLong, Image, Ports, Sequence, Certificate, Assembly, Script}
 use Rattle.cc_text.specs.Refusals.{Why, OfFile, OfMemory}
 use Rattle.cc_files.specs.World.{Shelves, shelves}
 use Rattle.cc_files.specs.Fetches.{Wanted, wanted, of_shelf_fault, fetch_of, IsFetched, AreFetched, AreAsked, NoneFailed, FetchCause, NotFetched, AtFile, ForMemory}
@@ -74,13 +74,13 @@ pub fetch_refused : {T : Type 0} (answer : Result T ShelfFault) (tells : Bool) (
     → FetchRefused tells name limit before now fault → FetchTold tells name before now answer → NotFetched (shelves tells before now) (wanted name limit ∷ []) (of_shelf_fault name fault)
 fetch_refused {T} answer tells before now name limit fault is r asked = refused_as T tells before now name limit fault r (subst (λ x. FetchTold tells name before now x) is asked)
 
--- a file of the first one's files is refused, and so it is of more files
-pub first_refused : (shelf : Shelves) (w v : Wanted) (why : Why) → NotFetched shelf (w ∷ []) why → NotFetched shelf (w ∷ v ∷ []) why
-first_refused shelf w v why (AtFile r) = AtFile (record {
+-- the first file is refused, and so it is of more files
+pub first_refused : (shelf : Shelves) (w : Wanted) (vs : List Wanted) (why : Why) → NotFetched shelf (w ∷ []) why → NotFetched shelf (w ∷ vs) why
+first_refused shelf w vs why (AtFile r) = AtFile (record {
   before = r.before;
   last = r.last;
-  behind = r.behind ++ v ∷ [];
-  parts = ap (λ ws. ws ++ v ∷ []) r.parts ∙ append_assoc r.before (r.last ∷ r.behind) (v ∷ []);
+  behind = r.behind ++ vs;
+  parts = ap (λ ws. ws ++ vs) r.parts ∙ append_assoc r.before (r.last ∷ r.behind) vs;
   fetched = r.fetched;
   failed = r.failed;
   asked = r.asked;
@@ -88,11 +88,11 @@ first_refused shelf w v why (AtFile r) = AtFile (record {
   cause = r.cause;
   named = r.named;
 })
-first_refused shelf w v why (ForMemory e s) = ForMemory e (record {
+first_refused shelf w vs why (ForMemory e s) = ForMemory e (record {
   before = s.before;
   next = s.next;
-  behind = s.behind ++ v ∷ [];
-  parts = ap (λ ws. ws ++ v ∷ []) s.parts ∙ append_assoc s.before (s.next ++ s.behind) (v ∷ []) ∙ ap (λ ws. s.before ++ ws) (append_assoc s.next s.behind (v ∷ []));
+  behind = s.behind ++ vs;
+  parts = ap (λ ws. ws ++ vs) s.parts ∙ append_assoc s.before (s.next ++ s.behind) vs ∙ ap (λ ws. s.before ++ ws) (append_assoc s.next s.behind vs);
   fetched = s.fetched;
   at_most = s.at_most;
   none_failed = s.none_failed;
@@ -120,6 +120,7 @@ module _ (tells : Bool) (first between last : Stock) (same : Unchanged first.fil
   still_cause none w true (Sequence why) c = absurd c
   still_cause none w true (Certificate why) c = absurd c
   still_cause none w true (Assembly why) c = absurd c
+  still_cause none w true (Script why) c = absurd c
   still_cause none w false Read c = (c.0, sym (same w.name) ∙ c.1, c.2 ∙ none)
   still_cause none w false TooLong long = (
     record {
@@ -133,15 +134,16 @@ module _ (tells : Bool) (first between last : Stock) (same : Unchanged first.fil
   still_cause none w false (Sequence why) c = absurd c
   still_cause none w false (Certificate why) c = absurd c
   still_cause none w false (Assembly why) c = absurd c
+  still_cause none w false (Script why) c = absurd c
 
   -- a file is fetched, and then others are, or as many as there is memory for
   pub both_asked : (w : Wanted) (ws : List Wanted) → NoneFailed (shelves tells first between) (w ∷ []) → NoneFailed (shelves tells between last) ws → NoneFailed (shelves tells first last) (w ∷ ws)
   both_asked w ws one more = record { asked = still_asked w (map (fetch_of false) ws) one.asked more.asked; count = more.count ∙ one.count }
 
-  -- behind a file that was fetched another one is refused
-  pub second_refused : (w v : Wanted) (why : Why) → ((bytes : List ℕ) × IsFetched (shelves tells first last) w bytes) → NoneFailed (shelves tells first between) (w ∷ [])
-      → NotFetched (shelves tells between last) (v ∷ []) why → NotFetched (shelves tells first last) (w ∷ v ∷ []) why
-  second_refused w v why fetched one (AtFile r) = AtFile (record {
+  -- behind a file that was fetched one of the others is refused
+  pub second_refused : (w : Wanted) (vs : List Wanted) (why : Why) → ((bytes : List ℕ) × IsFetched (shelves tells first last) w bytes) → NoneFailed (shelves tells first between) (w ∷ [])
+      → NotFetched (shelves tells between last) vs why → NotFetched (shelves tells first last) (w ∷ vs) why
+  second_refused w vs why fetched one (AtFile r) = AtFile (record {
     before = w ∷ r.before;
     last = r.last;
     behind = r.behind;
@@ -153,7 +155,7 @@ module _ (tells : Bool) (first between last : Stock) (same : Unchanged first.fil
     cause = still_cause one.count r.last r.failed r.fault r.cause;
     named = r.named;
   })
-  second_refused w v why fetched one (ForMemory e s) = ForMemory e (record {
+  second_refused w vs why fetched one (ForMemory e s) = ForMemory e (record {
     before = w ∷ s.before;
     next = s.next;
     behind = s.behind;

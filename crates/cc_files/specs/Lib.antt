@@ -8,4 +8,5 @@ pub use Rattle.cc_text.specs.tree_code_proof as tree_code_proof
 pub mod World
 pub mod Puts
 pub mod Fetches
+pub mod Wants
 pub mod Stores

@@ -8,6 +8,6 @@ mod shelf;
 pub use cc_text::{Built, Options, Refusal, compile, runs_tell, typed_program};
 pub use output::{put, refuse, say};
 pub use shelf::{
-    CERTIFICATE_LIMIT, Fetched, IMAGE_LIMIT, PORTS_LIMIT, SEQUENCE_LIMIT, SOURCE_LIMIT, TEXT_LIMIT,
-    fetch, fetch_both, store,
+    CERTIFICATE_LIMIT, Fetched, FetchedThree, IMAGE_LIMIT, PORTS_LIMIT, SCRIPT_LIMIT,
+    SEQUENCE_LIMIT, SOURCE_LIMIT, TEXT_LIMIT, Want, fetch, fetch_both, fetch_three, store,
 };

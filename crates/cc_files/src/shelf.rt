@@ -4,6 +4,7 @@ ghost use Rattle.cc_shelf.specs.ShelfAnswers.{AfterFetch};
 ghost use Rattle.cc_text.specs.Refusals.{why_of};
 ghost use Rattle.cc_files.specs.World.{shelves};
 ghost use Rattle.cc_files.specs.Fetches.{wanted, of_shelf_fault, IsFetched, NoneFailed, NotFetched};
+ghost use Rattle.cc_files.specs.Wants.{of_want};
 ghost use Rattle.cc_files.specs.Stores.{NothingStored, StoreStopped};
 
 use cc_shelf::{Shelf, ShelfFault};
@@ -24,6 +25,9 @@ pub const SEQUENCE_LIMIT: u64 = 16_777_216;
 
 /// The greatest length of a port file, in bytes.
 pub const PORTS_LIMIT: u64 = 16_777_216;
+
+/// The greatest length of a script, in bytes.
+pub const SCRIPT_LIMIT: u64 = 65_536;
 
 /// The greatest length of a certificate, in bytes.
 pub const CERTIFICATE_LIMIT: u64 = 536_870_912;
@@ -91,6 +95,53 @@ pub fn fetch_both<'a, F: Shelf>(
     let bytes = fetch(alloc, shelf, name, limit)?;
     let more = fetch(alloc, shelf, other, other_limit)?;
     Ok(Fetched { bytes, more })
+}
+
+/// A file that is wanted.
+#[derive(Clone, Copy)]
+pub struct Want<'a> {
+    pub name: &'a str,
+    /// The greatest length that it may have, in bytes.
+    pub limit: u64,
+}
+
+/// The bytes of three files, in the order in which they were fetched.
+#[derive(Drop)]
+pub struct FetchedThree {
+    pub first: Vec<u8>,
+    pub second: Vec<u8>,
+    pub third: Vec<u8>,
+}
+
+/// Fetches three files, one behind another. A fetch that is refused is the last; its file is named.
+pub fn fetch_three<'a, F: Shelf>(
+    alloc: Global,
+    shelf: &mut F,
+    first: &Want<'a>,
+    second: &Want<'a>,
+    third: &Want<'a>,
+) -> Result<FetchedThree, Refusal<'a>>
+    ensures first { IfOk result (λ all. IsFetched (shelves F.tells (F.stock shelf.old) (F.stock shelf.new)) (of_want first.now) all.first.items) }
+    ensures second { IfOk result (λ all. IsFetched (shelves F.tells (F.stock shelf.old) (F.stock shelf.new)) (of_want second.now) all.second.items) }
+    ensures third { IfOk result (λ all. IsFetched (shelves F.tells (F.stock shelf.old) (F.stock shelf.new)) (of_want third.now) all.third.items) }
+    ensures asked { OnOk result (NoneFailed (shelves F.tells (F.stock shelf.old) (F.stock shelf.new)) (of_want first.now ∷ of_want second.now ∷ of_want third.now ∷ [])) }
+    ensures refused { IfErr result (λ r. NotFetched (shelves F.tells (F.stock shelf.old) (F.stock shelf.new)) (of_want first.now ∷ of_want second.now ∷ of_want third.now ∷ []) (why_of r)) }
+    ensures stored { NothingStored (shelves F.tells (F.stock shelf.old) (F.stock shelf.new)) }
+{
+    let bytes = fetch(alloc, shelf, first.name, first.limit)?;
+    let others = fetch_both(
+        alloc,
+        shelf,
+        second.name,
+        second.limit,
+        third.name,
+        third.limit,
+    )?;
+    Ok(FetchedThree {
+        first: bytes,
+        second: others.bytes,
+        third: others.more,
+    })
 }
 
 /// Stores a file. It is refused where it can't be written, and for want of memory; no other file changes.

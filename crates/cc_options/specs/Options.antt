@@ -58,6 +58,7 @@ pub record Options : Type 0 where
   pub word : Text
   pub first : Option Text
   pub second : Option Text
+  pub third : Option Text
   pub one : Option Quantity
   pub two : Option Quantity
   pub three : Option Quantity
@@ -79,6 +80,7 @@ options_of t = record {
   word = t.name.now;
   first = option_map name_of t.first;
   second = option_map name_of t.second;
+  third = option_map name_of t.third;
   one = option_map quantity_of t.one;
   two = option_map quantity_of t.two;
   three = option_map quantity_of t.three;
@@ -96,7 +98,7 @@ numbered (Some n) app = with_rule app n.rule
 
 abbrev pub app_of_options : Options → App
 app_of_options o =
-    numbered o.three (numbered o.two (numbered o.one (named o.second (named o.first (new_app o.word)))))
+    numbered o.three (numbered o.two (numbered o.one (named o.third (named o.second (named o.first (new_app o.word))))))
 
 -- `clap` takes the words as those of the command
 abbrev pub is_taken : App → List Text → Bool
@@ -128,6 +130,7 @@ number_in rows n = number_of n.id n.greatest rows
 pub record Values : Type 0 where
   pub first : Option Text
   pub second : Option Text
+  pub third : Option Text
   pub one : Option ℕ
   pub two : Option ℕ
   pub three : Option ℕ
@@ -136,6 +139,7 @@ abbrev pub values_of_given : Given → Values
 values_of_given g = record {
   first = option_map name_of g.first;
   second = option_map name_of g.second;
+  third = option_map name_of g.third;
   one = g.one;
   two = g.two;
   three = g.three;
@@ -146,6 +150,7 @@ abbrev pub values_in : Options → List Row → Values
 values_in o rows = record {
   first = option_and_then (λ id. first_of id rows) o.first;
   second = option_and_then (λ id. first_of id rows) o.second;
+  third = option_and_then (λ id. first_of id rows) o.third;
   one = option_and_then (number_in rows) o.one;
   two = option_and_then (number_in rows) o.two;
   three = option_and_then (number_in rows) o.three;

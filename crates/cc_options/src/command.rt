@@ -57,6 +57,7 @@ pub(crate) fn command_of<'a>(alloc: Global, table: &Table<'a>) -> Result<Command
     let command = Command::new(alloc, table.name);
     let command = with_name(alloc, command, table.first)?;
     let command = with_name(alloc, command, table.second)?;
+    let command = with_name(alloc, command, table.third)?;
     let command = with_number(alloc, command, table.one)?;
     let command = with_number(alloc, command, table.two)?;
     with_number(alloc, command, table.three)

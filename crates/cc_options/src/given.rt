@@ -13,6 +13,8 @@ pub struct Given<'a> {
     pub first: Option<&'a str>,
     /// The second name.
     pub second: Option<&'a str>,
+    /// The third name.
+    pub third: Option<&'a str>,
     /// The first number.
     pub one: Option<u32>,
     /// The second number.
@@ -55,6 +57,7 @@ pub(crate) fn held<'a>(matches: &ArgMatches<'a>, table: &Table<'a>) -> Given<'a>
     Given {
         first: name_in(matches, table.first),
         second: name_in(matches, table.second),
+        third: name_in(matches, table.third),
         one: number_in(matches, table.one),
         two: number_in(matches, table.two),
         three: number_in(matches, table.three),

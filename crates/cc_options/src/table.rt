@@ -22,7 +22,7 @@ pub struct Number<'a> {
     pub greatest: u32,
 }
 
-/// A command of at most two names, which have to be there, and behind them at most three numbers.
+/// A command of at most three names, which have to be there, and behind them at most three numbers.
 #[derive(Clone, Copy)]
 pub struct Table<'a> {
     /// The word that chooses the command.
@@ -31,6 +31,8 @@ pub struct Table<'a> {
     pub first: Option<&'a str>,
     /// What its second name is called.
     pub second: Option<&'a str>,
+    /// What its third name is called.
+    pub third: Option<&'a str>,
     /// Its first number.
     pub one: Option<Number<'a>>,
     /// Its second number.

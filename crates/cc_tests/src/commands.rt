@@ -33,8 +33,8 @@ pub(crate) struct Left<'a> {
     pub(crate) stored: &'a [(&'a str, &'a [u8])],
 }
 
-// The words as a list.
-fn list_of(alloc: Global, words: &[&str]) -> Result<Vec<String>, Fail> {
+/// The words as a list.
+pub(crate) fn list_of(alloc: Global, words: &[&str]) -> Result<Vec<String>, Fail> {
     let mut list = Vec::new(alloc);
     for word in words {
         list.push(String::from_str(alloc, word)?)?;

@@ -9,6 +9,8 @@ mod failing_builds;
 #[cfg(test)]
 mod failing_runs;
 #[cfg(test)]
+mod failing_sessions;
+#[cfg(test)]
 mod images;
 #[cfg(test)]
 mod machines;

@@ -1,5 +1,5 @@
 //! Words whose request no run shows: an empty name, which no file has.
-use cc_words::{Asm, Build, Check, Dis, Exec, Gen, Layout, Means, Request, Run, requested};
+use cc_words::{Asm, Build, Check, Debug, Dis, Exec, Gen, Layout, Means, Request, Run, requested};
 use std::alloc::Global;
 use std::test::Fail;
 
@@ -55,6 +55,14 @@ fn shown(alloc: Global, request: &Option<Request>) -> Result<String, Fail> {
         Some(Request::Asm(Asm { text, image })) => { format!(in alloc; "asm {text} {image}")? }
         Some(Request::Dis(Dis { image })) => { format!(in alloc; "dis {image}")? }
         Some(Request::Gen(Gen { number })) => { format!(in alloc; "gen {number}")? }
+        Some(Request::Debug(asked)) => {
+            let Debug {
+                image,
+                ports,
+                script,
+            } = asked;
+            format!(in alloc; "debug {image} {ports} {script}")?
+        }
     })
 }
 

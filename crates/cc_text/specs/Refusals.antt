@@ -2,6 +2,8 @@
 use Rattle.std.specs.Prelude.{ℕ, List, [], ◌++◌, codes, decimal}
 use Rattle.c25_asm.specs.declared.fault.AsmFault.{AsmFault}
 use Rattle.c25_asm.specs.declared.fault.AsmFault.TheVariants as assembly_faults
+use Rattle.c25_debug.specs.declared.fault.ScriptFault.{ScriptFault}
+use Rattle.c25_debug.specs.declared.fault.ScriptFault.TheVariants as script_faults
 use Rattle.c25_image.specs.declared.fault.ImageFault.{ImageFault}
 use Rattle.c25_image.specs.declared.fault.ImageFault.TheVariants as image_faults
 use Rattle.c25_image.specs.declared.fault.PortFault.{PortFault}
@@ -13,7 +15,7 @@ use Rattle.cc_compile.specs.lay_cert.declared.fault.CertFault.TheVariants as cer
 use Rattle.cc_compile.specs.declared.fault.BuildFault.{BuildFault}
 use Rattle.cc_compile.specs.declared.fault.BuildFault.TheVariants as build_faults
 use Rattle.cc_text.specs.declared.refusal.FileFault.{FileFault}
-use Rattle.cc_text.specs.declared.refusal.FileFault.TheVariants.{Read, TooLong, Image, Ports, Sequence, Certificate, Assembly}
+use Rattle.cc_text.specs.declared.refusal.FileFault.TheVariants.{Read, TooLong, Image, Ports, Sequence, Certificate, Assembly, Script}
 use Rattle.cc_text.specs.declared.refusal.Refusal.{Refusal}
 use Rattle.cc_text.specs.declared.refusal.Refusal.TheVariants as refusal
 
@@ -56,6 +58,10 @@ abbrev pub of_assembly_fault : List ℕ → AsmFault → Why
 of_assembly_fault name assembly_faults.NoMemory = OfMemory
 of_assembly_fault name why = OfFile name (Assembly why)
 
+abbrev pub of_script_fault : List ℕ → ScriptFault → Why
+of_script_fault name script_faults.NoMemory = OfMemory
+of_script_fault name why = OfFile name (Script why)
+
 -- the line that refuses an image; want of memory has none
 abbrev pub image_line : List ℕ → ImageFault → List ℕ
 image_line name (image_faults.BadLine line) = codes "file refused: " ++ (name ++ (codes " bad line " ++ (decimal line ++ codes "\n")))
@@ -90,6 +96,12 @@ assembly_line name (assembly_faults.OutOfRange line) = codes "file refused: " ++
 assembly_line name (assembly_faults.TooLong count) = codes "file refused: " ++ (name ++ (codes " too long " ++ (decimal count ++ codes "\n")))
 assembly_line name assembly_faults.NoMemory = []
 
+-- the line that refuses a script; want of memory has none
+abbrev pub script_line : List ℕ → ScriptFault → List ℕ
+script_line name (script_faults.BadLine line) = codes "file refused: " ++ (name ++ (codes " bad line " ++ (decimal line ++ codes "\n")))
+script_line name (script_faults.TooLong count) = codes "file refused: " ++ (name ++ (codes " too long " ++ (decimal count ++ codes "\n")))
+script_line name script_faults.NoMemory = []
+
 -- the line that refuses a file
 abbrev pub file_line : List ℕ → FileFault → List ℕ
 file_line name Read = codes "read fault: " ++ (name ++ codes "\n")
@@ -99,6 +111,7 @@ file_line name (Ports why) = port_line name why
 file_line name (Sequence why) = sequence_line name why
 file_line name (Certificate why) = certificate_line name why
 file_line name (Assembly why) = assembly_line name why
+file_line name (Script why) = script_line name why
 
 -- 3 for a file that can't be read, and else 9
 abbrev pub file_status : FileFault → ℕ
@@ -109,6 +122,7 @@ file_status (Ports why) = 9
 file_status (Sequence why) = 9
 file_status (Certificate why) = 9
 file_status (Assembly why) = 9
+file_status (Script why) = 9
 
 abbrev pub refusal_status : Why → ℕ
 refusal_status (OfFile name why) = file_status why

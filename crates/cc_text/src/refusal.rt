@@ -1,8 +1,9 @@
 //! Why a command is refused.
 ghost use Rattle.std.specs.Prelude.{◌≡◌};
-ghost use Rattle.cc_text.specs.Refusals.{why_of, of_image_fault, of_port_fault, of_sequence_fault, of_certificate_fault, of_assembly_fault, refusal_status, file_status};
+ghost use Rattle.cc_text.specs.Refusals.{why_of, of_image_fault, of_port_fault, of_sequence_fault, of_certificate_fault, of_assembly_fault, of_script_fault, refusal_status, file_status};
 
 use c25_asm::AsmFault;
+use c25_debug::ScriptFault;
 use c25_image::{ImageFault, PortFault};
 use cc_compile::{BuildFault, CertFault};
 use lay_text::SeqFault;
@@ -25,6 +26,8 @@ pub enum FileFault {
     Certificate(CertFault),
     /// It is no assembler text.
     Assembly(AsmFault),
+    /// It is no script.
+    Script(ScriptFault),
 }
 
 impl FileFault {
@@ -38,7 +41,8 @@ impl FileFault {
             | FileFault::Ports(_)
             | FileFault::Sequence(_)
             | FileFault::Certificate(_)
-            | FileFault::Assembly(_) => 9,
+            | FileFault::Assembly(_)
+            | FileFault::Script(_) => 9,
         }
     }
 }
@@ -117,6 +121,19 @@ impl<'a> Refusal<'a> {
             why => Refusal::File {
                 name,
                 why: FileFault::Assembly(why),
+            },
+        }
+    }
+
+    /// A file of this name is no script.
+    pub fn of_script(name: &'a str, fault: ScriptFault) -> Self
+        ensures { why_of result ≡ of_script_fault name.now fault }
+    {
+        match fault {
+            ScriptFault::NoMemory => Refusal::NoMemory,
+            why => Refusal::File {
+                name,
+                why: FileFault::Script(why),
             },
         }
     }

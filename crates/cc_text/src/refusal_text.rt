@@ -1,9 +1,10 @@
 //! The line that refuses a file.
 ghost use Rattle.std.specs.Prelude.{◌≡◌, IfOk, string_bytes};
-ghost use Rattle.cc_text.specs.Refusals.{file_line, image_line, port_line, sequence_line, certificate_line, assembly_line};
+ghost use Rattle.cc_text.specs.Refusals.{file_line, image_line, port_line, sequence_line, certificate_line, assembly_line, script_line};
 
 use crate::refusal::FileFault;
 use c25_asm::AsmFault;
+use c25_debug::ScriptFault;
 use c25_image::{ImageFault, PortFault};
 use cc_compile::CertFault;
 use lay_text::SeqFault;
@@ -97,6 +98,21 @@ fn assembly_line(alloc: Global, name: &str, fault: AsmFault) -> Result<String, N
     }
 }
 
+// The line that refuses a script.
+fn script_line(alloc: Global, name: &str, fault: ScriptFault) -> Result<String, NoMemory>
+    ensures { IfOk result (λ line. string_bytes line ≡ script_line name.now fault) }
+{
+    match fault {
+        ScriptFault::BadLine { line } => {
+            Ok(format!(in alloc; "file refused: {name} bad line {line}\n")?)
+        }
+        ScriptFault::TooLong { count } => {
+            Ok(format!(in alloc; "file refused: {name} too long {count}\n")?)
+        }
+        ScriptFault::NoMemory => Err(NoMemory),
+    }
+}
+
 /// The line that refuses a file of a name, with its line feed. Want of memory is no fault of one, and has none.
 pub fn file_line(alloc: Global, name: &str, fault: FileFault) -> Result<String, NoMemory>
     ensures { IfOk result (λ line. string_bytes line ≡ file_line name.now fault) }
@@ -109,5 +125,6 @@ pub fn file_line(alloc: Global, name: &str, fault: FileFault) -> Result<String, 
         FileFault::Sequence(why) => sequence_line(alloc, name, why),
         FileFault::Certificate(why) => certificate_line(alloc, name, why),
         FileFault::Assembly(why) => assembly_line(alloc, name, why),
+        FileFault::Script(why) => script_line(alloc, name, why),
     }
 }

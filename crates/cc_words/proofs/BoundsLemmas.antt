@@ -5,11 +5,10 @@ use Rattle.std.specs.Str.Parse.{digits_value, without_leading_plus}
 use Rattle.clap.specs.Values.{IsUnsignedIn}
 use Rattle.clap.proofs.ValueTestLemmas.{accepts-Accepts}
 use Rattle.clap.specs.Words.{Row, Text, first_of, matches_of, one_of}
-use Rattle.clap.specs.ValueTests.{accepts}
 use Rattle.clap.specs.declared.builder.value_parser.ValueParser.TheVariants as parser
 use Rattle.cc_words.specs.declared.name.Name.{Name}
 use Rattle.cc_words.specs.declared.name.Name.TheVariants as name
-use Rattle.cc_words.specs.Asked.{Asked, ToAssemble, ToBuild, ToCheck, ToGenerate, ToList, ToRun, ToEvaluate, ToExecute, ToLayOut, app_of_name, asked, asked_to, both_of, build_of, dis_of, gen_of, name_of, rows_ask, is_number_to, is_taken, layout_of, number_of, number_to, numbered_of}
+use Rattle.cc_words.specs.Asked.{Asked, ToAssemble, ToBuild, ToCheck, ToDebug, ToGenerate, ToList, ToRun, ToEvaluate, ToExecute, ToLayOut, app_of_name, asked_to, both_of, build_of, debug_of, dis_of, gen_of, name_of, rows_ask, is_number_to, is_taken, layout_of, number_of, number_to, numbered_of}
 use Rattle.cc_words.specs.Commands.{greatest_budget, greatest_program, greatest_registers, greatest_step, greatest_steps, greatest_turns}
 use Rattle.cc_words.specs.Bounds.{AsksWithin, IsWithinBounds}
 
@@ -77,6 +76,15 @@ dis_bounded rows = go (first_of (codes "image") rows)
     go None = tt
     go (Some image) = tt
 
+debug_bounded : (rows : List Row) → IfSome (debug_of rows) IsWithinBounds
+debug_bounded rows = names (first_of (codes "image") rows) (first_of (codes "ports") rows) (first_of (codes "script") rows)
+  where
+    names : (a b c : Option Text) → IfSome (option_and_then (λ i. option_and_then (λ p. option_map (ToDebug i p) c) b) a) IsWithinBounds
+    names None b c = tt
+    names (Some a) None c = tt
+    names (Some a) (Some b) None = tt
+    names (Some a) (Some b) (Some c) = tt
+
 gen_bounded : (rows : List Row) → IfSome (gen_of rows) IsWithinBounds
 gen_bounded rows = go (number_of (codes "number") greatest_program rows) refl
   where
@@ -112,6 +120,7 @@ rows_bounded name.Check = both_bounded _ _ ToCheck (λ a b. tt)
 rows_bounded name.Asm = both_bounded _ _ ToAssemble (λ a b. tt)
 rows_bounded name.Dis = dis_bounded
 rows_bounded name.Gen = gen_bounded
+rows_bounded name.Debug = debug_bounded
 
 pub within_asked : AsksWithin
 unfolding asked_to

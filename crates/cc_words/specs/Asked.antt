@@ -5,7 +5,7 @@ use Rattle.std.specs.Prelude.{option_map, option_and_then}
 use Rattle.std.specs.Str.{bytes_eq}
 use Rattle.clap.specs.Words.{App, Row, Text, first_of, matches_of}
 pub use Rattle.cc_options.specs.Options.{is_number_to, is_taken, number_of, number_to, texts_of}
-use Rattle.cc_words.specs.Commands.{asm_app, build_app, check_app, dis_app, exec_app, gen_app, layout_app, means_app, run_app}
+use Rattle.cc_words.specs.Commands.{asm_app, build_app, check_app, debug_app, dis_app, exec_app, gen_app, layout_app, means_app, run_app}
 use Rattle.cc_words.specs.Commands.{greatest_budget, greatest_program, greatest_registers, greatest_step}
 use Rattle.cc_words.specs.Commands.{greatest_steps, greatest_turns}
 use Rattle.cc_words.specs.declared.name.Name.{Name}
@@ -17,8 +17,8 @@ use Rattle.cc_words.specs.declared.asked.Request.TheVariants as request
 -- within so large a budget, at such a step, to run an image on ports for at most so many steps, to
 -- evaluate a source on ports with at most so many turns, to compile a source and run it so, to search a
 -- layout of a sequence for so many registers within so large a budget, to check an image by a
--- certificate, to assemble a text to an image, to list an image, or to make a program from a number and
--- run it
+-- certificate, to assemble a text to an image, to list an image, to make a program from a number and
+-- run it, or to follow a script over an image on ports
 pub data Asked : Type 0 where
   ToBuild : Text → Text → ℕ → ℕ → ℕ → Asked
   ToRun : Text → Text → ℕ → Asked
@@ -29,6 +29,7 @@ pub data Asked : Type 0 where
   ToAssemble : Text → Text → Asked
   ToList : Text → Asked
   ToGenerate : ℕ → Asked
+  ToDebug : Text → Text → Text → Asked
 
 -- a request, as what it asks for
 abbrev pub told : Request → Asked
@@ -42,6 +43,7 @@ told (request.Check asked) = ToCheck asked.image.now asked.certificate.now
 told (request.Asm asked) = ToAssemble asked.text.now asked.image.now
 told (request.Dis asked) = ToList asked.image.now
 told (request.Gen asked) = ToGenerate asked.number
+told (request.Debug asked) = ToDebug asked.image.now asked.ports.now asked.script.now
 
 -- what names and numbers ask for, each of which may be absent: then for nothing
 abbrev pub both_by : (Text → Text → Asked) → Option Text → Option Text → Option Asked
@@ -60,6 +62,10 @@ build_by source image registers budget step =
 abbrev pub layout_by : Option Text → Option ℕ → Option ℕ → Option Asked
 layout_by sequence registers budget =
     option_and_then (λ s. option_and_then (λ r. option_map (ToLayOut s r) budget) registers) sequence
+
+abbrev pub debug_by : Option Text → Option Text → Option Text → Option Asked
+debug_by image ports script =
+    option_and_then (λ i. option_and_then (λ p. option_map (ToDebug i p) script) ports) image
 
 -- what the matches of `build` ask for
 abbrev pub build_of : List Row → Option Asked
@@ -111,6 +117,10 @@ dis_of rows = option_map ToList (first_of (codes "image") rows)
 abbrev pub gen_of : List Row → Option Asked
 gen_of rows = option_map ToGenerate (number_of (codes "number") greatest_program rows)
 
+-- what the matches of `debug` ask for
+abbrev pub debug_of : List Row → Option Asked
+debug_of rows = debug_by (first_of (codes "image") rows) (first_of (codes "ports") rows) (first_of (codes "script") rows)
+
 -- what the words of a command ask for, of which the first is its name
 unfoldable pub asked_to : App → (List Row → Option Asked) → List Text → Option Asked
 asked_to app of_rows words = if is_taken app words then of_rows (matches_of app words) else None
@@ -142,6 +152,9 @@ asked_to_list = asked_to dis_app dis_of
 abbrev pub asked_to_generate : List Text → Option Asked
 asked_to_generate = asked_to gen_app gen_of
 
+abbrev pub asked_to_debug : List Text → Option Asked
+asked_to_debug = asked_to debug_app debug_of
+
 -- the command that a word chooses
 abbrev pub name_of : Text → Option Name
 name_of word = if bytes_eq word (codes "build") then Some name.Build
@@ -152,7 +165,8 @@ name_of word = if bytes_eq word (codes "build") then Some name.Build
     else (if bytes_eq word (codes "check") then Some name.Check
     else (if bytes_eq word (codes "asm") then Some name.Asm
     else (if bytes_eq word (codes "dis") then Some name.Dis
-    else (if bytes_eq word (codes "gen") then Some name.Gen else None))))))))
+    else (if bytes_eq word (codes "gen") then Some name.Gen
+    else (if bytes_eq word (codes "debug") then Some name.Debug else None)))))))))
 
 -- how `clap` reads the words of a command
 abbrev pub app_of_name : Name → App
@@ -165,6 +179,7 @@ app_of_name name.Check = check_app
 app_of_name name.Asm = asm_app
 app_of_name name.Dis = dis_app
 app_of_name name.Gen = gen_app
+app_of_name name.Debug = debug_app
 
 -- what its matches ask for
 abbrev pub rows_ask : Name → List Row → Option Asked
@@ -177,6 +192,7 @@ rows_ask name.Check = check_of
 rows_ask name.Asm = asm_of
 rows_ask name.Dis = dis_of
 rows_ask name.Gen = gen_of
+rows_ask name.Debug = debug_of
 
 -- what the words ask for, if anything: the first word chooses the command
 abbrev pub asked : List Text → Option Asked

@@ -99,6 +99,10 @@ asm_app = named_app (codes "asm") (codes "text") (codes "image")
 abbrev pub dis_app : App
 dis_app = single_app (codes "dis") (codes "image")
 
+-- `debug IMG PORTS SCRIPT`
+abbrev pub debug_app : App
+debug_app = with_rule (named_app (codes "debug") (codes "image") (codes "ports")) (name_rule (codes "script"))
+
 -- `gen N`
 abbrev pub gen_app : App
 gen_app = with_rule (new_app (codes "gen")) (count_rule (codes "number") greatest_program)

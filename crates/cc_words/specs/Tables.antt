@@ -3,7 +3,7 @@ use Rattle.std.specs.Prelude.{ℕ, nat_lt, Option, Some, None, codes, if◌then�
 use Rattle.clap.specs.Words.{Text}
 use Rattle.cc_options.specs.Options.{Options, Quantity, Values}
 use Rattle.cc_words.specs.Asked.{Asked, ToAssemble, ToCheck, ToEvaluate, ToExecute, ToGenerate}
-use Rattle.cc_words.specs.Asked.{ToList, ToRun, both_by, build_by, layout_by, numbered_by}
+use Rattle.cc_words.specs.Asked.{ToList, ToRun, both_by, build_by, debug_by, layout_by, numbered_by}
 use Rattle.cc_words.specs.Commands.{budget_rule, count_rule, greatest_budget, greatest_program, greatest_registers}
 use Rattle.cc_words.specs.Commands.{greatest_step, greatest_steps, greatest_turns, registers_rule, step_rule}
 use Rattle.cc_words.specs.Commands.{steps_rule, turns_rule}
@@ -38,6 +38,7 @@ two_names word first second number = record {
   word = word;
   first = Some first;
   second = Some second;
+  third = None;
   one = number;
   two = None;
   three = None;
@@ -56,6 +57,7 @@ options_of_name name.Layout = record {
   word = codes "layout";
   first = Some (codes "sequence");
   second = None;
+  third = None;
   one = Some registers;
   two = Some budget;
   three = None;
@@ -66,6 +68,7 @@ options_of_name name.Dis = record {
   word = codes "dis";
   first = Some (codes "image");
   second = None;
+  third = None;
   one = None;
   two = None;
   three = None;
@@ -74,10 +77,12 @@ options_of_name name.Gen = record {
   word = codes "gen";
   first = None;
   second = None;
+  third = None;
   one = Some program;
   two = None;
   three = None;
 }
+options_of_name name.Debug = record (two_names (codes "debug") (codes "image") (codes "ports") None) { third = Some (codes "script") }
 
 -- a number that a byte holds
 abbrev pub byte_of : Option ℕ → Option ℕ
@@ -94,3 +99,4 @@ values_ask name.Check v = both_by ToCheck v.first v.second
 values_ask name.Asm v = both_by ToAssemble v.first v.second
 values_ask name.Dis v = option_map ToList v.first
 values_ask name.Gen v = option_map ToGenerate v.one
+values_ask name.Debug v = debug_by v.first v.second v.third

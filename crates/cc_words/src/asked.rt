@@ -5,6 +5,7 @@ ghost use Rattle.cc_words.specs.Asked.{app_of_name, asked, asked_to, rows_ask, t
 use crate::asm::Asm;
 use crate::build::Build;
 use crate::check::Check;
+use crate::debug::Debug;
 use crate::dis::Dis;
 use crate::exec::Exec;
 use crate::generated::Gen;
@@ -28,6 +29,7 @@ pub enum Request<'a> {
     Asm(Asm<'a>),
     Dis(Dis<'a>),
     Gen(Gen),
+    Debug(Debug<'a>),
 }
 
 // What the words of a command ask for, of which the first is its name.

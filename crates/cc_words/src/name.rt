@@ -8,7 +8,7 @@ ghost use Rattle.cc_words.specs.Tables.{options_of_name, values_ask};
 
 use crate::asked::Request;
 use crate::options::{budget, program, registers, step, steps, turns};
-use crate::{asm, build, check, dis, exec, generated, layout, means, run};
+use crate::{asm, build, check, debug, dis, exec, generated, layout, means, run};
 use cc_options::{Given, Number, Table};
 
 /// A command.
@@ -23,6 +23,7 @@ pub(crate) enum Name {
     Asm,
     Dis,
     Gen,
+    Debug,
 }
 
 impl Name {
@@ -40,6 +41,7 @@ impl Name {
             "asm" => Some(Name::Asm),
             "dis" => Some(Name::Dis),
             "gen" => Some(Name::Gen),
+            "debug" => Some(Name::Debug),
             _ => None,
         }
     }
@@ -73,6 +75,10 @@ impl Name {
                 second: None,
                 ..two_names("gen", "", "", Some(program()))
             },
+            Name::Debug => Table {
+                third: Some("script"),
+                ..two_names("debug", "image", "ports", None)
+            },
         }
     }
 
@@ -90,6 +96,7 @@ impl Name {
             Name::Asm => asm::found(given),
             Name::Dis => dis::found(given),
             Name::Gen => generated::found(given),
+            Name::Debug => debug::found(given),
         }
     }
 }
@@ -107,6 +114,7 @@ fn two_names<'a>(
         name,
         first: Some(first),
         second: Some(second),
+        third: None,
         one: number,
         two: None,
         three: None,

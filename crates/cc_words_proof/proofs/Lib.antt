@@ -1,3 +1,4 @@
+pub mod DebugLemmas
 pub mod PlainLemmas
 pub mod LayoutLemmas
 pub mod BuildLemmas

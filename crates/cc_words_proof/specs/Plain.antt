@@ -2,7 +2,7 @@
 use Rattle.std.specs.Prelude.{◌≡◌, ◌≢◌, ◌++◌, ℕ, true, false, List, [], ◌∷◌, codes}
 use Rattle.std.specs.Str.Parse.{digits_value, without_leading_plus}
 use Rattle.clap.specs.Words.{Text}
-use Rattle.cc_words.specs.Asked.{Asked, ToBuild, ToRun, ToEvaluate, ToExecute, ToLayOut, ToCheck, ToAssemble, ToList, ToGenerate}
+use Rattle.cc_words.specs.Asked.{Asked, ToBuild, ToRun, ToEvaluate, ToExecute, ToLayOut, ToCheck, ToAssemble, ToList, ToGenerate, ToDebug}
 use Rattle.cc_words.specs.Asked.{Asks, AsksNothing, is_number_to, is_plain_word}
 use Rattle.cc_words.specs.Commands.{greatest_budget, greatest_program, greatest_registers, greatest_step}
 use Rattle.cc_words.specs.Commands.{greatest_steps, greatest_turns}
@@ -253,3 +253,16 @@ GeneratesOneNumber = (text : Text) → is_plain_word text ≡ true
 -- `gen` with no number
 abbrev pub GeneratesNoOtherWords : Type 0
 GeneratesNoOtherWords = AsksNothing (codes "gen" ∷ [])
+
+-- `debug IMG PORTS SCRIPT`
+abbrev pub DebugsThreeNames : Type 0
+DebugsThreeNames = OnPlain (λ a b. (c : Text) → is_plain_word c ≡ true
+    → Asks (codes "debug" ∷ a ∷ b ∷ c ∷ []) (ToDebug a b c))
+
+-- `debug` with fewer names, or with more, whatever follows
+abbrev pub DebugsNoOtherNames : Type 0
+DebugsNoOtherNames = AsksNothing (codes "debug" ∷ [])
+    × ((a : Text) → is_plain_word a ≡ true → AsksNothing (codes "debug" ∷ a ∷ []))
+    × OnPlain (λ a b. AsksNothing (codes "debug" ∷ a ∷ b ∷ []))
+    × OnPlain (λ a b. (c d : Text) (rest : List Text) → is_plain_word c ≡ true → is_plain_word d ≡ true
+    → AsksNothing (codes "debug" ∷ a ∷ b ∷ c ∷ d ∷ rest))

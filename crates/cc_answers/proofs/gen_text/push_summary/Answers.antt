@@ -2,7 +2,7 @@ use Rattle.std.proofs.Common.{codes, length}
 use Rattle.std.specs.Prelude.{decimal}
 use Rattle.c25_image.specs.Hex.{hex4}
 use Rattle.cc_answers.specs.GenText.{last_word}
-use Rattle.cc_answers.specs.RunText.{ending_line}
+use Rattle.c25_image.specs.StopLines.{ending_line}
 use Rattle.cc_answers.proofs.Pushing.{summed}
 use Rattle.cc_answers.proofs.gen_text.push_summary.Goals as goal
 

@@ -2,7 +2,7 @@ use Rattle.std.proofs.Common.{ap, subst, ◌∷◌, [], List, length, arith}
 use Rattle.std.specs.Prelude.{string_bytes}
 use Rattle.cc_files.specs.World.{shelves}
 use Rattle.cc_driver.specs.Build.{source_file}
-use Rattle.cc_driver.specs.BuildTexts.{asked_of, options_of, stored_of, answer_of}
+use Rattle.cc_driver.specs.BuildTexts.{asked_of, stored_of, answer_of}
 use Rattle.cc_files.specs.Stores.{OnlyUnder}
 use Rattle.cc_driver.specs.Work.{WorkRefused, AtFetch}
 use Rattle.cc_driver.proofs.StoreLemmas.{still_stored, still_under}

@@ -1,6 +1,6 @@
 -- The image agrees with the program, and is through in time by its own plan.
 use mathlib.Core.Logic.{∥∥₁_map₂}
-use Rattle.std.proofs.Common.{◌≡◌, ℕ, List, ap}
+use Rattle.std.proofs.Common.{ap}
 use Rattle.word_base.specs.Ports.{input_of}
 use Rattle.tree_code.specs.Lowered.{lowered_program}
 use Rattle.c25_sim.specs.Taken.{of_sixteen}

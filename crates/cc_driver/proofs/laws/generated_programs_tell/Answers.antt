@@ -1,6 +1,6 @@
 -- The same of a run on no input.
 use mathlib.Core.Logic.{∥∥₁_map₂}
-use Rattle.std.proofs.Common.{◌≡◌, ◌∙◌, ℕ, [], length, refl, ap}
+use Rattle.std.proofs.Common.{◌∙◌, [], length, refl, ap}
 use Rattle.word_base.specs.Ports.{input_of}
 use Rattle.tree_code.specs.Lowered.{lowered_program}
 use Rattle.c25_sim.specs.Taken.{of_sixteen}

@@ -1,4 +1,4 @@
-use Rattle.std.proofs.Common.{◌≡◌, ◌<◌, ◌^◌, ◌∙◌, sym, ap, arith}
+use Rattle.std.proofs.Common.{◌<◌, ◌^◌, ◌∙◌, sym, ap, arith}
 use Rattle.lay_tree.specs.Search.{search_answer, answer_lists, answer_cost}
 use Rattle.lay_node.proofs.Proper.{cost_small}
 use Rattle.cc_driver.proofs.OptimalLines.{optimal_is_certified}

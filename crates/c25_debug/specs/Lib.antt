@@ -1,0 +1,4 @@
+pub mod Script
+pub mod Looks
+pub mod Session
+pub mod Standing
