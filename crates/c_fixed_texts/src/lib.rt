@@ -3,6 +3,8 @@
 
 mod keywords;
 mod marks;
+mod spellings;
 
 pub use keywords::keyword;
 pub use marks::{mark_of_one, mark_of_three, mark_of_two};
+pub use spellings::{keyword_text, mark_text};

@@ -42,7 +42,7 @@ sign_spelling text (OfCharacter value h) e = let k = sym (character_sort text va
 sign_spelling text (OfMark mark h) e = (mark, h)
 
 -- a run is the longest
-run_longest : (Part : ℕ → Type 0) (run rest other behind : List ℕ) → AllByRecursion Part other → ((c : ℕ) (tail : List ℕ) → rest ≡ c ∷ tail → Part c → ⊥) → run ++ rest ≡ other ++ behind → length other ≤ length run
+pub run_longest : (Part : ℕ → Type 0) (run rest other behind : List ℕ) → AllByRecursion Part other → ((c : ℕ) (tail : List ℕ) → rest ≡ c ∷ tail → Part c → ⊥) → run ++ rest ≡ other ++ behind → length other ≤ length run
 run_longest Part run rest [] behind parts ends e = omega arith
 run_longest Part [] rest (c ∷ other) behind parts ends e = absurd (ends c (other ++ behind) e parts.0)
 run_longest Part (x ∷ run) rest (c ∷ other) behind parts ends e = let shorter = run_longest Part run rest other behind parts.1 ends cc in omega (arith, shorter)

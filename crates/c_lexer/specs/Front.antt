@@ -1,5 +1,5 @@
 -- What stands at the front of a text, and what is behind it: the parts in which a text is read.
-use Rattle.std.specs.Prelude.{◌≡◌, ◌≢◌, ◌⊎◌, ℕ, List, [], ◌∷◌, ◌++◌, length}
+use Rattle.std.specs.Prelude.{◌≡◌, ◌≢◌, ◌⊎◌, ℕ, List, ◌∷◌, ◌++◌, length}
 use Rattle.std.specs.List.{AllByRecursion}
 use Rattle.word_base.specs.Name.{IsNamePart}
 use Rattle.c_syntax.specs.declared.token.TokenKind.{TokenKind}

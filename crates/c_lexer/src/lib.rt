@@ -11,11 +11,13 @@ mod lexer;
 mod runs;
 mod scanner;
 mod words;
+mod writing;
 
 pub use c_fixed_texts::keyword;
 pub use c_spellings::{behind_blank, mark, number};
 pub use characters::character;
 pub use fault::LexFault;
-pub use laws::one_outcome;
+pub use laws::{one_outcome, tokens_are_spelled};
 pub use lexer::lex;
 pub use words::word;
+pub use writing::token_text;

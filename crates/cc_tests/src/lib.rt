@@ -17,4 +17,6 @@ mod machines;
 #[cfg(test)]
 mod system;
 #[cfg(test)]
+mod tokens;
+#[cfg(test)]
 mod words;

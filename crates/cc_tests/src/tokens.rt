@@ -1,0 +1,42 @@
+//! Texts of tokens, decided by hand from docs/LANGUAGE.md.
+use c_lexer::{lex, token_text};
+use std::process::Abort;
+use std::test::Fail;
+
+// Writes the tokens of a source, and those of what is written.
+fn is_written<R: AllocGlobal + Abort>(rt: &R, source: &str, text: &str) -> Result<(), Fail> {
+    let alloc = rt.alloc();
+    assert!(rt; source.len() <= 1_000);
+    let tokens = lex(alloc, source.as_bytes())?;
+    let written = token_text(alloc, &tokens)?;
+    assert_eq!(rt; written.as_slice(), text.as_bytes(), "at {source}");
+    assert!(rt; written.len() <= 1_000_000);
+    let again = token_text(alloc, &lex(alloc, &written)?)?;
+    assert_eq!(rt; again.as_slice(), text.as_bytes(), "behind {source}");
+    Ok(())
+}
+
+#[test]
+fn words_and_marks(rt: HostRuntime) -> Result<(), Fail> {
+    is_written(&rt, "", "")?;
+    is_written(
+        &rt,
+        "int main(void){/* a */return x_1>>=y;}",
+        "int main ( void ) {\nreturn x_1 >>= y ;\n}\n",
+    )?;
+    is_written(&rt, "a+++b-->c...", "a ++ + b -- > c ... ")
+}
+
+#[test]
+fn constants(rt: HostRuntime) -> Result<(), Fail> {
+    is_written(
+        &rt,
+        "0 00 1 10u 017 0X1FU 5000000000 0xfFfFfFfFf 4294967295 0x10",
+        "0x0 0x0 1 10u 0xf 0x1fu 4294967295 0xffffffff 4294967295 0x10 ",
+    )?;
+    is_written(
+        &rt,
+        "' ' '\\'' '\\n' '\\777' '\\xffff' '\\x0'",
+        "'\\x0020' '\\x0027' '\\x000a' '\\x01ff' '\\xffff' '\\x0000' ",
+    )
+}
