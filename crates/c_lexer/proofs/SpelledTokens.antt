@@ -12,7 +12,7 @@ use Rattle.c_syntax.specs.declared.token.TokenKind.TheVariants.{Word, Name, Numb
 use Rattle.c_syntax.specs.Constants.{number_of, Radix, Decimal, Octal, Hexadecimal, IsBare, is_decimal, beside, escapes, IsItem, Plain, Escape, OctalEscape, HexEscape}
 use Rattle.c_syntax.specs.Spelling.{Means}
 use Rattle.c_syntax.specs.Lexes.{Piece, Blank, Spelled, AllStand, tokens_from, Lexes}
-use Rattle.c_lexer.specs.TokenText.{IsSpelled}
+use Rattle.c_lexer.specs.TokenText.{HasSpelling}
 use Rattle.c_lexer.proofs.CharacterLemmas.{number_below}
 
 -- ---- numbers
@@ -52,7 +52,7 @@ item_small text value (HexEscape digits is are few e) = omega (arith, e, number_
 
 -- ---- each kind
 
-means_spelled : (text : List ℕ) (kind : TokenKind) → Means text kind → IsSpelled kind
+means_spelled : (text : List ℕ) (kind : TokenKind) → Means text kind → HasSpelling kind
 means_spelled text (Word keyword) m = tt {0}
 means_spelled text (Name name) m = (subst IsName (sym m.0) m.1, λ keyword e. m.2 keyword (sym m.0 ∙ e))
 means_spelled text (Number value marked decimal) m = (
@@ -62,11 +62,11 @@ means_spelled text (Number value marked decimal) m = (
 means_spelled text (Char value) m = item_small m.item value m.stands
 means_spelled text (Mark mark) m = tt {0}
 
-pieces_spelled : (pieces : List Piece) (at : ℕ) (rest : List ℕ) → AllStand pieces rest → AllByRecursion (λ t. IsSpelled t.kind) (tokens_from at pieces)
+pieces_spelled : (pieces : List Piece) (at : ℕ) (rest : List ℕ) → AllStand pieces rest → AllByRecursion (λ t. HasSpelling t.kind) (tokens_from at pieces)
 pieces_spelled [] at rest stand = tt {0}
 pieces_spelled (Blank text ∷ pieces) at rest stand = pieces_spelled pieces (at + length text) rest stand.1
 pieces_spelled (Spelled text kind ∷ pieces) at rest stand = (means_spelled text kind stand.0.1, pieces_spelled pieces (at + length text) rest stand.1)
 
-pub lexed_spelled : (text : List ℕ) (tokens : List Token) → Lexes text tokens → All (λ t. IsSpelled t.kind) tokens
+pub lexed_spelled : (text : List ℕ) (tokens : List Token) → Lexes text tokens → All (λ t. HasSpelling t.kind) tokens
 lexed_spelled text tokens l =
-    All-from_recursion (λ t. IsSpelled t.kind) tokens (subst (AllByRecursion (λ t. IsSpelled t.kind)) (sym l.0.are) (pieces_spelled l.0.pieces 0 [] l.0.stand))
+    All-from_recursion (λ t. HasSpelling t.kind) tokens (subst (AllByRecursion (λ t. HasSpelling t.kind)) (sym l.0.are) (pieces_spelled l.0.pieces 0 [] l.0.stand))

@@ -24,7 +24,7 @@ use Rattle.c_syntax.proofs.Sorts.{Void, Letter, Digit, Quote, Sign, sort_of, tex
 use Rattle.c_syntax.proofs.Spellings.{same_length_fronts}
 use Rattle.c_spellings.specs.Front.{HasNoBlank}
 use Rattle.c_lexer.specs.Front.{IsToken, BeginsWith, IsSign}
-use Rattle.c_lexer.specs.TokenText.{hexadecimal, number_text, suffix_text, kind_text, separator, tokens_text, placed_from, IsSpelled}
+use Rattle.c_lexer.specs.TokenText.{hexadecimal, number_text, suffix_text, kind_text, separator, tokens_text, placed_from, HasSpelling}
 use Rattle.c_lexer.proofs.ScannerLemmas.{run_longest, word_token, number_token, character_token, mark_token}
 
 -- ---- what stands behind a token
@@ -321,7 +321,7 @@ mark_there m sep rest is =
 
 -- ---- each kind
 
-spelled_there : (kind : TokenKind) (sep : ℕ) (rest : List ℕ) → IsSpelled kind → IsSeparator sep → IsLongest (kind_text kind) (sep ∷ rest) × Means (kind_text kind) kind
+spelled_there : (kind : TokenKind) (sep : ℕ) (rest : List ℕ) → HasSpelling kind → IsSeparator sep → IsLongest (kind_text kind) (sep ∷ rest) × Means (kind_text kind) kind
 spelled_there (Word keyword) sep rest h is =
     let letters = keyword_letters keyword in
     word_there (keyword_text keyword) rest sep (Word keyword) is letters.1 (lower_start (keyword_text keyword) letters.1 letters.0) (lower_parts (keyword_text keyword) letters.0) refl
@@ -362,7 +362,7 @@ unfolding pieces_of
 pieces_are [] = refl
 pieces_are (t ∷ ts) = append_assoc (kind_text t.kind) (separator t.kind ∷ []) (tokens_text ts) ∙ ap (λ l. kind_text t.kind ++ separator t.kind ∷ l) (pieces_are ts)
 
-pieces_stand : (tokens : List Token) → AllByRecursion (λ t. IsSpelled t.kind) tokens → AllStand (pieces_of tokens) []
+pieces_stand : (tokens : List Token) → AllByRecursion (λ t. HasSpelling t.kind) tokens → AllStand (pieces_of tokens) []
 unfolding pieces_of
 pieces_stand [] h = tt
 pieces_stand (t ∷ ts) h =
@@ -383,12 +383,12 @@ length_placed : (at : ℕ) (tokens : List Token) → length (placed_from at toke
 length_placed at [] = refl
 length_placed at (t ∷ ts) = ap suc (length_placed (at + (length (kind_text t.kind) + 1)) ts)
 
-pub lexes_again : (tokens : List Token) (text : List ℕ) → text ≡ tokens_text tokens → All (λ t. IsSpelled t.kind) tokens → length tokens ≤ most_tokens → Lexes text (placed_from 0 tokens)
+pub lexes_again : (tokens : List Token) (text : List ℕ) → text ≡ tokens_text tokens → All (λ t. HasSpelling t.kind) tokens → length tokens ≤ most_tokens → Lexes text (placed_from 0 tokens)
 lexes_again tokens text is each few = (
   record {
     pieces = pieces_of tokens;
     cut = is ∙ pieces_are tokens ∙ sym (append-nil (pieces_text (pieces_of tokens)));
-    stand = pieces_stand tokens (recursion_from_All (λ t. IsSpelled t.kind) tokens each);
+    stand = pieces_stand tokens (recursion_from_All (λ t. HasSpelling t.kind) tokens each);
     are = tokens_placed 0 tokens;
   },
   subst (λ n. n ≤ most_tokens) (sym (length_placed 0 tokens)) few,

@@ -10,7 +10,7 @@ use Rattle.c_syntax.specs.declared.token.TokenKind.TheVariants.{Word, Name, Numb
 use Rattle.c_syntax.specs.FixedTexts.{keyword_text, mark_text}
 use Rattle.c_syntax.specs.Constants.{greatest_value}
 
--- the last so many hexadecimal digits of a number at most, without leading zeros
+-- a number in hexadecimal digits without leading zeros, or its last ones where it has more than so many
 abbrev pub hexadecimal : ℕ → ℕ → List ℕ
 hexadecimal zero n = []
 hexadecimal (suc count) n = if nat_lt n 16 then hex_digit n ∷ [] else hexadecimal count (n / 16) ++ hex_digit (n % 16) ∷ []
@@ -25,7 +25,7 @@ abbrev pub suffix_text : Bool → List ℕ
 suffix_text true = codes "u"
 suffix_text false = []
 
--- a spelling that means a token
+-- the spelling that is written of a token
 abbrev pub kind_text : TokenKind → List ℕ
 kind_text (Word keyword) = keyword_text keyword
 kind_text (Name name) = name
@@ -49,10 +49,10 @@ placed_from at [] = []
 placed_from at (t ∷ ts) =
     record { kind = t.kind; at = at; len = length (kind_text t.kind) } ∷ placed_from (at + (length (kind_text t.kind) + 1)) ts
 
--- what a text can have as a token: no name that is a keyword or too long, no decimal number 0, and no value that is too large
-abbrev pub IsSpelled : TokenKind → Type 0
-IsSpelled (Word keyword) = Unit {0}
-IsSpelled (Name name) = IsName name × ((keyword : Keyword) → name ≢ keyword_text keyword)
-IsSpelled (Number value marked is_decimal) = (value ≤ greatest_value) × (is_decimal ≡ true → value ≢ 0)
-IsSpelled (Char value) = value < 2 ^ 16
-IsSpelled (Mark mark) = Unit {0}
+-- what a text can have as a token: a name that is one and no keyword, no decimal number 0, and no value beyond its bits
+abbrev pub HasSpelling : TokenKind → Type 0
+HasSpelling (Word keyword) = Unit {0}
+HasSpelling (Name name) = IsName name × ((keyword : Keyword) → name ≢ keyword_text keyword)
+HasSpelling (Number value marked is_decimal) = (value ≤ greatest_value) × (is_decimal ≡ true → value ≢ 0)
+HasSpelling (Char value) = value < 2 ^ 16
+HasSpelling (Mark mark) = Unit {0}

@@ -5,7 +5,7 @@ ghost use Rattle.c_syntax.specs.Lexes.{Lexes};
 ghost use Rattle.c_lexer.specs.declared.fault.LexFault.{LexFault};
 ghost use Rattle.c_lexer.specs.declared.fault.LexFault.TheVariants.{NoMemory};
 ghost use Rattle.c_lexer.specs.LexFaults.{Says};
-ghost use Rattle.c_lexer.specs.TokenText.{IsSpelled};
+ghost use Rattle.c_lexer.specs.TokenText.{HasSpelling};
 
 /// A text has at most one fault, and none where it has tokens.
 pub fn one_outcome()
@@ -13,7 +13,7 @@ pub fn one_outcome()
     ensures no_fault { (text : List ℕ) (tokens : List Token) (fault : LexFault) → fault ≢ NoMemory → Lexes text tokens → Says text fault → ⊥ }
 {}
 
-/// Each token of a text can be spelled, so that `token_text` gives its kind back.
-pub fn tokens_are_spelled()
-    ensures { (text : List ℕ) (tokens : List Token) → Lexes text tokens → All (λ t. IsSpelled t.kind) tokens }
+/// Each token of a text has a spelling, so that `token_text` gives it back.
+pub fn tokens_have_spellings()
+    ensures { (text : List ℕ) (tokens : List Token) → Lexes text tokens → All (λ t. HasSpelling t.kind) tokens }
 {}

@@ -1,4 +1,4 @@
-//! The lexer: from the bytes of a C source to its tokens (ISO 9899:1990 6.1).
+//! The lexer: from the bytes of a C source to its tokens (ISO 9899:1990 6.1), and from tokens to a text that has them.
 //!
 //! The tokens are those of `Lexes`, a definition of `c_syntax`: a text is blanks and spellings, one behind another, and
 //! each spelling is the longest that begins at its place. A refusal names the first fault in the text.
@@ -17,7 +17,7 @@ pub use c_fixed_texts::keyword;
 pub use c_spellings::{behind_blank, mark, number};
 pub use characters::character;
 pub use fault::LexFault;
-pub use laws::{one_outcome, tokens_are_spelled};
+pub use laws::{one_outcome, tokens_have_spellings};
 pub use lexer::lex;
 pub use words::word;
 pub use writing::token_text;

@@ -3,7 +3,7 @@ ghost use Rattle.std.specs.Prelude.{◌≡◌, ◌++◌, ◌≤◌, ◌<◌, len
 ghost use Rattle.text_base.specs.Hex.{hex_digit, hex4};
 ghost use Rattle.c_syntax.specs.Lexes.{Lexes, most_tokens};
 ghost use Rattle.c_lexer.specs.TokenText as texts;
-ghost use Rattle.c_lexer.specs.TokenText.{hexadecimal, number_text, suffix_text, kind_text, tokens_text, placed_from, IsSpelled};
+ghost use Rattle.c_lexer.specs.TokenText.{hexadecimal, number_text, suffix_text, kind_text, tokens_text, placed_from, HasSpelling};
 
 use c_fixed_texts::{keyword_text, mark_text};
 use c_syntax::{Punct, Token, TokenKind};
@@ -12,7 +12,7 @@ use text_base::{push_decimal, push_hex};
 use word_base::NoMemory;
 
 /// The most hexadecimal digits of a number of 32 bits.
-const DIGITS: u32 = 8;
+const HEXADECIMAL_DIGITS: u32 = 8;
 
 // A lower-case digit.
 fn digit_of(value: u32) -> u8
@@ -26,7 +26,7 @@ fn digit_of(value: u32) -> u8
     }
 }
 
-// A number in at most so many hexadecimal digits, without leading zeros.
+// A number in hexadecimal digits without leading zeros, or its last ones where it has more than so many.
 fn push_hexadecimal(text: &mut Vec<u8>, number: u32, most: u32) -> Result<(), NoMemory>
     ensures { OnOk result (text.new.items ≡ text.old.items ++ hexadecimal most number) }
 {
@@ -53,7 +53,7 @@ fn push_number(
         push_decimal(text, u64::from(value))?;
     } else {
         text.extend_from_slice(b"0x")?;
-        push_hexadecimal(text, value, DIGITS)?;
+        push_hexadecimal(text, value, HEXADECIMAL_DIGITS)?;
     }
     if unsigned_mark {
         text.push(b'u')?;
@@ -99,14 +99,16 @@ fn separator(kind: &TokenKind) -> u8
     }
 }
 
-/// The text of tokens: a spelling of each, and behind it a line feed where that is `;`, `{` or `}`, and else one space. A number that
-/// isn't decimal is written in hexadecimal digits without leading zeros, and a character constant by the four of its value; all else is
-/// spelled as it was. Only the want of memory is refused.
+/// The text of tokens: a spelling of each, and behind it a line feed where that is `;`, `{` or `}`, and else one space. A
+/// decimal number is the digits of its value, and another one `0x` and lower-case hexadecimal digits without leading zeros,
+/// each with a `u` where it is marked. A character is `'\x`, four such digits of its value and `'`. Names, keywords and marks
+/// are spelled as they were. Only the want of memory is refused.
 ///
-/// The text has tokens of the same kinds where each can be one of a text and they are at most 200,000. That holds of what `lex` answers.
+/// Where each can be a token of a text and they are at most 200,000, as is so of what `lex` answers, the text has the same
+/// tokens but for their places and lengths.
 pub fn token_text(alloc: Global, tokens: &[Token]) -> Result<Vec<u8>, NoMemory>
     ensures text { IfOk result (λ text. text.items ≡ tokens_text tokens.now) }
-    ensures lexes { IfOk result (λ text. All (λ t. IsSpelled t.kind) tokens.now → length tokens.now ≤ most_tokens
+    ensures lexes { IfOk result (λ text. All (λ t. HasSpelling t.kind) tokens.now → length tokens.now ≤ most_tokens
         → Lexes text.items (placed_from 0 tokens.now)) }
 {
     let mut text = Vec::new(alloc);

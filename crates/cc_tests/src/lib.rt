@@ -1,5 +1,5 @@
-//! Tests that need values: a shelf and a sink whose calls fail, real files, images that are read and written, and machines that go
-//! on. All other cases are data, of the program `c_cases` and of `tests/program.sh`.
+//! Tests that need values: a shelf and a sink whose calls fail, real files, images and tokens that are read and written, and
+//! machines that go on. All other cases are data, of the program `c_cases` and of `tests/program.sh`.
 #![tactic(auto)]
 
 #[cfg(test)]

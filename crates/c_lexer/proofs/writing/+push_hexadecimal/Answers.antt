@@ -12,7 +12,8 @@ returns t c =
     let some : 0 < c.args.most = omega (arith, c.if-most-eq0.false) in
     let old = c.args.text.now.items in
     let n = c.args.number in
-    let pushed : c.push.new.self.items ≡ c.if-number-ge16.text.items ++ hex_digit (n % 16) ∷ [] = c.in_ok-push.ensures.items ∙ ap (λ d. c.if-number-ge16.text.items ++ d ∷ []) c.digit_of.ensures in
+    let pushed : c.push.new.self.items ≡ c.if-number-ge16.text.items ++ hex_digit (n % 16) ∷ [] =
+    ◌∙◌ {b = c.if-number-ge16.text.items ++ c.digit_of.result ∷ []} c.in_ok-push.ensures.items (ap (λ d. c.if-number-ge16.text.items ++ d ∷ []) c.digit_of.ensures) in
     elim c.if-number-ge16.branch [
       | then-number-ge16+in_ok-push_hexadecimal w ↦
           pushed

@@ -1,5 +1,5 @@
 use Rattle.c_lexer.proofs.SpelledTokens.{lexed_spelled}
-use Rattle.c_lexer.proofs.laws.tokens_are_spelled.Goals as goal
+use Rattle.c_lexer.proofs.laws.tokens_have_spellings.Goals as goal
 
 pub returns : goal.returns
 returns c = lexed_spelled
