@@ -62,7 +62,7 @@ means_spelled text (Number value marked decimal) m = (
 means_spelled text (Char value) m = item_small m.item value m.stands
 means_spelled text (Mark mark) m = tt {0}
 
-pieces_spelled : (pieces : List Piece) (at : ℕ) (rest : List ℕ) → AllStand pieces rest → AllByRecursion (λ t. HasSpelling t.kind) (tokens_from at pieces)
+pub pieces_spelled : (pieces : List Piece) (at : ℕ) (rest : List ℕ) → AllStand pieces rest → AllByRecursion (λ t. HasSpelling t.kind) (tokens_from at pieces)
 pieces_spelled [] at rest stand = tt {0}
 pieces_spelled (Blank text ∷ pieces) at rest stand = pieces_spelled pieces (at + length text) rest stand.1
 pieces_spelled (Spelled text kind ∷ pieces) at rest stand = (means_spelled text kind stand.0.1, pieces_spelled pieces (at + length text) rest stand.1)

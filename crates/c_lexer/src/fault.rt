@@ -40,12 +40,18 @@ impl<T: Drop> From<AllocFailed<T>> for LexFault {
 }
 
 /// Why no token stands at the front of a text.
-#[derive(Clone, Copy, PartialEq, Eq)]
-pub(crate) enum Flaw {
+#[derive(Clone, Copy, Debug, PartialEq, Eq)]
+pub enum Flaw {
+    /// A byte with which no blank and no token begins.
     BadByte,
+    /// A comment that isn't closed.
     OpenComment,
+    /// A digit with letters, digits and dots behind it that together are no number, or a quote that begins no
+    /// character constant.
     BadConstant,
+    /// A name of more than 127 characters.
     LongName,
+    /// Memory was wanting for the token.
     NoMemory,
 }
 
@@ -59,7 +65,7 @@ impl From<NoMemory> for Flaw {
 
 impl Flaw {
     /// The fault of a text that has this flaw at a place.
-    pub(crate) fn at(self, at: u32) -> LexFault
+    pub fn at(self, at: u32) -> LexFault
         ensures { result ≡ fault_of self at }
     {
         match self {

@@ -13,11 +13,13 @@ mod scanner;
 mod words;
 mod writing;
 
-pub use c_fixed_texts::keyword;
-pub use c_spellings::{behind_blank, mark, number};
+pub use c_fixed_texts::{keyword, keyword_text};
+pub use c_spellings::{behind_blank, behind_end, mark, number};
 pub use characters::character;
-pub use fault::LexFault;
+pub use fault::{Flaw, LexFault};
 pub use laws::{one_outcome, tokens_have_spellings};
 pub use lexer::lex;
+pub use runs::name_run;
+pub use scanner::{Spelled, token};
 pub use words::word;
 pub use writing::token_text;

@@ -13,7 +13,7 @@ fn is_number_part(byte: u8) -> bool
 }
 
 /// The parts of a name at the front, as many as there are, and what stands behind them.
-pub(crate) fn name_run(bytes: &[u8]) -> (&[u8], &[u8])
+pub fn name_run(bytes: &[u8]) -> (&[u8], &[u8])
     ensures { IsFrontRun IsNamePart bytes.now result.0.now result.1.now }
 {
     match bytes.iter().position(|byte| !is_name_part(*byte)) {

@@ -17,9 +17,9 @@ use word_base::is_name_start;
 
 /// What a token is, and the length of its spelling in bytes.
 #[derive(Drop)]
-pub(crate) struct Spelled {
-    pub(crate) kind: TokenKind,
-    pub(crate) size: usize,
+pub struct Spelled {
+    pub kind: TokenKind,
+    pub size: usize,
 }
 
 fn word_token(alloc: Global, bytes: &[u8]) -> Result<Spelled, Flaw>
@@ -84,8 +84,9 @@ fn mark_token(bytes: &[u8]) -> Result<Spelled, Flaw>
     }
 }
 
-/// The token at the front.
-pub(crate) fn token(alloc: Global, bytes: &[u8]) -> Result<Spelled, Flaw>
+/// The token at the front of a text that begins with no blank: the longest spelling there. What is refused is the flaw
+/// that stands there, or the want of memory.
+pub fn token(alloc: Global, bytes: &[u8]) -> Result<Spelled, Flaw>
     requires no_blank { HasNoBlank bytes.now }
     requires some { 0 < length bytes.now }
     ensures token { IfOk result (λ found. IsToken bytes.now found.kind found.size) }

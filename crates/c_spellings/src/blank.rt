@@ -12,9 +12,9 @@ fn is_space(byte: u8) -> bool
     matches!(byte, b' ' | b'\t'..=b'\r')
 }
 
-// What stands behind the next `*/`.
+/// What stands behind the next `*/`; nothing where there is none.
 #[tactic(auto, using(crate::proofs::BlankLemmas::passes_one, crate::proofs::BlankLemmas::behind_first, crate::proofs::BlankLemmas::passes_all, crate::proofs::BlankLemmas::passes_nothing))]
-fn behind_end(bytes: &[u8]) -> Option<&[u8]>
+pub fn behind_end(bytes: &[u8]) -> Option<&[u8]>
     ensures { MatchOption result (HasNoCommentEnd bytes.now) (λ rest. IsBehindCommentEnd bytes.now rest.now) }
 {
     let mut rest = bytes;

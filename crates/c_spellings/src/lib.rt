@@ -7,7 +7,7 @@ mod marks;
 mod numbers;
 mod prefix;
 
-pub use blank::behind_blank;
+pub use blank::{behind_blank, behind_end};
 pub use digits::digits_value;
 pub use marks::mark;
 pub use numbers::number;
