@@ -371,6 +371,12 @@ register 0: 0' "$@"
             wants 0 'returned 0000' "$@"
             rm -f -- "./${request[1]}" "./${request[2]}" "./${request[3]}"
             ;;
+        pre)
+            printf '#define N 7\nint a[N];' > "./${request[1]}"
+            wants 0 '' "$@"
+            echo 'int a [ 7 ] ;' | cmp -s - "./${request[2]}" || fail "no text under ${request[2]}: $*"
+            rm -f -- "./${request[1]}" "./${request[2]}"
+            ;;
         *) fail "another request: ${request[*]}" ;;
     esac
     [ -z "$(ls -A)" ] || fail "other files are left by '$*': $(ls -A)"
@@ -389,7 +395,7 @@ while IFS= read -r row; do
     fi
 done < <(rows words.txt)
 cd ..
-[ "$lists" -ge 286 ] || fail "words.txt has $lists lists"
+[ "$lists" -ge 322 ] || fail "words.txt has $lists lists"
 wants 2 'words refused' ''
 
 # Files as long as they may be, and one byte longer.

@@ -4,7 +4,7 @@
 #
 #     tests/refusals.sh [WHAT..]
 #
-# WHAT: output, filter, pieces, threads, certificate; all of them where none is given.
+# WHAT: output, filter, pieces, threads, certificate, macros; all of them where none is given.
 script=refusals
 . "$(dirname "${BASH_SOURCE[0]}")/common.sh"
 
@@ -81,7 +81,7 @@ refused_at() {
     runs=$((runs + 1))
     case $status in
         # (a line that refuses is left out where there is no memory to make it)
-        "$ends") cmp -s said wanted || { [ "$ends" -eq 9 ] && [ ! -s said ]; } || fail "another answer at allocation $number of '$words': $(head -n 1 said)" ;;
+        "$ends") cmp -s said wanted || { { [ "$ends" -eq 1 ] || [ "$ends" -eq 9 ]; } && [ ! -s said ]; } || fail "another answer at allocation $number of '$words': $(head -n 1 said)" ;;
         5)
             wanting=$((wanting + 1))
             [ ! -s said ] || [ "$(cat said)" = 'want of memory' ] || fail "at allocation $number of '$words': $(head -n 1 said)"
@@ -90,6 +90,7 @@ refused_at() {
     esac
     keeps made.img
     keeps made.img.crt
+    keeps made.c
     [ ! -e stored/made.img.crt ] || [ -e stored/made.img ] || fail "a certificate without an image at allocation $number of '$words'"
 }
 
@@ -191,7 +192,20 @@ certificate() {
     each 8 check ../three.img ../three.crt
 }
 
-[ "$#" -gt 0 ] || set -- output filter pieces threads certificate
+# Macros in macros, one that is named as a keyword, and sections in sections.
+macros() {
+    {
+        seq -f '#define m%.0f (n + 1)' 40
+        printf '#define n m2 x\n#define while if\n#define N 3\n#undef N\n#ifdef n\n#ifdef N\n#if 1\n#else\n#endif\n#else\n'
+        seq -f "while (m%.0f) a = 'a' + 0x1fu;" 40
+        printf '#endif\n#endif\n'
+    } > macros.c
+    each 0 pre ../macros.c made.c
+    printf '#define n 4\n' >> macros.c
+    each 1 pre ../macros.c made.c
+}
+
+[ "$#" -gt 0 ] || set -- output filter pieces threads certificate macros
 for what; do "$what"; done
 [ "$failed" -eq 0 ] && echo "refusals: $runs allocations were refused, $wanting of them ended with status 5, and nothing was stored in part"
 exit "$failed"

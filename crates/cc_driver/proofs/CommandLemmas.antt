@@ -1,7 +1,7 @@
 -- The told files come to one thing or are refused for one, for each command.
 use Rattle.std.proofs.Common.{◌≡◌, ◌≢◌, ◌∙◌, ◌++◌, ℕ, List, [], ◌∷◌, length, refl, sym, ap, subst, lit<, IsTrue}
 use Rattle.std.specs.Prelude.{Result, Ok, Err}
-use Rattle.cc_words.specs.Asked.{Asked, ToBuild, ToRun, ToEvaluate, ToExecute, ToLayOut, ToCheck, ToAssemble, ToList, ToGenerate, ToDebug}
+use Rattle.cc_words.specs.Asked.{Asked, ToBuild, ToRun, ToEvaluate, ToExecute, ToLayOut, ToCheck, ToAssemble, ToList, ToGenerate, ToDebug, ToExpand}
 use Rattle.word_base.specs.Ports.{Outputs, input_of}
 use Rattle.c_tree.specs.SourceRun.{source_run}
 use Rattle.c25_isa.specs.Image.{Contents}
@@ -32,6 +32,9 @@ use Rattle.cc_files.proofs.cc_image.OneImage.{one as one_image, frames_same}
 use Rattle.cc_files.specs.cc_compile.SourceFaults.{HasProgram, IsAccepted}
 use Rattle.cc_files.proofs.cc_compile.OneFault.{accepted_no_fault, program_no_fault, same_program}
 use Rattle.cc_files.specs.cc_compile.Compiles.{IsBuilt}
+use Rattle.cc_files.proofs.c_macro.OneOutcome.{outcome_one}
+use Rattle.cc_files.specs.c_macro.declared.fault.MacroFault.{MacroFault}
+use Rattle.cc_files.specs.c_syntax.declared.token.Token.{Token}
 use Rattle.cc_gen.specs.Generated.{generated}
 use Rattle.cc_answers.specs.Answers.{Answered}
 use Rattle.cc_files.specs.cc_text.Refusals.{Why, refusal_status}
@@ -55,6 +58,7 @@ use Rattle.cc_driver.specs.Dis.{ListsTo, listing_answer}
 use Rattle.cc_driver.specs.Gen.{Summarizes, GeneratesTo, GenerateRefused, gen_steps}
 use Rattle.cc_driver.specs.Debug.{DebugsTo, DebugRefused, session_answer}
 use Rattle.cc_driver.specs.Debug as debug
+use Rattle.cc_driver.specs.Pre.{ExpandsTo, ExpandRefused}
 use Rattle.cc_driver.specs.Commands.{files_of, stores_under, Comes, Rejects}
 use Rattle.cc_files.specs.Puts.{IsStatus}
 use Rattle.cc_driver.proofs.StatusLemmas.{of_report, of_stop, of_summary, of_outcome, of_check}
@@ -73,6 +77,7 @@ comes_told (ToAssemble text image) shelf answer texts c = ((c.bytes, c.fetched),
 comes_told (ToList image) shelf answer texts c = ((c.0.bytes, c.0.fetched), tt {0})
 comes_told (ToGenerate number) shelf answer texts c = tt {0}
 comes_told (ToDebug image ports script) shelf answer texts c = ((c.0.bytes, c.0.fetched), ((c.0.more, c.0.also), ((c.0.last, c.0.too), tt {0})))
+comes_told (ToExpand source output) shelf answer texts c = ((c.bytes, c.fetched), tt {0})
 
 pub refuses_told : (what : Asked) (shelf : Shelves) (why : Why) → Rejects what shelf why → AreFetched shelf (files_of what)
 refuses_told (ToBuild source image registers budget step) shelf why r = ((r.bytes, r.fetched), tt {0})
@@ -85,6 +90,7 @@ refuses_told (ToAssemble text image) shelf why r = ((r.bytes, r.fetched), tt {0}
 refuses_told (ToList image) shelf why r = ((r.bytes, r.fetched), tt {0})
 refuses_told (ToGenerate number) shelf why r = tt {0}
 refuses_told (ToDebug image ports script) shelf why r = ((r.bytes, r.fetched), ((r.more, r.also), ((r.last, r.too), tt {0})))
+refuses_told (ToExpand source output) shelf why r = ((r.bytes, r.fetched), tt {0})
 
 -- ---- stores
 
@@ -107,6 +113,7 @@ some_store (ToAssemble text image) shelf answer texts c h = λ e. cc
 some_store (ToList image) shelf answer texts c h = none_fails (ToList image) shelf texts c.1 h
 some_store (ToGenerate number) shelf answer texts c h = none_fails (ToGenerate number) shelf texts c.1 h
 some_store (ToDebug image ports script) shelf answer texts c h = none_fails (ToDebug image ports script) shelf texts c.1 h
+some_store (ToExpand source output) shelf answer texts c h = λ e. cc
 
 -- ---- ports
 
@@ -323,6 +330,23 @@ debug_status_nine image ports script i p s why (debug.BadImage bad) = ap refusal
 debug_status_nine image ports script i p s why (debug.BadPorts contents is bad) = ap refusal_status bad.is
 debug_status_nine image ports script i p s why (debug.BadScript contents lines is text bad) = ap refusal_status bad.is
 
+-- ---- pre
+
+-- a source has tokens or a fault
+not_either : (tokens : List Token) (fault : MacroFault) → (Ok tokens) ≡ (Err fault) → ⊥
+not_either tokens fault e = cc
+
+pre_one : (name bytes : List ℕ) (a b : Answered) (s t : List Stored) → ExpandsTo name bytes a s → ExpandsTo name bytes b t → a ≡ b
+pre_one name bytes a b s t c d = c.is ∙ sym d.is
+
+pre_not : (name bytes : List ℕ) (a : Answered) (s : List Stored) (why : Why) → ExpandsTo name bytes a s → ExpandRefused bytes why → ⊥
+pre_not name bytes a s why c r =
+    let tokens = c.expansion.tokens in
+    not_either tokens r.fault (outcome_one bytes (Ok tokens) (Err r.fault) c.expansion.expands r.has)
+
+pre_status_one : (bytes : List ℕ) (why : Why) → ExpandRefused bytes why → refusal_status why ≡ 1
+pre_status_one bytes why r = ap refusal_status r.is
+
 -- ---- all commands
 
 pub comes_one : (what : Asked) (shelf : Shelves) (tells : IsTrue shelf.tells) (a b : Answered) (s t : List Stored) → Comes what shelf a s → Comes what shelf b t → a ≡ b
@@ -354,6 +378,9 @@ comes_one (ToGenerate number) shelf tells a b s t c d = gen_one number a b c.0 d
 comes_one (ToDebug image ports script) shelf tells a b s t c d =
     let h = three_files shelf tells _ _ _ _ _ c.0 d.0 in
     debug_one h.0 h.1.0 h.1.1.0 a b h.1.1.1 h.1.1.2
+comes_one (ToExpand source output) shelf tells a b s t c d =
+    let h = one_file shelf tells _ _ _ c d in
+    pre_one output h.0 a b s t h.1 h.2
 
 pub comes_not : (what : Asked) (shelf : Shelves) (tells : IsTrue shelf.tells) (a : Answered) (s : List Stored) (why : Why) → Comes what shelf a s → Rejects what shelf why → ⊥
 comes_not (ToBuild source image registers budget step) shelf tells a s why c r =
@@ -384,6 +411,9 @@ comes_not (ToGenerate number) shelf tells a s why c r = gen_not number a why c.0
 comes_not (ToDebug image ports script) shelf tells a s why c r =
     let h = three_files shelf tells _ _ _ _ _ c.0 r in
     debug_not image ports script h.0 h.1.0 h.1.1.0 a why h.1.1.1 h.1.1.2
+comes_not (ToExpand source output) shelf tells a s why c r =
+    let h = one_file shelf tells _ _ _ c r in
+    pre_not output h.0 a s why h.1 h.2
 
 pub refuses_one : (what : Asked) (shelf : Shelves) (tells : IsTrue shelf.tells) (v w : Why) → Rejects what shelf v → Rejects what shelf w → refusal_status v ≡ refusal_status w
 refuses_one (ToBuild source image registers budget step) shelf tells v w r s =
@@ -414,6 +444,9 @@ refuses_one (ToGenerate number) shelf tells v w r s = build_refused_one plain_op
 refuses_one (ToDebug image ports script) shelf tells v w r s =
     let h = three_files shelf tells _ _ _ _ _ r s in
     debug_status_nine image ports script h.0 h.1.0 h.1.1.0 v h.1.1.1 ∙ sym (debug_status_nine image ports script h.0 h.1.0 h.1.1.0 w h.1.1.2)
+refuses_one (ToExpand source output) shelf tells v w r s =
+    let h = one_file shelf tells _ _ _ r s in
+    pre_status_one h.0 v h.1 ∙ sym (pre_status_one h.0 w h.2)
 
 image_run_status : (words : List ℕ) (lines : List (ℕ × ℕ)) (steps : ℕ) (answer : Answered) → ImageRuns words lines steps answer → IsStatus answer.status
 image_run_status words lines steps answer r = subst (λ a. IsStatus a.status) (sym r.is) (of_stop r.stands)
@@ -432,3 +465,4 @@ comes_status (ToList image) shelf answer texts c = subst (λ a. IsStatus a.statu
 comes_status (ToGenerate number) shelf answer texts c =
     subst (λ a. IsStatus a.status) (sym c.0.summarizes.is) (of_summary number (length c.0.image.functions) gen_steps c.0.summarizes.outs c.0.summarizes.stands)
 comes_status (ToDebug image ports script) shelf answer texts c = subst (λ a. IsStatus a.status) (sym c.0.holds.is) (0, lit< tt, refl)
+comes_status (ToExpand source output) shelf answer texts c = subst (λ a. IsStatus a.status) (sym c.holds.is) (0, lit< tt, refl)

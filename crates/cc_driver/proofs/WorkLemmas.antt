@@ -19,10 +19,12 @@ use Rattle.lay_cert.specs.declared.fault.CertFault.{CertFault}
 use Rattle.lay_cert.specs.declared.fault.CertFault.TheVariants as certificate_faults
 use Rattle.cc_files.specs.cc_compile.declared.fault.BuildFault.{BuildFault}
 use Rattle.cc_files.specs.cc_compile.declared.fault.BuildFault.TheVariants as build_faults
+use Rattle.cc_files.specs.c_macro.declared.fault.MacroFault.{MacroFault}
+use Rattle.cc_files.specs.c_macro.declared.fault.MacroFault.TheVariants as macro_faults
 use Rattle.cc_answers.specs.declared.answer.Answer.{Answer}
 use Rattle.cc_files.specs.cc_text.declared.refusal.Refusal.{Refusal}
 use Rattle.cc_answers.specs.Answers.{Answered, answered}
-use Rattle.cc_files.specs.cc_text.Refusals.{Why, OfFile, OfSource, OfStore, OfMemory, why_of, of_build_fault, of_image_fault, of_port_fault, of_sequence_fault, of_certificate_fault, of_script_fault}
+use Rattle.cc_files.specs.cc_text.Refusals.{Why, OfFile, OfSource, OfMacros, OfStore, OfMemory, why_of, of_build_fault, of_macro_fault, of_image_fault, of_port_fault, of_sequence_fault, of_certificate_fault, of_script_fault}
 use Rattle.cc_files.specs.World.{Shelves, shelves}
 use Rattle.cc_files.specs.Fetches.{Wanted, IsFetched, AreFetched, NoneFailed, ForMemory}
 use Rattle.cc_driver.specs.Run.{IsImageRefused, ArePortsRefused}
@@ -80,6 +82,14 @@ build_fault_of (build_faults.Plan l) why e some = (λ f. cc, e)
 build_fault_of (build_faults.Link l) why e some = (λ f. cc, e)
 build_fault_of build_faults.NoMemory why e some = absurd (some e)
 
+pub macro_fault_of : (fault : MacroFault) (why : Why) → why ≡ of_macro_fault fault → why ≢ OfMemory → (fault ≢ macro_faults.NoMemory) × (why ≡ OfMacros fault)
+macro_fault_of (macro_faults.Lex l) why e some = (λ f. cc, e)
+macro_fault_of (macro_faults.Directive at) why e some = (λ f. cc, e)
+macro_fault_of (macro_faults.Redefined at) why e some = (λ f. cc, e)
+macro_fault_of (macro_faults.Unbalanced at) why e some = (λ f. cc, e)
+macro_fault_of (macro_faults.TooMany what count) why e some = (λ f. cc, e)
+macro_fault_of macro_faults.NoMemory why e some = absurd (some e)
+
 -- ---- refused work
 
 -- what the fetched files are refused for, unless memory is wanting
@@ -87,6 +97,7 @@ pub files_refuse : (what : Asked) (shelf : Shelves) (why : Why) → NoneFailed s
     → WorkRefused what shelf why
 files_refuse what shelf (OfFile name fault) asked fetched kept r = AtFiles asked (r (λ e. cc)) kept
 files_refuse what shelf (OfSource fault) asked fetched kept r = AtFiles asked (r (λ e. cc)) kept
+files_refuse what shelf (OfMacros fault) asked fetched kept r = AtFiles asked (r (λ e. cc)) kept
 files_refuse what shelf OfStore asked fetched kept r = AtFiles asked (r (λ e. cc)) kept
 files_refuse what shelf OfMemory asked fetched kept r = AtMemory refl asked fetched kept
 

@@ -1,7 +1,7 @@
 -- The commands, a row each: which files one fetches, under which names it stores, what it comes to, and for what its files are refused
 -- (docs/COMMANDS.md).
 use Rattle.std.specs.Prelude.{◌≡◌, ℕ, List, [], ◌∷◌}
-use Rattle.cc_words.specs.Asked.{Asked, ToBuild, ToRun, ToEvaluate, ToExecute, ToLayOut, ToCheck, ToAssemble, ToList, ToGenerate, ToDebug}
+use Rattle.cc_words.specs.Asked.{Asked, ToBuild, ToRun, ToEvaluate, ToExecute, ToLayOut, ToCheck, ToAssemble, ToList, ToGenerate, ToDebug, ToExpand}
 use Rattle.cc_answers.specs.Answers.{Answered}
 use Rattle.cc_files.specs.cc_text.Refusals.{Why}
 use Rattle.cc_files.specs.World.{Shelves}
@@ -17,6 +17,7 @@ use Rattle.cc_driver.specs.Asm.{text_file, AssemblesTo, AssembleRefused}
 use Rattle.cc_driver.specs.Dis.{ListsTo}
 use Rattle.cc_driver.specs.Gen.{GeneratesTo, GenerateRefused}
 use Rattle.cc_driver.specs.Debug.{script_file, DebugsTo, DebugRefused}
+use Rattle.cc_driver.specs.Pre.{ExpandsTo, ExpandRefused}
 
 -- the files that a command fetches, in this order
 abbrev pub files_of : Asked → List Wanted
@@ -30,6 +31,7 @@ files_of (ToAssemble text image) = text_file text ∷ []
 files_of (ToList image) = image_file image ∷ []
 files_of (ToGenerate number) = []
 files_of (ToDebug image ports script) = image_file image ∷ ports_file ports ∷ script_file script ∷ []
+files_of (ToExpand source output) = source_file source ∷ []
 
 -- the names under which a command stores, in this order
 abbrev pub stores_under : Asked → List (List ℕ)
@@ -43,6 +45,7 @@ stores_under (ToAssemble text image) = image ∷ []
 stores_under (ToList image) = []
 stores_under (ToGenerate number) = []
 stores_under (ToDebug image ports script) = []
+stores_under (ToExpand source output) = output ∷ []
 
 -- the bytes of two files have a property
 pub record FilesHave (shelf : Shelves) (first second : Wanted) (P : List ℕ → List ℕ → Type 0) : Type 0 where
@@ -81,6 +84,7 @@ Comes (ToList image) shelf answer texts = FileHas shelf (image_file image) (λ i
 Comes (ToGenerate number) shelf answer texts = GeneratesTo number answer × (texts ≡ [])
 Comes (ToDebug image ports script) shelf answer texts =
     ThreeFilesHave shelf (image_file image) (ports_file ports) (script_file script) (λ i p s. DebugsTo i p s answer) × (texts ≡ [])
+Comes (ToExpand source output) shelf answer texts = FileHas shelf (source_file source) (λ s. ExpandsTo output s answer texts)
 
 -- for what a command refuses its files, which all fit
 abbrev pub Rejects : Asked → Shelves → Why → Type 0
@@ -100,3 +104,4 @@ Rejects (ToList image) shelf why = FileHas shelf (image_file image) (λ i. IsIma
 Rejects (ToGenerate number) shelf why = GenerateRefused number why
 Rejects (ToDebug image ports script) shelf why =
     ThreeFilesHave shelf (image_file image) (ports_file ports) (script_file script) (λ i p s. DebugRefused image ports script i p s why)
+Rejects (ToExpand source output) shelf why = FileHas shelf (source_file source) (λ s. ExpandRefused s why)

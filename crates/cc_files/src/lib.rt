@@ -5,7 +5,10 @@
 mod output;
 mod shelf;
 
-pub use cc_text::{Built, Options, Refusal, compile, runs_tell, typed_program};
+pub use cc_text::{
+    Built, Options, Refusal, compile, expand, expansions_have_spellings, runs_tell, token_text,
+    typed_program,
+};
 pub use output::{put, refuse, say};
 pub use shelf::{
     CERTIFICATE_LIMIT, Fetched, FetchedThree, IMAGE_LIMIT, PORTS_LIMIT, SCRIPT_LIMIT,

@@ -5,6 +5,8 @@
 #[cfg(test)]
 mod commands;
 #[cfg(test)]
+mod expansions;
+#[cfg(test)]
 mod failing_builds;
 #[cfg(test)]
 mod failing_runs;

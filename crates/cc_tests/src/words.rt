@@ -1,5 +1,7 @@
 //! Words whose request no run shows: an empty name, which no file has.
-use cc_words::{Asm, Build, Check, Debug, Dis, Exec, Gen, Layout, Means, Request, Run, requested};
+use cc_words::{
+    Asm, Build, Check, Debug, Dis, Exec, Gen, Layout, Means, Pre, Request, Run, requested,
+};
 use std::alloc::Global;
 use std::test::Fail;
 
@@ -62,6 +64,9 @@ fn shown(alloc: Global, request: &Option<Request>) -> Result<String, Fail> {
                 script,
             } = asked;
             format!(in alloc; "debug {image} {ports} {script}")?
+        }
+        Some(Request::Pre(Pre { source, output })) => {
+            format!(in alloc; "pre {source} {output}")?
         }
     })
 }

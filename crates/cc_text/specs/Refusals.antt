@@ -14,15 +14,19 @@ use Rattle.cc_compile.specs.lay_cert.declared.fault.CertFault.{CertFault}
 use Rattle.cc_compile.specs.lay_cert.declared.fault.CertFault.TheVariants as certificate_faults
 use Rattle.cc_compile.specs.declared.fault.BuildFault.{BuildFault}
 use Rattle.cc_compile.specs.declared.fault.BuildFault.TheVariants as build_faults
+use Rattle.c_macro.specs.declared.fault.MacroFault.{MacroFault}
+use Rattle.c_macro.specs.declared.fault.MacroFault.TheVariants as macro_faults
 use Rattle.cc_text.specs.declared.refusal.FileFault.{FileFault}
 use Rattle.cc_text.specs.declared.refusal.FileFault.TheVariants.{Read, TooLong, Image, Ports, Sequence, Certificate, Assembly, Script}
 use Rattle.cc_text.specs.declared.refusal.Refusal.{Refusal}
 use Rattle.cc_text.specs.declared.refusal.Refusal.TheVariants as refusal
 
--- a file of a name is refused, the source for its fault, the store failed, or memory was wanting
+-- a file of a name is refused, the source for its fault, the source for that of its macros and sections, the store failed, or memory was
+-- wanting
 pub data Why : Type 0 where
   OfFile : List ℕ → FileFault → Why
   OfSource : BuildFault → Why
+  OfMacros : MacroFault → Why
   OfStore : Why
   OfMemory : Why
 
@@ -30,6 +34,7 @@ pub data Why : Type 0 where
 abbrev pub why_of : Refusal → Why
 why_of (refusal.File name why) = OfFile name.now why
 why_of (refusal.Source why) = OfSource why
+why_of (refusal.Macros why) = OfMacros why
 why_of refusal.Store = OfStore
 why_of refusal.NoMemory = OfMemory
 
@@ -37,6 +42,10 @@ why_of refusal.NoMemory = OfMemory
 abbrev pub of_build_fault : BuildFault → Why
 of_build_fault build_faults.NoMemory = OfMemory
 of_build_fault why = OfSource why
+
+abbrev pub of_macro_fault : MacroFault → Why
+of_macro_fault macro_faults.NoMemory = OfMemory
+of_macro_fault why = OfMacros why
 
 abbrev pub of_image_fault : List ℕ → ImageFault → Why
 of_image_fault name image_faults.NoMemory = OfMemory
@@ -127,5 +136,6 @@ file_status (Script why) = 9
 abbrev pub refusal_status : Why → ℕ
 refusal_status (OfFile name why) = file_status why
 refusal_status (OfSource why) = 1
+refusal_status (OfMacros why) = 1
 refusal_status OfStore = 4
 refusal_status OfMemory = 5

@@ -19,6 +19,10 @@ use Rattle.cc_compile.specs.declared.fault.BuildFault.TheVariants.{Lex, Parse, T
 abbrev pub place_line : List ℕ → ℕ → List ℕ
 place_line what at = codes "source refused: " ++ (what ++ (codes " at byte " ++ (decimal at ++ codes "\n")))
 
+-- the line of more of something than there may be
+abbrev pub too_many_line : List ℕ → ℕ → List ℕ
+too_many_line what count = codes "source refused: too many " ++ (what ++ (codes " " ++ (decimal count ++ codes "\n")))
+
 -- names, each behind a space
 abbrev pub spaced : List (List ℕ) → List ℕ
 spaced [] = []
@@ -37,7 +41,7 @@ lex_line (lex_faults.BadByte at) = place_line (codes "bad byte") at
 lex_line (lex_faults.OpenComment at) = place_line (codes "open comment") at
 lex_line (lex_faults.BadConstant at) = place_line (codes "bad constant") at
 lex_line (lex_faults.LongName at) = place_line (codes "long name") at
-lex_line (lex_faults.TooManyTokens count) = codes "source refused: too many tokens " ++ (decimal count ++ codes "\n")
+lex_line (lex_faults.TooManyTokens count) = too_many_line (codes "tokens") count
 lex_line lex_faults.NoMemory = []
 
 -- the line of a fault of syntax; want of memory has none

@@ -1,11 +1,15 @@
 //! Why a command is refused, with the line and the status of each refusal (docs/COMMANDS.md).
 #![tactic(auto)]
 
+mod macro_text;
 mod refusal;
 mod refusal_text;
 mod source_text;
 
+pub use c_lexer::token_text;
+pub use c_macro::{expand, expansions_have_spellings};
 pub use cc_compile::{Built, Options, compile, runs_tell, typed_program};
+pub use macro_text::macro_line;
 pub use refusal::{FileFault, Refusal};
 pub use refusal_text::file_line;
 pub use source_text::source_line;

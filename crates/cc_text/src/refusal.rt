@@ -2,6 +2,7 @@
 ghost use Rattle.std.specs.Prelude.{◌≡◌};
 ghost use Rattle.cc_text.specs.Refusals.{why_of, of_image_fault, of_port_fault, of_sequence_fault, of_certificate_fault, of_assembly_fault, of_script_fault, refusal_status, file_status};
 
+use c_macro::MacroFault;
 use c25_asm::AsmFault;
 use c25_debug::ScriptFault;
 use c25_image::{ImageFault, PortFault};
@@ -54,6 +55,8 @@ pub enum Refusal<'a> {
     File { name: &'a str, why: FileFault },
     /// The source isn't compiled.
     Source(BuildFault),
+    /// The source has no expansion.
+    Macros(MacroFault),
     /// The store failed.
     Store,
     NoMemory,
@@ -144,7 +147,7 @@ impl<'a> Refusal<'a> {
     {
         match self {
             Refusal::File { why, .. } => why.status(),
-            Refusal::Source(_) => 1,
+            Refusal::Source(_) | Refusal::Macros(_) => 1,
             Refusal::Store => 4,
             Refusal::NoMemory => 5,
         }
@@ -170,6 +173,19 @@ impl<'a> From<BuildFault> for Refusal<'a> {
         match fault {
             BuildFault::NoMemory => Refusal::NoMemory,
             why => Refusal::Source(why),
+        }
+    }
+}
+
+impl<'a> From<MacroFault> for Refusal<'a> {
+    ghost use Rattle.cc_text.specs.Refusals.{why_of, of_macro_fault};
+
+    ghost from_gives = { λ given e. why_of e ≡ of_macro_fault given };
+
+    fn from(fault: MacroFault) -> Self {
+        match fault {
+            MacroFault::NoMemory => Refusal::NoMemory,
+            why => Refusal::Macros(why),
         }
     }
 }

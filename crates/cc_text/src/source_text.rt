@@ -1,6 +1,6 @@
 //! The line that refuses a source.
 ghost use Rattle.std.specs.Prelude.{◌≡◌, ◌++◌, IfOk, string_bytes, codes};
-ghost use Rattle.cc_text.specs.SourceText.{source_line, lex_line, parse_line, type_line, plan_line, link_line, place_line, limit_name, spaced};
+ghost use Rattle.cc_text.specs.SourceText.{source_line, lex_line, parse_line, type_line, plan_line, link_line, place_line, too_many_line, limit_name, spaced};
 
 use c_lexer::LexFault;
 use c_parser::ParseFault;
@@ -9,11 +9,18 @@ use cc_compile::{BuildFault, LinkFault, PlanFault};
 use std::alloc::Global;
 use word_base::{NoMemory, Text};
 
-// The line of a fault at a place.
-fn place_line(alloc: Global, what: &str, at: u32) -> Result<String, NoMemory>
+/// The line of a fault at a place.
+pub(crate) fn place_line(alloc: Global, what: &str, at: u32) -> Result<String, NoMemory>
     ensures { IfOk result (λ line. string_bytes line ≡ place_line what.now at) }
 {
     Ok(format!(in alloc; "source refused: {what} at byte {at}\n")?)
+}
+
+/// The line of more of something than there may be.
+pub(crate) fn too_many_line(alloc: Global, what: &str, count: u64) -> Result<String, NoMemory>
+    ensures { IfOk result (λ line. string_bytes line ≡ too_many_line what.now count) }
+{
+    Ok(format!(in alloc; "source refused: too many {what} {count}\n")?)
 }
 
 // The line of functions that call one another in a circle.
@@ -65,8 +72,8 @@ fn type_line(alloc: Global, fault: &TypeFault) -> Result<String, NoMemory>
     }
 }
 
-// The line of a fault of the lexer.
-fn lex_line(alloc: Global, fault: LexFault) -> Result<String, NoMemory>
+/// The line of a fault of the lexer.
+pub(crate) fn lex_line(alloc: Global, fault: LexFault) -> Result<String, NoMemory>
     ensures { IfOk result (λ line. string_bytes line ≡ lex_line fault) }
 {
     match fault {
@@ -74,9 +81,7 @@ fn lex_line(alloc: Global, fault: LexFault) -> Result<String, NoMemory>
         LexFault::OpenComment { at } => place_line(alloc, "open comment", at),
         LexFault::BadConstant { at } => place_line(alloc, "bad constant", at),
         LexFault::LongName { at } => place_line(alloc, "long name", at),
-        LexFault::TooManyTokens { count } => {
-            Ok(format!(in alloc; "source refused: too many tokens {count}\n")?)
-        }
+        LexFault::TooManyTokens { count } => too_many_line(alloc, "tokens", count),
         LexFault::NoMemory => Err(NoMemory),
     }
 }

@@ -8,7 +8,7 @@ use Rattle.clap.specs.Words.{Row, Text, first_of, matches_of, one_of}
 use Rattle.clap.specs.declared.builder.value_parser.ValueParser.TheVariants as parser
 use Rattle.cc_words.specs.declared.name.Name.{Name}
 use Rattle.cc_words.specs.declared.name.Name.TheVariants as name
-use Rattle.cc_words.specs.Asked.{Asked, ToAssemble, ToBuild, ToCheck, ToDebug, ToGenerate, ToList, ToRun, ToEvaluate, ToExecute, ToLayOut, app_of_name, asked_to, both_of, build_of, debug_of, dis_of, gen_of, name_of, rows_ask, is_number_to, is_taken, layout_of, number_of, number_to, numbered_of}
+use Rattle.cc_words.specs.Asked.{Asked, ToAssemble, ToBuild, ToCheck, ToDebug, ToExpand, ToGenerate, ToList, ToRun, ToEvaluate, ToExecute, ToLayOut, app_of_name, asked_to, both_of, build_of, debug_of, dis_of, gen_of, name_of, rows_ask, is_number_to, is_taken, layout_of, number_of, number_to, numbered_of}
 use Rattle.cc_words.specs.Commands.{greatest_budget, greatest_program, greatest_registers, greatest_step, greatest_steps, greatest_turns}
 use Rattle.cc_words.specs.Bounds.{AsksWithin, IsWithinBounds}
 
@@ -121,6 +121,7 @@ rows_bounded name.Asm = both_bounded _ _ ToAssemble (λ a b. tt)
 rows_bounded name.Dis = dis_bounded
 rows_bounded name.Gen = gen_bounded
 rows_bounded name.Debug = debug_bounded
+rows_bounded name.Pre = both_bounded _ _ ToExpand (λ a b. tt)
 
 pub within_asked : AsksWithin
 unfolding asked_to

@@ -5,7 +5,7 @@ use Rattle.std.specs.Prelude.{option_map, option_and_then}
 use Rattle.std.specs.Str.{bytes_eq}
 use Rattle.clap.specs.Words.{App, Row, Text, first_of, matches_of}
 pub use Rattle.cc_options.specs.Options.{is_number_to, is_taken, number_of, number_to, texts_of}
-use Rattle.cc_words.specs.Commands.{asm_app, build_app, check_app, debug_app, dis_app, exec_app, gen_app, layout_app, means_app, run_app}
+use Rattle.cc_words.specs.Commands.{asm_app, build_app, check_app, debug_app, dis_app, exec_app, gen_app, layout_app, means_app, pre_app, run_app}
 use Rattle.cc_words.specs.Commands.{greatest_budget, greatest_program, greatest_registers, greatest_step}
 use Rattle.cc_words.specs.Commands.{greatest_steps, greatest_turns}
 use Rattle.cc_words.specs.declared.name.Name.{Name}
@@ -18,7 +18,7 @@ use Rattle.cc_words.specs.declared.asked.Request.TheVariants as request
 -- evaluate a source on ports with at most so many turns, to compile a source and run it so, to search a
 -- layout of a sequence for so many registers within so large a budget, to check an image by a
 -- certificate, to assemble a text to an image, to list an image, to make a program from a number and
--- run it, or to follow a script over an image on ports
+-- run it, to follow a script over an image on ports, or to expand a source
 pub data Asked : Type 0 where
   ToBuild : Text → Text → ℕ → ℕ → ℕ → Asked
   ToRun : Text → Text → ℕ → Asked
@@ -30,6 +30,7 @@ pub data Asked : Type 0 where
   ToList : Text → Asked
   ToGenerate : ℕ → Asked
   ToDebug : Text → Text → Text → Asked
+  ToExpand : Text → Text → Asked
 
 -- a request, as what it asks for
 abbrev pub told : Request → Asked
@@ -44,6 +45,7 @@ told (request.Asm asked) = ToAssemble asked.text.now asked.image.now
 told (request.Dis asked) = ToList asked.image.now
 told (request.Gen asked) = ToGenerate asked.number
 told (request.Debug asked) = ToDebug asked.image.now asked.ports.now asked.script.now
+told (request.Pre asked) = ToExpand asked.source.now asked.output.now
 
 -- what names and numbers ask for, each of which may be absent: then for nothing
 abbrev pub both_by : (Text → Text → Asked) → Option Text → Option Text → Option Asked
@@ -121,6 +123,10 @@ gen_of rows = option_map ToGenerate (number_of (codes "number") greatest_program
 abbrev pub debug_of : List Row → Option Asked
 debug_of rows = debug_by (first_of (codes "image") rows) (first_of (codes "ports") rows) (first_of (codes "script") rows)
 
+-- what the matches of `pre` ask for
+abbrev pub pre_of : List Row → Option Asked
+pre_of = both_of (codes "source") (codes "output") ToExpand
+
 -- what the words of a command ask for, of which the first is its name
 unfoldable pub asked_to : App → (List Row → Option Asked) → List Text → Option Asked
 asked_to app of_rows words = if is_taken app words then of_rows (matches_of app words) else None
@@ -155,6 +161,9 @@ asked_to_generate = asked_to gen_app gen_of
 abbrev pub asked_to_debug : List Text → Option Asked
 asked_to_debug = asked_to debug_app debug_of
 
+abbrev pub asked_to_expand : List Text → Option Asked
+asked_to_expand = asked_to pre_app pre_of
+
 -- the command that a word chooses
 abbrev pub name_of : Text → Option Name
 name_of word = if bytes_eq word (codes "build") then Some name.Build
@@ -166,7 +175,8 @@ name_of word = if bytes_eq word (codes "build") then Some name.Build
     else (if bytes_eq word (codes "asm") then Some name.Asm
     else (if bytes_eq word (codes "dis") then Some name.Dis
     else (if bytes_eq word (codes "gen") then Some name.Gen
-    else (if bytes_eq word (codes "debug") then Some name.Debug else None)))))))))
+    else (if bytes_eq word (codes "debug") then Some name.Debug
+    else (if bytes_eq word (codes "pre") then Some name.Pre else None))))))))))
 
 -- how `clap` reads the words of a command
 abbrev pub app_of_name : Name → App
@@ -180,6 +190,7 @@ app_of_name name.Asm = asm_app
 app_of_name name.Dis = dis_app
 app_of_name name.Gen = gen_app
 app_of_name name.Debug = debug_app
+app_of_name name.Pre = pre_app
 
 -- what its matches ask for
 abbrev pub rows_ask : Name → List Row → Option Asked
@@ -193,6 +204,7 @@ rows_ask name.Asm = asm_of
 rows_ask name.Dis = dis_of
 rows_ask name.Gen = gen_of
 rows_ask name.Debug = debug_of
+rows_ask name.Pre = pre_of
 
 -- what the words ask for, if anything: the first word chooses the command
 abbrev pub asked : List Text → Option Asked

@@ -1,7 +1,7 @@
 -- The ranges of the numbers that are asked for.
 use Rattle.std.specs.Prelude.{◌≤◌, ⊤, List, IfSome}
 use Rattle.clap.specs.Words.{Text}
-use Rattle.cc_words.specs.Asked.{Asked, ToBuild, ToRun, ToEvaluate, ToExecute, ToLayOut, ToCheck, ToAssemble, ToList, ToGenerate, ToDebug}
+use Rattle.cc_words.specs.Asked.{Asked, ToBuild, ToRun, ToEvaluate, ToExecute, ToLayOut, ToCheck, ToAssemble, ToList, ToGenerate, ToDebug, ToExpand}
 use Rattle.cc_words.specs.Asked.{asked}
 use Rattle.cc_words.specs.Commands.{greatest_budget, greatest_program, greatest_registers, greatest_step}
 use Rattle.cc_words.specs.Commands.{greatest_steps, greatest_turns}
@@ -23,6 +23,7 @@ IsWithinBounds (ToAssemble text image) = ⊤
 IsWithinBounds (ToList image) = ⊤
 IsWithinBounds (ToGenerate number) = (1 ≤ number) × (number ≤ greatest_program)
 IsWithinBounds (ToDebug image ports script) = ⊤
+IsWithinBounds (ToExpand source output) = ⊤
 
 -- and that holds of whatever is asked for
 abbrev pub AsksWithin : Type 0

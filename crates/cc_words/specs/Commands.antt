@@ -103,6 +103,10 @@ dis_app = single_app (codes "dis") (codes "image")
 abbrev pub debug_app : App
 debug_app = with_rule (named_app (codes "debug") (codes "image") (codes "ports")) (name_rule (codes "script"))
 
+-- `pre SRC OUT`
+abbrev pub pre_app : App
+pre_app = named_app (codes "pre") (codes "source") (codes "output")
+
 -- `gen N`
 abbrev pub gen_app : App
 gen_app = with_rule (new_app (codes "gen")) (count_rule (codes "number") greatest_program)

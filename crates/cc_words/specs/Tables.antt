@@ -2,7 +2,7 @@
 use Rattle.std.specs.Prelude.{ℕ, nat_lt, Option, Some, None, codes, if◌then◌else◌, option_and_then, option_map}
 use Rattle.clap.specs.Words.{Text}
 use Rattle.cc_options.specs.Options.{Options, Quantity, Values}
-use Rattle.cc_words.specs.Asked.{Asked, ToAssemble, ToCheck, ToEvaluate, ToExecute, ToGenerate}
+use Rattle.cc_words.specs.Asked.{Asked, ToAssemble, ToCheck, ToEvaluate, ToExecute, ToExpand, ToGenerate}
 use Rattle.cc_words.specs.Asked.{ToList, ToRun, both_by, build_by, debug_by, layout_by, numbered_by}
 use Rattle.cc_words.specs.Commands.{budget_rule, count_rule, greatest_budget, greatest_program, greatest_registers}
 use Rattle.cc_words.specs.Commands.{greatest_step, greatest_steps, greatest_turns, registers_rule, step_rule}
@@ -83,6 +83,7 @@ options_of_name name.Gen = record {
   three = None;
 }
 options_of_name name.Debug = record (two_names (codes "debug") (codes "image") (codes "ports") None) { third = Some (codes "script") }
+options_of_name name.Pre = two_names (codes "pre") (codes "source") (codes "output") None
 
 -- a number that a byte holds
 abbrev pub byte_of : Option ℕ → Option ℕ
@@ -100,3 +101,4 @@ values_ask name.Asm v = both_by ToAssemble v.first v.second
 values_ask name.Dis v = option_map ToList v.first
 values_ask name.Gen v = option_map ToGenerate v.one
 values_ask name.Debug v = debug_by v.first v.second v.third
+values_ask name.Pre v = both_by ToExpand v.first v.second

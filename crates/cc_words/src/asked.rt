@@ -12,6 +12,7 @@ use crate::generated::Gen;
 use crate::layout::Layout;
 use crate::means::Means;
 use crate::name::Name;
+use crate::pre::Pre;
 use crate::run::Run;
 use cc_options::read;
 use std::alloc::Global;
@@ -30,6 +31,7 @@ pub enum Request<'a> {
     Dis(Dis<'a>),
     Gen(Gen),
     Debug(Debug<'a>),
+    Pre(Pre<'a>),
 }
 
 // What the words of a command ask for, of which the first is its name.

@@ -13,6 +13,7 @@ mod layout;
 mod means;
 mod name;
 mod options;
+mod pre;
 mod run;
 
 pub use asked::{Request, requested};
@@ -25,4 +26,5 @@ pub use exec::Exec;
 pub use generated::Gen;
 pub use layout::Layout;
 pub use means::Means;
+pub use pre::Pre;
 pub use run::Run;

@@ -8,7 +8,7 @@ ghost use Rattle.cc_words.specs.Tables.{options_of_name, values_ask};
 
 use crate::asked::Request;
 use crate::options::{budget, program, registers, step, steps, turns};
-use crate::{asm, build, check, debug, dis, exec, generated, layout, means, run};
+use crate::{asm, build, check, debug, dis, exec, generated, layout, means, pre, run};
 use cc_options::{Given, Number, Table};
 
 /// A command.
@@ -24,6 +24,7 @@ pub(crate) enum Name {
     Dis,
     Gen,
     Debug,
+    Pre,
 }
 
 impl Name {
@@ -42,6 +43,7 @@ impl Name {
             "dis" => Some(Name::Dis),
             "gen" => Some(Name::Gen),
             "debug" => Some(Name::Debug),
+            "pre" => Some(Name::Pre),
             _ => None,
         }
     }
@@ -79,6 +81,7 @@ impl Name {
                 third: Some("script"),
                 ..two_names("debug", "image", "ports", None)
             },
+            Name::Pre => two_names("pre", "source", "output", None),
         }
     }
 
@@ -97,6 +100,7 @@ impl Name {
             Name::Dis => dis::found(given),
             Name::Gen => generated::found(given),
             Name::Debug => debug::found(given),
+            Name::Pre => pre::found(given),
         }
     }
 }

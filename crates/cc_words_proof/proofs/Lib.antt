@@ -1,4 +1,5 @@
 pub mod DebugLemmas
+pub mod PreLemmas
 pub mod PlainLemmas
 pub mod LayoutLemmas
 pub mod BuildLemmas

@@ -2,7 +2,7 @@
 use Rattle.std.specs.Prelude.{◌≡◌, ◌≢◌, ◌++◌, ℕ, true, false, List, [], ◌∷◌, codes}
 use Rattle.std.specs.Str.Parse.{digits_value, without_leading_plus}
 use Rattle.clap.specs.Words.{Text}
-use Rattle.cc_words.specs.Asked.{Asked, ToBuild, ToRun, ToEvaluate, ToExecute, ToLayOut, ToCheck, ToAssemble, ToList, ToGenerate, ToDebug}
+use Rattle.cc_words.specs.Asked.{Asked, ToBuild, ToRun, ToEvaluate, ToExecute, ToLayOut, ToCheck, ToAssemble, ToList, ToGenerate, ToDebug, ToExpand}
 use Rattle.cc_words.specs.Asked.{Asks, AsksNothing, is_number_to, is_plain_word}
 use Rattle.cc_words.specs.Commands.{greatest_budget, greatest_program, greatest_registers, greatest_step}
 use Rattle.cc_words.specs.Commands.{greatest_steps, greatest_turns}
@@ -266,3 +266,14 @@ DebugsNoOtherNames = AsksNothing (codes "debug" ∷ [])
     × OnPlain (λ a b. AsksNothing (codes "debug" ∷ a ∷ b ∷ []))
     × OnPlain (λ a b. (c d : Text) (rest : List Text) → is_plain_word c ≡ true → is_plain_word d ≡ true
     → AsksNothing (codes "debug" ∷ a ∷ b ∷ c ∷ d ∷ rest))
+
+-- `pre SRC OUT`
+abbrev pub ExpandsTwoNames : Type 0
+ExpandsTwoNames = OnPlain (λ a b. Asks (codes "pre" ∷ a ∷ b ∷ []) (ToExpand a b))
+
+-- `pre` with fewer names, or with more, whatever follows
+abbrev pub ExpandsNoOtherNames : Type 0
+ExpandsNoOtherNames = AsksNothing (codes "pre" ∷ [])
+    × ((a : Text) → is_plain_word a ≡ true → AsksNothing (codes "pre" ∷ a ∷ []))
+    × OnPlain (λ a b. (c : Text) (rest : List Text) → is_plain_word c ≡ true
+    → AsksNothing (codes "pre" ∷ a ∷ b ∷ c ∷ rest))

@@ -3,7 +3,7 @@ ghost use Rattle.cc_words.specs.Bounds.{AsksWithin};
 ghost use Rattle.cc_words_proof.specs.Plain.{BuildsNoOtherNames, BuildsTwoNames, RunsTwoNames, MeansTwoNames};
 ghost use Rattle.cc_words_proof.specs.Plain.{BuildsWithRegisters, BuildsWithBudget, BuildsWithStep, BuildsWithStepAttached, BuildsWithAll};
 ghost use Rattle.cc_words_proof.specs.Plain.{ChecksTwoNames, ChecksNoOtherNames, AssemblesTwoNames, AssemblesNoOtherNames};
-ghost use Rattle.cc_words_proof.specs.Plain.{DebugsThreeNames, DebugsNoOtherNames};
+ghost use Rattle.cc_words_proof.specs.Plain.{DebugsThreeNames, DebugsNoOtherNames, ExpandsTwoNames, ExpandsNoOtherNames};
 ghost use Rattle.cc_words_proof.specs.Plain.{ListsOneName, ListsNoOtherNames, GeneratesOneNumber, GeneratesNoOtherWords};
 ghost use Rattle.cc_words_proof.specs.Plain.{RunsWithSteps, RunsWithStepsAttached, RunsWithStepsFirst};
 ghost use Rattle.cc_words_proof.specs.Plain.{ExecutesTwoNames, ExecutesWithSteps, ExecutesWithStepsAttached, ExecutesWithStepsFirst};
@@ -58,5 +58,7 @@ pub fn plain_words()
     ensures no_number { GeneratesNoOtherWords }
     ensures debug { DebugsThreeNames }
     ensures debug_other { DebugsNoOtherNames }
+    ensures pre { ExpandsTwoNames }
+    ensures pre_other { ExpandsNoOtherNames }
     ensures range { AsksWithin }
 {}

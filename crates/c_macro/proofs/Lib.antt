@@ -1,0 +1,16 @@
+pub mod LineLemmas
+pub mod DirectiveLemmas
+pub mod ReadingLemmas
+pub mod SectionLemmas
+pub mod TableLemmas
+pub mod PendingLemmas
+pub mod TextLines
+pub mod ObeyLemmas
+pub mod LineDone
+pub mod LinesDone
+pub mod OneReading
+pub mod OneDirective
+pub mod OneLine
+pub mod OneOutcome
+pub mod SpelledExpansions
+pub mod ExpansionLemmas
