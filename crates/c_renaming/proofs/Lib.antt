@@ -1,0 +1,15 @@
+pub mod OutcomeLemmas
+pub mod RelatedOutcomes
+pub mod OperandLemmas
+pub mod ConstantLemmas
+pub mod TypingLemmas
+pub mod DeclarationLemmas
+pub mod StatementLemmas
+pub mod UnitLemmas
+pub mod UseLemmas
+pub mod TemporaryLemmas
+pub mod ProgramLemmas
+pub mod TokenLemmas
+pub mod GrammarLemmas
+pub mod DerivingLemmas
+pub mod HeightLemmas
