@@ -28,14 +28,11 @@ use Rattle.c_rules.specs.Declarations.{length_within, typed_length, parameter_ki
 use Rattle.c_renaming.specs.Renaming.{Renaming, IsFaithful}
 use Rattle.c_renaming.specs.RenamedTrees.{renamed_expression, renamed_mark, renamed_parameter, renamed_parameters, renamed_item_form, renamed_initial}
 use Rattle.c_renaming.specs.RenamedPrograms.{renamed_value}
-use Rattle.c_renaming.proofs.OutcomeLemmas.{renamed_outcome, IsScopeRenamed, renamed_operand}
-use Rattle.c_renaming.proofs.RelatedOutcomes.{then_renamed, broken_renamed}
+use Rattle.c_renaming.proofs.OutcomeLemmas.{renamed_outcome, IsScopeRenamed, renamed_operand, bind_follows}
+use Rattle.c_renaming.proofs.RelatedOutcomes.{broken_renamed, same_value}
 use Rattle.c_renaming.proofs.OperandLemmas.{kind_renamed, given_renamed}
 use Rattle.c_renaming.proofs.ConstantLemmas.{place_of_renamed, constant_renamed}
 use Rattle.c_renaming.proofs.TypingLemmas.{operand_renamed, plain_renamed, word_at_renamed, open_renamed, declare_renamed, is_taken_renamed, constant_typing_renamed}
-
-abbrev same_value : {A : Type 0} → A → A
-same_value a = a
 
 abbrev pub renamed_entry : Renaming → Entry → Entry
 renamed_entry r e = record { operand = renamed_operand r e.operand; initial = e.initial }
@@ -92,14 +89,14 @@ module _ (r : Renaming) where
 
   pub cell_renamed : (kind : ScalarType) (at : ℕ) (e : Entry) → cell kind (r.place at) (renamed_entry r e) ≡ renamed_outcome r.place same_value (cell kind at e)
   cell_renamed kind at e =
-      then_renamed r.place (renamed_value r) same_value (given kind at e.operand) (given kind (r.place at) (renamed_operand r e.operand))
+      bind_follows r.place (renamed_value r) same_value (given kind at e.operand) (given kind (r.place at) (renamed_operand r e.operand))
       (λ v. Is (cell_value kind e.initial)) (λ v. Is (cell_value kind e.initial)) (given_renamed r kind at e.operand) (λ v. refl)
 
   cells_renamed : (kind : ScalarType) (at : ℕ) (es : List Entry) → cells kind (r.place at) (map (renamed_entry r) es) ≡ renamed_outcome r.place same_value (cells kind at es)
   cells_renamed kind at [] = refl
   cells_renamed kind at (e ∷ es) =
-      then_renamed r.place same_value same_value (cell kind at e) (cell kind (r.place at) (renamed_entry r e)) _ _ (cell_renamed kind at e) (λ i.
-      then_renamed r.place same_value same_value (cells kind at es) (cells kind (r.place at) (map (renamed_entry r) es)) _ _ (cells_renamed kind at es) (λ is. refl))
+      bind_follows r.place same_value same_value (cell kind at e) (cell kind (r.place at) (renamed_entry r e)) _ _ (cell_renamed kind at e) (λ i.
+      bind_follows r.place same_value same_value (cells kind at es) (cells kind (r.place at) (map (renamed_entry r) es)) _ _ (cells_renamed kind at es) (λ is. refl))
 
   pub array_list_renamed : (kind : ScalarType) (n at : ℕ) (es : List Entry)
       → array_list kind n (r.place at) (map (renamed_entry r) es) ≡ renamed_outcome r.place same_value (array_list kind n at es)
@@ -110,14 +107,14 @@ module _ (r : Renaming) where
   module _ (faithful : IsFaithful r) (s t : Scope) (same : IsScopeRenamed r s t) where
     pub typed_length_renamed : (e : Expression) → typed_length t (renamed_expression r e) ≡ renamed_outcome r.place same_value (typed_length s e)
     typed_length_renamed e =
-        then_renamed r.place (renamed_value r) same_value (constant_typing s e) (constant_typing t (renamed_expression r e)) _ _ (constant_typing_renamed faithful same e) (λ x.
-        then_renamed r.place same_value same_value (word_at e x) (word_at (renamed_expression r e) (renamed_value r x)) _ _ (word_at_renamed r e x) (λ w. refl))
+        bind_follows r.place (renamed_value r) same_value (constant_typing s e) (constant_typing t (renamed_expression r e)) _ _ (constant_typing_renamed faithful same e) (λ x.
+        bind_follows r.place same_value same_value (word_at e x) (word_at (renamed_expression r e) (renamed_value r x)) _ _ (word_at_renamed r e x) (λ w. refl))
 
     is_bad_length_renamed : (a : ArrayMark) → is_bad_length t (renamed_mark r a) ≡ renamed_outcome r.place same_value (is_bad_length s a)
     is_bad_length_renamed None = refl
     is_bad_length_renamed (Some None) = refl
     is_bad_length_renamed (Some (Some e)) =
-        then_renamed r.place same_value same_value (typed_length s e) (typed_length t (renamed_expression r e)) _ _ (typed_length_renamed e) (λ n. refl)
+        bind_follows r.place same_value same_value (typed_length s e) (typed_length t (renamed_expression r e)) _ _ (typed_length_renamed e) (λ n. refl)
 
     is_name_taken_renamed : (name : Option (List ℕ)) → is_name_taken t (option_map r.name name) ≡ is_name_taken s name
     is_name_taken_renamed None = refl
@@ -132,8 +129,8 @@ module _ (r : Renaming) where
 
     pub parameter_renamed : (naming : Naming) (p : ParameterTree) → parameter t naming (renamed_parameter r p) ≡ renamed_outcome r.place same_value (parameter s naming p)
     parameter_renamed naming p =
-        then_renamed r.place same_value same_value (plain p.specs) _ _ _ (plain_renamed r p.specs) (λ b.
-        then_renamed r.place same_value same_value (is_bad_length s p.array) (is_bad_length t (renamed_mark r p.array)) _ _ (is_bad_length_renamed p.array) (λ bad.
+        bind_follows r.place same_value same_value (plain p.specs) _ _ _ (plain_renamed r p.specs) (λ b.
+        bind_follows r.place same_value same_value (is_bad_length s p.array) (is_bad_length t (renamed_mark r p.array)) _ _ (is_bad_length_renamed p.array) (λ bad.
         broken_renamed r.place same_value Redeclared p.specs.at (is_name_taken s p.name) (is_name_taken t (option_map r.name p.name)) _ _ (is_name_taken_renamed p.name)
         (broken_renamed r.place same_value Mismatch p.specs.at (bad || lacks_name naming p.name) (bad || lacks_name naming (option_map r.name p.name)) _ _
         (ap (λ l. bad || l) (lacks_name_renamed naming p.name))
@@ -172,8 +169,8 @@ module _ (r : Renaming) where
 
     pub entry_renamed : (e : Expression) → entry t (renamed_expression r e) ≡ renamed_outcome r.place (renamed_entry r) (entry s e)
     entry_renamed e =
-        then_renamed r.place (renamed_value r) (renamed_entry r) (constant_typing s e) (constant_typing t (renamed_expression r e)) _ _ (constant_typing_renamed faithful same e) (λ x.
-        then_renamed r.place same_value (renamed_entry r) (there_or NotConstant (place e) (static_value s e x)) _ _ _
+        bind_follows r.place (renamed_value r) (renamed_entry r) (constant_typing s e) (constant_typing t (renamed_expression r e)) _ _ (constant_typing_renamed faithful same e) (λ x.
+        bind_follows r.place same_value (renamed_entry r) (there_or NotConstant (place e) (static_value s e x)) _ _ _
         (ap (λ p. there_or NotConstant p (static_value t (renamed_expression r e) (renamed_value r x))) (place_of_renamed r e)
         ∙ ap (there_or NotConstant (r.place (place e))) (static_value_renamed e x)
         ∙ there_initial (place e) (static_value s e x))
@@ -182,16 +179,16 @@ module _ (r : Renaming) where
     pub entries_renamed : (es : List Expression) → entries t (map (renamed_expression r) es) ≡ renamed_outcome r.place (map (renamed_entry r)) (entries s es)
     entries_renamed [] = refl
     entries_renamed (e ∷ es) =
-        then_renamed r.place (renamed_entry r) (map (renamed_entry r)) (entry s e) (entry t (renamed_expression r e)) _ _ (entry_renamed e) (λ x.
-        then_renamed r.place (map (renamed_entry r)) (map (renamed_entry r)) (entries s es) (entries t (map (renamed_expression r) es)) _ _ (entries_renamed es) (λ xs. refl))
+        bind_follows r.place (renamed_entry r) (map (renamed_entry r)) (entry s e) (entry t (renamed_expression r e)) _ _ (entry_renamed e) (λ x.
+        bind_follows r.place (map (renamed_entry r)) (map (renamed_entry r)) (entries s es) (entries t (map (renamed_expression r) es)) _ _ (entries_renamed es) (λ xs. refl))
 
 module _ (r : Renaming) (faithful : IsFaithful r) where
   pub parameters_renamed : (naming : Naming) (s t : Scope) (ps : List ParameterTree) → IsScopeRenamed r s t
       → parameters t naming (map (renamed_parameter r) ps) ≡ renamed_outcome r.place same_value (parameters s naming ps)
   parameters_renamed naming s t [] same = refl
   parameters_renamed naming s t (p ∷ ps) same =
-      then_renamed r.place same_value same_value (parameter s naming p) (parameter t naming (renamed_parameter r p)) _ _ (parameter_renamed r faithful s t same naming p) (λ kind.
-      then_renamed r.place same_value same_value (parameters (with_single s p.name (refs.Local 0) kind) naming ps) _ _ _
+      bind_follows r.place same_value same_value (parameter s naming p) (parameter t naming (renamed_parameter r p)) _ _ (parameter_renamed r faithful s t same naming p) (λ kind.
+      bind_follows r.place same_value same_value (parameters (with_single s p.name (refs.Local 0) kind) naming ps) _ _ _
       (parameters_renamed naming (with_single s p.name (refs.Local 0) kind) (with_single t (option_map r.name p.name) (refs.Local 0) kind) ps
       (with_single_renamed r faithful s t same p.name (refs.Local 0) kind))
       (λ kinds. refl))
@@ -199,7 +196,7 @@ module _ (r : Renaming) (faithful : IsFaithful r) where
   prototype_renamed : (s t : Scope) (result : Kind) (ps : ParametersTree) → IsScopeRenamed r s t
       → prototype t result (renamed_parameters r ps) ≡ renamed_outcome r.place same_value (prototype s result ps)
   prototype_renamed s t result ps same =
-      then_renamed r.place same_value same_value (parameters (open_scope s) Free ps.list) _ _ _
+      bind_follows r.place same_value same_value (parameters (open_scope s) Free ps.list) _ _ _
       (parameters_renamed Free (open_scope s) (open_scope t) ps.list (open_renamed same)) (λ kinds. refl)
 
   pub declarator_renamed : (s t : Scope) (b : Base) (form : ItemForm) (stars : ℕ) (i : Option InitialTree) → IsScopeRenamed r s t
@@ -207,5 +204,5 @@ module _ (r : Renaming) (faithful : IsFaithful r) where
   declarator_renamed s t b tree.Plain stars i same = refl
   declarator_renamed s t b (tree.Array None) stars i same = ap (λ l. Is (array (starred b stars) l)) (listed_length_renamed r i)
   declarator_renamed s t b (tree.Array (Some e)) stars i same =
-      then_renamed r.place same_value same_value (typed_length s e) (typed_length t (renamed_expression r e)) _ _ (typed_length_renamed r faithful s t same e) (λ n. refl)
+      bind_follows r.place same_value same_value (typed_length s e) (typed_length t (renamed_expression r e)) _ _ (typed_length_renamed r faithful s t same e) (λ n. refl)
   declarator_renamed s t b (tree.Parameters ps) stars i same = prototype_renamed s t (starred b stars) ps same

@@ -4,11 +4,8 @@ use Rattle.c_rules.specs.declared.fault.Rule.{Rule}
 use Rattle.c_rules.specs.Outcome.{Outcome, Is, Broken, ◌>>=◌, breaks}
 use Rattle.c_renaming.proofs.OutcomeLemmas.{renamed_outcome}
 
--- one outcome behind another
-pub then_renamed : {A B C D : Type 0} (p : ℕ → ℕ) (f : A → C) (g : B → D) (o : Outcome A) (o' : Outcome C) (k : A → Outcome B) (k' : C → Outcome D)
-    → o' ≡ renamed_outcome p f o → ((a : A) → k' (f a) ≡ renamed_outcome p g (k a)) → (o' >>= k') ≡ renamed_outcome p g (o >>= k)
-then_renamed p f g (Is a) o' k k' e h = ap (λ x. x >>= k') e ∙ h a
-then_renamed p f g (Broken rule at) o' k k' e h = ap (λ x. x >>= k') e
+abbrev pub same_value : {A : Type 0} → A → A
+same_value a = a
 
 pub broken_renamed : {A B : Type 0} (p : ℕ → ℕ) (g : A → B) (rule : Rule) (at : ℕ) (b c : Bool) (o : Outcome A) (o' : Outcome B)
     → c ≡ b → o' ≡ renamed_outcome p g o → breaks c rule (p at) o' ≡ renamed_outcome p g (breaks b rule at o)

@@ -28,14 +28,11 @@ use Rattle.c_rules.specs.Statements.{LocalTree, Initialiser, Absent, Value, List
 use Rattle.c_renaming.specs.Renaming.{Renaming, IsFaithful}
 use Rattle.c_renaming.specs.RenamedTrees.{renamed_expression, renamed_item_form, renamed_initial, renamed_item, renamed_declaration, renamed_optional, renamed_statement, renamed_statements, renamed_choices}
 use Rattle.c_renaming.specs.RenamedPrograms.{renamed_value, renamed_optional_value, renamed_code, renamed_codes, renamed_cases}
-use Rattle.c_renaming.proofs.OutcomeLemmas.{renamed_outcome, IsScopeRenamed, renamed_operand}
-use Rattle.c_renaming.proofs.RelatedOutcomes.{then_renamed, broken_renamed, AreRelated, then_related, equal_related, related_equal, broken_related}
+use Rattle.c_renaming.proofs.OutcomeLemmas.{renamed_outcome, IsScopeRenamed, renamed_operand, bind_follows}
+use Rattle.c_renaming.proofs.RelatedOutcomes.{broken_renamed, AreRelated, then_related, equal_related, related_equal, broken_related, same_value}
 use Rattle.c_renaming.proofs.OperandLemmas.{kind_renamed, given_renamed}
 use Rattle.c_renaming.proofs.TypingLemmas.{operand_renamed, plain_renamed, word_at_renamed, open_renamed, declare_renamed, is_taken_renamed, typing_renamed, constant_typing_renamed}
 use Rattle.c_renaming.proofs.DeclarationLemmas.{renamed_entry, array_list_renamed, entries_renamed, declarator_renamed}
-
-abbrev same_value : {A : Type 0} → A → A
-same_value a = a
 
 abbrev pub renamed_local : Renaming → LocalTree → LocalTree
 renamed_local r l = record { name = r.name l.name; object_type = l.object_type; values = l.values }
@@ -70,7 +67,7 @@ module _ (r : Renaming) where
   array_renamed (tree.Array length) = refl
   array_renamed (tree.Parameters ps) = refl
 
-  given_initial : (i : Option InitialTree) → is_some (option_map (renamed_initial r) i) ≡ is_some i
+  pub given_initial : (i : Option InitialTree) → is_some (option_map (renamed_initial r) i) ≡ is_some i
   given_initial None = refl
   given_initial (Some i) = refl
 
@@ -105,11 +102,11 @@ module _ (r : Renaming) where
   started_renamed : (v : VarRef) (type : ObjectType) (at : ℕ) (i : Initialiser) → started v type (r.place at) (renamed_initialiser r i) ≡ renamed_outcome r.place (renamed_start r) (started v type at i)
   started_renamed v type at Absent = refl
   started_renamed v (Single kind) at (Value x) =
-      then_renamed r.place (renamed_value r) (renamed_start r) (given kind at x) (given kind (r.place at) (renamed_operand r x)) _ _ (given_renamed r kind at x) (λ w. refl)
+      bind_follows r.place (renamed_value r) (renamed_start r) (given kind at x) (given kind (r.place at) (renamed_operand r x)) _ _ (given_renamed r kind at x) (λ w. refl)
   started_renamed v (Array kind n) at (Value x) = refl
   started_renamed v (Single kind) at (Listed es) = refl
   started_renamed v (Array kind n) at (Listed es) =
-      then_renamed r.place same_value (renamed_start r) (array_list kind n at es) (array_list kind n (r.place at) (map (renamed_entry r) es)) _ _ (array_list_renamed r kind n at es) (λ is. refl)
+      bind_follows r.place same_value (renamed_start r) (array_list kind n at es) (array_list kind n (r.place at) (map (renamed_entry r) es)) _ _ (array_list_renamed r kind n at es) (λ is. refl)
   started_renamed v (Single kind) at Misbraced = refl
   started_renamed v (Array kind n) at Misbraced = refl
 
@@ -121,16 +118,16 @@ module _ (r : Renaming) where
     all_typed_renamed : (s t : Scope) (es : List Expression) → IsScopeRenamed r s t → all_typed t (map (renamed_expression r) es) ≡ renamed_outcome r.place (renamed_initialiser r) (all_typed s es)
     all_typed_renamed s t [] same = refl
     all_typed_renamed s t (e ∷ es) same =
-        then_renamed r.place (renamed_value r) (renamed_initialiser r) (typing s e) (typing t (renamed_expression r e)) _ _ (typing_renamed faithful same e) (λ x. all_typed_renamed s t es same)
+        bind_follows r.place (renamed_value r) (renamed_initialiser r) (typing s e) (typing t (renamed_expression r e)) _ _ (typing_renamed faithful same e) (λ x. all_typed_renamed s t es same)
 
     initialiser_renamed : (s t : Scope) (array : Bool) (i : Option InitialTree) → IsScopeRenamed r s t
         → initialiser t array (option_map (renamed_initial r) i) ≡ renamed_outcome r.place (renamed_initialiser r) (initialiser s array i)
     initialiser_renamed s t array None same = refl
     initialiser_renamed s t array (Some (tree.One e)) same =
-        then_renamed r.place (renamed_value r) (renamed_initialiser r) (typing s e) (typing t (renamed_expression r e)) _ _ (typing_renamed faithful same e) (λ x.
+        bind_follows r.place (renamed_value r) (renamed_initialiser r) (typing s e) (typing t (renamed_expression r e)) _ _ (typing_renamed faithful same e) (λ x.
         ap (λ o. Is (Value o)) (operand_renamed r e x))
     initialiser_renamed s t true (Some (tree.Braced es at)) same =
-        then_renamed r.place (map (renamed_entry r)) (renamed_initialiser r) (entries s es) (entries t (map (renamed_expression r) es)) _ _ (entries_renamed r faithful s t same es) (λ xs. refl)
+        bind_follows r.place (map (renamed_entry r)) (renamed_initialiser r) (entries s es) (entries t (map (renamed_expression r) es)) _ _ (entries_renamed r faithful s t same es) (λ xs. refl)
     initialiser_renamed s t false (Some (tree.Braced es at)) same = all_typed_renamed s t es same
 
     -- ---- declarations of blocks
@@ -198,7 +195,7 @@ module _ (r : Renaming) where
     optional_renamed : (s t : Scope) (e : Option Expression) → IsScopeRenamed r s t → optional t (renamed_optional r e) ≡ renamed_outcome r.place (renamed_optional_value r) (optional s e)
     optional_renamed s t None same = refl
     optional_renamed s t (Some e) same =
-        then_renamed r.place (renamed_value r) (renamed_optional_value r) (typing s e) (typing t (renamed_expression r e)) _ _ (typing_renamed faithful same e) (λ x. refl)
+        bind_follows r.place (renamed_value r) (renamed_optional_value r) (typing s e) (typing t (renamed_expression r e)) _ _ (typing_renamed faithful same e) (λ x. refl)
 
     opened_in_renamed : (s t : Scope) (ls : List LocalTree) → IsScopeRenamed r s t → IsOpenedRenamed r (opened_in s ls) (opened_in t (map (renamed_local r) ls))
     opened_in_renamed s t ls same = record { scope = same; locals = refl; declared = refl; statements = refl }
@@ -223,72 +220,72 @@ module _ (r : Renaming) where
             → typed_statement result t c (map (renamed_local r) ls) (renamed_statement r a) ≡ renamed_outcome r.place (renamed_typed r (renamed_code r)) (typed_statement result s c ls a)
         typed_statement_renamed s t c ls (tree.Empty at) same = refl
         typed_statement_renamed s t c ls (tree.Evaluate e at) same =
-            then_renamed r.place (renamed_value r) (renamed_typed r (renamed_code r)) (typing s e) _ _ _ (typing_renamed faithful same e) (λ x. refl)
+            bind_follows r.place (renamed_value r) (renamed_typed r (renamed_code r)) (typing s e) _ _ _ (typing_renamed faithful same e) (λ x. refl)
         typed_statement_renamed s t c ls (tree.Block ds ss at) same =
             related_equal r.place (IsOpenedRenamed r) (renamed_typed r (renamed_code r)) (declarations (opened_in (open_scope s) ls) ds) _ _ _
             (declarations_renamed (opened_in (open_scope s) ls) (opened_in (open_scope t) (map (renamed_local r) ls)) ds (opened_in_renamed (open_scope s) (open_scope t) ls (open_renamed same)))
             (λ o q opened.
-            then_renamed r.place (renamed_typed r (renamed_codes r)) (renamed_typed r (renamed_code r)) (typed_statements result o.scope c o.locals ss) _ _ _
+            bind_follows r.place (renamed_typed r (renamed_codes r)) (renamed_typed r (renamed_code r)) (typed_statements result o.scope c o.locals ss) _ _ _
             (ap (λ l. typed_statements result q.scope c l (renamed_statements r ss)) opened.locals ∙ typed_statements_renamed o.scope q.scope c o.locals ss opened.scope)
             (λ p. block_renamed o q opened p))
         typed_statement_renamed s t c ls (tree.Break at) same = broken_renamed r.place (renamed_typed r (renamed_code r)) Misplaced at (not (may_break c)) (not (may_break c)) _ _ refl refl
         typed_statement_renamed s t c ls (tree.Continue at) same = broken_renamed r.place (renamed_typed r (renamed_code r)) Misplaced at (not (may_continue c)) (not (may_continue c)) _ _ refl refl
         typed_statement_renamed s t c ls (tree.Return None at) same = broken_renamed r.place (renamed_typed r (renamed_code r)) Mismatch at (not (is_void result)) (not (is_void result)) _ _ refl refl
         typed_statement_renamed s t c ls (tree.Return (Some e) at) same =
-            then_renamed r.place (renamed_value r) (renamed_typed r (renamed_code r)) (typing s e) _ _ _ (typing_renamed faithful same e) (λ x.
-            then_renamed r.place (renamed_value r) (renamed_typed r (renamed_code r)) (typed_return result at (operand e x)) _ _ _
+            bind_follows r.place (renamed_value r) (renamed_typed r (renamed_code r)) (typing s e) _ _ _ (typing_renamed faithful same e) (λ x.
+            bind_follows r.place (renamed_value r) (renamed_typed r (renamed_code r)) (typed_return result at (operand e x)) _ _ _
             (ap (typed_return result (r.place at)) (operand_renamed r e x) ∙ typed_return_renamed result at (operand e x)) (λ v. refl))
         typed_statement_renamed s t c ls (tree.If e a at) same =
-            then_renamed r.place (renamed_value r) (renamed_typed r (renamed_code r)) (typing s e) _ _ _ (typing_renamed faithful same e) (λ x.
-            then_renamed r.place (renamed_typed r (renamed_code r)) (renamed_typed r (renamed_code r)) (typed_statement result s c ls a) _ _ _ (typed_statement_renamed s t c ls a same) (λ p.
+            bind_follows r.place (renamed_value r) (renamed_typed r (renamed_code r)) (typing s e) _ _ _ (typing_renamed faithful same e) (λ x.
+            bind_follows r.place (renamed_typed r (renamed_code r)) (renamed_typed r (renamed_code r)) (typed_statement result s c ls a) _ _ _ (typed_statement_renamed s t c ls a same) (λ p.
             tested x at (code.If x p.tree (code.Block [] code.done)) p.locals))
         typed_statement_renamed s t c ls (tree.IfElse e a b at) same =
-            then_renamed r.place (renamed_value r) (renamed_typed r (renamed_code r)) (typing s e) _ _ _ (typing_renamed faithful same e) (λ x.
-            then_renamed r.place (renamed_typed r (renamed_code r)) (renamed_typed r (renamed_code r)) (typed_statement result s c ls a) _ _ _ (typed_statement_renamed s t c ls a same) (λ p.
-            then_renamed r.place (renamed_typed r (renamed_code r)) (renamed_typed r (renamed_code r)) (typed_statement result s c p.locals b) _ _ _ (typed_statement_renamed s t c p.locals b same) (λ q.
+            bind_follows r.place (renamed_value r) (renamed_typed r (renamed_code r)) (typing s e) _ _ _ (typing_renamed faithful same e) (λ x.
+            bind_follows r.place (renamed_typed r (renamed_code r)) (renamed_typed r (renamed_code r)) (typed_statement result s c ls a) _ _ _ (typed_statement_renamed s t c ls a same) (λ p.
+            bind_follows r.place (renamed_typed r (renamed_code r)) (renamed_typed r (renamed_code r)) (typed_statement result s c p.locals b) _ _ _ (typed_statement_renamed s t c p.locals b same) (λ q.
             tested x at (code.If x p.tree q.tree) q.locals)))
         typed_statement_renamed s t c ls (tree.Switch e cs place at) same =
-            then_renamed r.place (renamed_value r) (renamed_typed r (renamed_code r)) (typing s e) _ _ _ (typing_renamed faithful same e) (λ x.
-            then_renamed r.place (renamed_typed r (renamed_labelled r)) (renamed_typed r (renamed_code r)) (typed_choices result s (in_switch c) ls cs) _ _ _ (typed_choices_renamed s t (in_switch c) ls cs same) (λ p.
+            bind_follows r.place (renamed_value r) (renamed_typed r (renamed_code r)) (typing s e) _ _ _ (typing_renamed faithful same e) (λ x.
+            bind_follows r.place (renamed_typed r (renamed_labelled r)) (renamed_typed r (renamed_code r)) (typed_choices result s (in_switch c) ls cs) _ _ _ (typed_choices_renamed s t (in_switch c) ls cs same) (λ p.
             broken_renamed r.place (renamed_typed r (renamed_code r)) Redeclared place (repeats_label p.tree.choices) (repeats_label (renamed_cases r p.tree.choices)) _ _ (repeats_label_renamed p.tree.choices)
             (broken_renamed r.place (renamed_typed r (renamed_code r)) Mismatch place p.tree.pointer p.tree.pointer _ _ refl
             (broken_renamed r.place (renamed_typed r (renamed_code r)) Mismatch at (not (is_integer (class_of (kind_of x)))) (not (is_integer (class_of (kind_of (renamed_value r x))))) _ _
             (ap (λ k. not (is_integer (class_of k))) (kind_renamed r x)) refl))))
         typed_statement_renamed s t c ls (tree.While e a at) same =
-            then_renamed r.place (renamed_value r) (renamed_typed r (renamed_code r)) (typing s e) _ _ _ (typing_renamed faithful same e) (λ x.
-            then_renamed r.place (renamed_typed r (renamed_code r)) (renamed_typed r (renamed_code r)) (typed_statement result s around.Loop ls a) _ _ _ (typed_statement_renamed s t around.Loop ls a same) (λ p.
+            bind_follows r.place (renamed_value r) (renamed_typed r (renamed_code r)) (typing s e) _ _ _ (typing_renamed faithful same e) (λ x.
+            bind_follows r.place (renamed_typed r (renamed_code r)) (renamed_typed r (renamed_code r)) (typed_statement result s around.Loop ls a) _ _ _ (typed_statement_renamed s t around.Loop ls a same) (λ p.
             tested x at (code.While x p.tree) p.locals))
         typed_statement_renamed s t c ls (tree.DoWhile a e at) same =
-            then_renamed r.place (renamed_typed r (renamed_code r)) (renamed_typed r (renamed_code r)) (typed_statement result s around.Loop ls a) _ _ _ (typed_statement_renamed s t around.Loop ls a same) (λ p.
-            then_renamed r.place (renamed_value r) (renamed_typed r (renamed_code r)) (typing s e) _ _ _ (typing_renamed faithful same e) (λ x.
+            bind_follows r.place (renamed_typed r (renamed_code r)) (renamed_typed r (renamed_code r)) (typed_statement result s around.Loop ls a) _ _ _ (typed_statement_renamed s t around.Loop ls a same) (λ p.
+            bind_follows r.place (renamed_value r) (renamed_typed r (renamed_code r)) (typing s e) _ _ _ (typing_renamed faithful same e) (λ x.
             tested x at (code.Do_while p.tree x) p.locals))
         typed_statement_renamed s t c ls (tree.For first test third a at) same =
-            then_renamed r.place (renamed_optional_value r) (renamed_typed r (renamed_code r)) (optional s first) _ _ _ (optional_renamed s t first same) (λ x.
-            then_renamed r.place (renamed_optional_value r) (renamed_typed r (renamed_code r)) (optional s test) _ _ _ (optional_renamed s t test same) (λ y.
-            then_renamed r.place (renamed_optional_value r) (renamed_typed r (renamed_code r)) (optional s third) _ _ _ (optional_renamed s t third same) (λ z.
-            then_renamed r.place (renamed_typed r (renamed_code r)) (renamed_typed r (renamed_code r)) (typed_statement result s around.Loop ls a) _ _ _ (typed_statement_renamed s t around.Loop ls a same) (λ p.
+            bind_follows r.place (renamed_optional_value r) (renamed_typed r (renamed_code r)) (optional s first) _ _ _ (optional_renamed s t first same) (λ x.
+            bind_follows r.place (renamed_optional_value r) (renamed_typed r (renamed_code r)) (optional s test) _ _ _ (optional_renamed s t test same) (λ y.
+            bind_follows r.place (renamed_optional_value r) (renamed_typed r (renamed_code r)) (optional s third) _ _ _ (optional_renamed s t third same) (λ z.
+            bind_follows r.place (renamed_typed r (renamed_code r)) (renamed_typed r (renamed_code r)) (typed_statement result s around.Loop ls a) _ _ _ (typed_statement_renamed s t around.Loop ls a same) (λ p.
             broken_renamed r.place (renamed_typed r (renamed_code r)) Mismatch at (is_void_test y) (is_void_test (renamed_optional_value r y)) _ _ (void_test_renamed y) refl))))
 
         pub typed_statements_renamed : (s t : Scope) (c : Enclosing) (ls : List LocalTree) (ss : Statements) → IsScopeRenamed r s t
             → typed_statements result t c (map (renamed_local r) ls) (renamed_statements r ss) ≡ renamed_outcome r.place (renamed_typed r (renamed_codes r)) (typed_statements result s c ls ss)
         typed_statements_renamed s t c ls no_statement same = refl
         typed_statements_renamed s t c ls (statement a rest) same =
-            then_renamed r.place (renamed_typed r (renamed_code r)) (renamed_typed r (renamed_codes r)) (typed_statement result s c ls a) _ _ _ (typed_statement_renamed s t c ls a same) (λ p.
-            then_renamed r.place (renamed_typed r (renamed_codes r)) (renamed_typed r (renamed_codes r)) (typed_statements result s c p.locals rest) _ _ _ (typed_statements_renamed s t c p.locals rest same) (λ q. refl))
+            bind_follows r.place (renamed_typed r (renamed_code r)) (renamed_typed r (renamed_codes r)) (typed_statement result s c ls a) _ _ _ (typed_statement_renamed s t c ls a same) (λ p.
+            bind_follows r.place (renamed_typed r (renamed_codes r)) (renamed_typed r (renamed_codes r)) (typed_statements result s c p.locals rest) _ _ _ (typed_statements_renamed s t c p.locals rest same) (λ q. refl))
 
         typed_choices_renamed : (s t : Scope) (c : Enclosing) (ls : List LocalTree) (cs : tree.Choices) → IsScopeRenamed r s t
             → typed_choices result t c (map (renamed_local r) ls) (renamed_choices r cs) ≡ renamed_outcome r.place (renamed_typed r (renamed_labelled r)) (typed_choices result s c ls cs)
         typed_choices_renamed s t c ls no_choice same = refl
         typed_choices_renamed s t c ls (case_label e rest) same =
-            then_renamed r.place (renamed_value r) (renamed_typed r (renamed_labelled r)) (constant_typing s e) _ _ _ (constant_typing_renamed faithful same e) (λ x.
-            then_renamed r.place same_value (renamed_typed r (renamed_labelled r)) (word_at e x) _ _ _ (word_at_renamed r e x) (λ w.
-            then_renamed r.place (renamed_typed r (renamed_labelled r)) (renamed_typed r (renamed_labelled r)) (typed_choices result s c ls rest) _ _ _ (typed_choices_renamed s t c ls rest same) (λ p.
+            bind_follows r.place (renamed_value r) (renamed_typed r (renamed_labelled r)) (constant_typing s e) _ _ _ (constant_typing_renamed faithful same e) (λ x.
+            bind_follows r.place same_value (renamed_typed r (renamed_labelled r)) (word_at e x) _ _ _ (word_at_renamed r e x) (λ w.
+            bind_follows r.place (renamed_typed r (renamed_labelled r)) (renamed_typed r (renamed_labelled r)) (typed_choices result s c ls rest) _ _ _ (typed_choices_renamed s t c ls rest same) (λ p.
             ap (λ b. Is (behind_case w b (renamed_typed r (renamed_labelled r) p))) (ap points (kind_renamed r x)))))
         typed_choices_renamed s t c ls (default_label rest) same =
-            then_renamed r.place (renamed_typed r (renamed_labelled r)) (renamed_typed r (renamed_labelled r)) (typed_choices result s c ls rest) _ _ _ (typed_choices_renamed s t c ls rest same) (λ p. refl)
+            bind_follows r.place (renamed_typed r (renamed_labelled r)) (renamed_typed r (renamed_labelled r)) (typed_choices result s c ls rest) _ _ _ (typed_choices_renamed s t c ls rest same) (λ p. refl)
         typed_choices_renamed s t c ls (chosen a rest) same =
-            then_renamed r.place (renamed_typed r (renamed_code r)) (renamed_typed r (renamed_labelled r)) (typed_statement result s c ls a) _ _ _ (typed_statement_renamed s t c ls a same) (λ p.
-            then_renamed r.place (renamed_typed r (renamed_labelled r)) (renamed_typed r (renamed_labelled r)) (typed_choices result s c p.locals rest) _ _ _ (typed_choices_renamed s t c p.locals rest same) (λ q. refl))
+            bind_follows r.place (renamed_typed r (renamed_code r)) (renamed_typed r (renamed_labelled r)) (typed_statement result s c ls a) _ _ _ (typed_statement_renamed s t c ls a same) (λ p.
+            bind_follows r.place (renamed_typed r (renamed_labelled r)) (renamed_typed r (renamed_labelled r)) (typed_choices result s c p.locals rest) _ _ _ (typed_choices_renamed s t c p.locals rest same) (λ q. refl))
 
       pub typed_body_renamed : (s t : Scope) (ls : List LocalTree) (ds : List DeclarationTree) (ss : Statements) → IsScopeRenamed r s t
           → typed_body result t (map (renamed_local r) ls) (map (renamed_declaration r) ds) (renamed_statements r ss) ≡ renamed_outcome r.place (renamed_typed r (renamed_code r)) (typed_body result s ls ds ss)
@@ -296,6 +293,6 @@ module _ (r : Renaming) where
           related_equal r.place (IsOpenedRenamed r) (renamed_typed r (renamed_code r)) (declarations (opened_in s ls) ds) _ _ _
           (declarations_renamed (opened_in s ls) (opened_in t (map (renamed_local r) ls)) ds (opened_in_renamed s t ls same))
           (λ o q opened.
-          then_renamed r.place (renamed_typed r (renamed_codes r)) (renamed_typed r (renamed_code r)) (typed_statements result o.scope around.Body o.locals ss) _ _ _
+          bind_follows r.place (renamed_typed r (renamed_codes r)) (renamed_typed r (renamed_code r)) (typed_statements result o.scope around.Body o.locals ss) _ _ _
           (ap (λ l. typed_statements result q.scope around.Body l (renamed_statements r ss)) opened.locals ∙ typed_statements_renamed o.scope q.scope around.Body o.locals ss opened.scope)
           (λ p. block_renamed o q opened p))

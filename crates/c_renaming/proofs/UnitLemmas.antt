@@ -27,14 +27,11 @@ use Rattle.c_rules.specs.Units.{StaticTree, TypedFunction, File, agrees, may_dec
 use Rattle.c_renaming.specs.Renaming.{Renaming, IsFaithful}
 use Rattle.c_renaming.specs.RenamedTrees.{renamed_parameter, renamed_initial, renamed_item, renamed_function, renamed_external, renamed_unit}
 use Rattle.c_renaming.specs.RenamedPrograms.{renamed_code}
-use Rattle.c_renaming.proofs.OutcomeLemmas.{renamed_outcome, IsScopeRenamed}
-use Rattle.c_renaming.proofs.RelatedOutcomes.{then_renamed, AreRelated, then_related, equal_related, broken_related}
+use Rattle.c_renaming.proofs.OutcomeLemmas.{renamed_outcome, IsScopeRenamed, bind_follows}
+use Rattle.c_renaming.proofs.RelatedOutcomes.{AreRelated, then_related, equal_related, broken_related, same_value}
 use Rattle.c_renaming.proofs.TypingLemmas.{spelled_renamed, is_in_renamed, is_out_renamed, open_renamed, declare_renamed, bodies_before_renamed}
 use Rattle.c_renaming.proofs.DeclarationLemmas.{renamed_entry, cell_renamed, array_list_renamed, entry_renamed, entries_renamed, with_single_renamed, parameters_renamed, declarator_renamed}
-use Rattle.c_renaming.proofs.StatementLemmas.{renamed_local, renamed_typed, typed_body_renamed}
-
-abbrev same_value : {A : Type 0} → A → A
-same_value a = a
+use Rattle.c_renaming.proofs.StatementLemmas.{given_initial, renamed_local, renamed_typed, typed_body_renamed}
 
 abbrev pub renamed_static : Renaming → StaticTree → StaticTree
 renamed_static r s = record { name = r.name s.name; object_type = s.object_type; initial = s.initial }
@@ -60,17 +57,13 @@ pub record IsFileRenamed (r : Renaming) (f g : File) : Type 0 where
   pub functions : g.functions ≡ map (renamed_typed_function r) f.functions
 
 module _ (r : Renaming) where
-  given_initial : (i : Option InitialTree) → is_some (option_map (renamed_initial r) i) ≡ is_some i
-  given_initial None = refl
-  given_initial (Some i) = refl
-
   static_list_renamed : (type : ObjectType) (at : ℕ) (i : Starts) → static_list type (r.place at) (renamed_starts r i) ≡ renamed_outcome r.place same_value (static_list type at i)
   static_list_renamed type at NoStart = refl
-  static_list_renamed (Single kind) at (One e) = then_renamed r.place same_value same_value (cell kind at e) _ _ _ (cell_renamed r kind at e) (λ i. refl)
+  static_list_renamed (Single kind) at (One e) = bind_follows r.place same_value same_value (cell kind at e) _ _ _ (cell_renamed r kind at e) (λ i. refl)
   static_list_renamed (Array kind n) at (One e) = refl
   static_list_renamed (Single kind) at (Braced es) = refl
   static_list_renamed (Array kind n) at (Braced es) =
-      then_renamed r.place same_value same_value (array_list kind n at es) _ _ _ (array_list_renamed r kind n at es) (λ is. refl)
+      bind_follows r.place same_value same_value (array_list kind n at es) _ _ _ (array_list_renamed r kind n at es) (λ is. refl)
 
   -- ---- objects of the file
 
@@ -146,16 +139,16 @@ module _ (r : Renaming) where
 
     starts_renamed : (s t : Scope) (i : Option InitialTree) → IsScopeRenamed r s t → starts t (option_map (renamed_initial r) i) ≡ renamed_outcome r.place (renamed_starts r) (starts s i)
     starts_renamed s t None same = refl
-    starts_renamed s t (Some (tree.One e)) same = then_renamed r.place (renamed_entry r) (renamed_starts r) (entry s e) _ _ _ (entry_renamed r faithful s t same e) (λ x. refl)
+    starts_renamed s t (Some (tree.One e)) same = bind_follows r.place (renamed_entry r) (renamed_starts r) (entry s e) _ _ _ (entry_renamed r faithful s t same e) (λ x. refl)
     starts_renamed s t (Some (tree.Braced es at)) same =
-        then_renamed r.place (map (renamed_entry r)) (renamed_starts r) (entries s es) _ _ _ (entries_renamed r faithful s t same es) (λ xs. refl)
+        bind_follows r.place (map (renamed_entry r)) (renamed_starts r) (entries s es) _ _ _ (entries_renamed r faithful s t same es) (λ xs. refl)
 
     number_renamed : (f g : File) (name : List ℕ) → IsFileRenamed r f g → static_number (g.scope.meaning (r.name name)) ≡ static_number (f.scope.meaning name)
     number_renamed f g name same = ap static_number (same.scope.meaning name)
 
     is_twice_renamed : (f g : File) (item : ItemTree) → IsFileRenamed r f g → is_twice g (renamed_item r item) ≡ is_twice f item
     is_twice_renamed f g item same =
-        λ i. given_initial item.initial i && (ap (λ l. is_initialised l (static_number (g.scope.meaning (r.name item.name)))) same.statics
+        λ i. given_initial r item.initial i && (ap (λ l. is_initialised l (static_number (g.scope.meaning (r.name item.name)))) same.statics
         ∙ ap (is_initialised (map (renamed_static r) f.statics)) (number_renamed f g item.name same)
         ∙ is_initialised_renamed f.statics (static_number (f.scope.meaning item.name))) i
 
@@ -163,7 +156,7 @@ module _ (r : Renaming) where
         → AreRelated r.place (IsFileRenamed r) (declared_as f s d item i) (declared_as g t d (renamed_item r item) (renamed_starts r i))
     declared_as_renamed f g s t declares.Untyped item i same scope = (refl, refl)
     declared_as_renamed f g s t (declares.Function type) item i same scope =
-        broken_related r.place (IsFileRenamed r) Mismatch item.at (is_some item.initial) (is_some (option_map (renamed_initial r) item.initial)) _ _ (given_initial item.initial)
+        broken_related r.place (IsFileRenamed r) Mismatch item.at (is_some item.initial) (is_some (option_map (renamed_initial r) item.initial)) _ _ (given_initial r item.initial)
         (record { scope = scope; statics = same.statics; functions = same.functions })
     declared_as_renamed f g s t (declares.Object type) item i same scope =
         equal_related r.place same_value (IsFileRenamed r) (static_list type item.at i) _ _ _ (static_list_renamed type item.at i) (λ is. record {
