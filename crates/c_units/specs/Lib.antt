@@ -1,0 +1,10 @@
+pub use Rattle.c_renaming.specs as c_renaming
+pub use Rattle.c_renaming.specs.c_tree as c_tree
+pub use Rattle.c_lexer.specs as c_lexer
+pub mod Externs
+pub mod ExternViews
+pub mod Statics
+pub mod Files
+pub mod Objects
+pub mod Joining
+pub mod Choices

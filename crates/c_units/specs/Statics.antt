@@ -1,0 +1,52 @@
+-- The statics of a file, the names that they get, and names that are reserved for these (docs/LANGUAGE.md, "Programs of several
+-- files"; ISO 9899:1990 6.1.2.2).
+use Rattle.std.specs.Prelude.{ℕ, ◌&&◌, ◌||◌, nat_lt, nat_le, Bool, true, false, if◌then◌else◌, List, [], ◌∷◌, ◌++◌, length, map, flat_map, reverse, codes, decimal, Option, Some, None}
+use Rattle.c_tree.specs.c_syntax.declared.token.Token.{Token}
+use Rattle.c_tree.specs.c_syntax.declared.token.TokenKind.{TokenKind}
+use Rattle.c_tree.specs.c_syntax.declared.token.TokenKind.TheVariants.{Name}
+use Rattle.c_tree.specs.c_syntax.SyntaxTree.{ExternalTree, Defined, Declared, UnitTree}
+use Rattle.c_tree.specs.c_syntax.declared.syntax.SpecWord.TheVariants.{Static}
+use Rattle.c_rules.specs.Typing.{has}
+use Rattle.c_rules.specs.Units.{is_name_among}
+
+-- the names that an external declares with `static`
+abbrev pub statics_in : ExternalTree → List (List ℕ)
+statics_in (Defined f) = if has Static f.specs.words then f.name ∷ [] else []
+statics_in (Declared d) = if has Static d.specs.words then map (λ item. item.name) d.items else []
+
+abbrev pub statics_of : UnitTree → List (List ℕ)
+statics_of unit = flat_map statics_in unit
+
+-- the name that a static of the file of this number gets
+abbrev pub static_name : ℕ → List ℕ → List ℕ
+static_name number name = name ++ (codes "__" ++ decimal number)
+
+-- a text that is read from its end: digits, at least one, and then `__`
+abbrev pub is_digit : ℕ → Bool
+is_digit code = nat_le 48 code && nat_le code 57
+
+abbrev pub marked_behind : List ℕ → Bool
+marked_behind (95 ∷ 95 ∷ front) = true
+marked_behind [] = false
+marked_behind (code ∷ front) = is_digit code && marked_behind front
+
+abbrev pub ends_in_number : List ℕ → Bool
+ends_in_number name = from_end (reverse name)
+  where
+    from_end : List ℕ → Bool
+    from_end [] = false
+    from_end (code ∷ front) = is_digit code && marked_behind front
+
+-- a name that none may have in a file with these statics: it ends in `__` and digits, or is that of a static and is too long to get
+-- another
+abbrev pub is_reserved : List (List ℕ) → List ℕ → Bool
+is_reserved statics name = ends_in_number name || (is_name_among name statics && nat_lt 120 (length name))
+
+abbrev pub is_reserved_kind : List (List ℕ) → TokenKind → Bool
+is_reserved_kind statics (Name name) = is_reserved statics name
+is_reserved_kind statics kind = false
+
+-- the place of the first such name
+abbrev pub reserved_at : List (List ℕ) → List Token → Option ℕ
+reserved_at statics [] = None
+reserved_at statics (t ∷ ts) = if is_reserved_kind statics t.kind then Some t.at else reserved_at statics ts
