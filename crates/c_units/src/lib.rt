@@ -3,6 +3,12 @@
 
 mod externs;
 mod fault;
+mod files;
+mod joining;
+mod names;
+mod objects;
+mod reserved;
 mod statics;
 
 pub use fault::UnitFault;
+pub use joining::join_units;
