@@ -1,2 +1,4 @@
 pub mod OneOutcome
 pub mod SpellingLemmas
+pub mod StaticLemmas
+pub mod FreshLemmas
