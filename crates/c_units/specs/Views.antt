@@ -1,5 +1,6 @@
 -- What the code keeps of files, in the words of the definitions.
-use Rattle.std.specs.Prelude.{◌≡◌, ℕ, Bool, List, map, list_any, nat_eq}
+use Rattle.std.specs.Prelude.{◌≡◌, ℕ, Bool, List, map, nat_eq}
+use Rattle.std.specs.List.{list_any}
 use Rattle.std.specs.Str.{bytes_eq}
 use Rattle.std.specs.HashSet.{contains}
 use Rattle.std.specs.declared.hash.BuildHasherDefault.{BuildHasherDefault}

@@ -1,5 +1,5 @@
 //! Names, each once.
-ghost use Rattle.std.specs.Prelude.{◌≡◌, ◌||◌, ℕ, false, IfOk, OnOk};
+ghost use Rattle.std.specs.Prelude.{◌≡◌, ◌||◌, ℕ, List, false, OnOk};
 ghost use Rattle.std.specs.Str.{bytes_eq};
 ghost use Rattle.c_units.specs.Views.{has_name};
 
