@@ -1,6 +1,7 @@
 -- What a file is by itself: its tokens without dropped `extern`s, their tree, and the fault that it has (docs/LANGUAGE.md, "Programs
 -- of several files").
-use Rattle.std.specs.Prelude.{◌≡◌, ◌≢◌, ⊤, ⊥, ℕ, ◌+◌, List, ◌∷◌, ◌++◌, length, AllZip}
+use Rattle.std.specs.Prelude.{◌≡◌, ◌≢◌, ⊤, ℕ, ◌+◌, List, ◌∷◌, ◌++◌, length}
+use Rattle.std.specs.List.{AllZip}
 use Rattle.c_tree.specs.c_syntax.declared.token.Token.{Token}
 use Rattle.c_tree.specs.c_syntax.Lexes.{Lexes}
 use Rattle.c_tree.specs.c_syntax.Source.{IsSource, NoSource, IsPlace}

@@ -1,6 +1,7 @@
 -- The tokens of several files in one list, and the fault that keeps files from being joined (docs/LANGUAGE.md, "Programs of several
 -- files").
-use Rattle.std.specs.Prelude.{◌≡◌, ◌⊎◌, ℕ, suc, nat_lt, if◌then◌else◌, List, [], ◌∷◌, ◌++◌, length, sum_by, map, option_map, option_or, Option, Some, None}
+use Rattle.std.specs.Prelude.{◌≡◌, ◌⊎◌, ℕ, suc, nat_lt, if◌then◌else◌, List, [], ◌∷◌, ◌++◌, length, sum_by, map, option_map, Option, Some, None}
+use Rattle.std.specs.Option.{option_or}
 use Rattle.c_tree.specs.c_syntax.declared.token.Token.{Token}
 use Rattle.c_tree.specs.c_syntax.declared.token.TokenKind.{TokenKind}
 use Rattle.c_tree.specs.c_syntax.Lexes.{most_tokens}
