@@ -1,2 +1,4 @@
 pub mod NumberLemmas
 pub mod SpellingLemmas
+pub mod StaticLemmas
+pub mod FreshLemmas
