@@ -2,3 +2,5 @@ pub mod NumberLemmas
 pub mod SpellingLemmas
 pub mod StaticLemmas
 pub mod FreshLemmas
+pub mod SwapLemmas
+pub mod ChoiceLemmas

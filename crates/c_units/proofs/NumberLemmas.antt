@@ -1,6 +1,6 @@
 -- Names that end in `__` and a number.
 use Rattle.std.proofs.Common.{arith, ◌≡◌, ◌≢◌, ℕ, ◌+◌, ◌%◌, ◌≤◌, ◌<◌, ◌^◌, Bool, true, false, List, [], ◌∷◌, ◌++◌, length, refl, sym, ap, ◌∙◌, subst, inl, inr, append_assoc, length-append}
-use Rattle.std.specs.Prelude.{reverse, codes, decimal, ◌&&◌, ◌==◌, if◌then◌else◌, All, slice_index}
+use Rattle.std.specs.Prelude.{reverse, codes, decimal, ◌&&◌, if◌then◌else◌, slice_index}
 use Rattle.std.specs.List.{AllByRecursion}
 use Rattle.std.proofs.lemmas.Bool.Decides.{nat_tests}
 use Rattle.std.proofs.lemmas.Fmt.{decimal_by_steps, decimal_injective, decimal_nonempty, length-decimal-le}
@@ -93,7 +93,7 @@ reverse_one xs ys e = sym (reverse-reverse xs) ∙ ap reverse e ∙ reverse-reve
 pub one_static : (m n : ℕ) (a b : List ℕ) → m < 2 ^ 64 → n < 2 ^ 64 → static_name m a ≡ static_name n b → (m ≡ n) × (a ≡ b)
 one_static m n a b low high e =
     let split = digits_split (reverse (decimal m)) (reverse (decimal n)) (95 ∷ reverse a) (95 ∷ reverse b) (digits_reversed m low) (digits_reversed n high)
-        (sym (from_its_end m a) ∙ ap reverse e ∙ from_its_end n b) in
+    (sym (from_its_end m a) ∙ ap reverse e ∙ from_its_end n b) in
     let behind : reverse a ≡ reverse b = cc (split.1) in
     (decimal_injective m n low high (reverse_one (decimal m) (decimal n) split.0), reverse_one a b behind)
 

@@ -1,7 +1,7 @@
 -- The tokens of files, joined: each has a spelling, and their text is short.
-use Rattle.std.proofs.Common.{arith, ◌≡◌, ℕ, zero, suc, ◌+◌, ◌*◌, ◌/◌, ◌%◌, ◌≤◌, ◌<◌, ◌^◌, Bool, true, false, cond, List, [], ◌∷◌, ◌++◌, length, map, Option, Some, None, refl, sym, ap, ◌∙◌, subst, length-append}
-use Rattle.std.specs.Prelude.{nat_lt, ◌||◌, ◌&&◌, All, if◌then◌else◌, decimal, option_map}
-use Rattle.std.specs.List.{AllZip, AllByRecursion}
+use Rattle.std.proofs.Common.{arith, ◌≡◌, ℕ, zero, suc, ◌+◌, ◌*◌, ◌/◌, ◌≤◌, ◌<◌, ◌^◌, Bool, true, false, cond, List, [], ◌∷◌, ◌++◌, length, map, Option, Some, None, refl, sym, ap, ◌∙◌, subst, length-append}
+use Rattle.std.specs.Prelude.{nat_lt, ◌||◌, ◌&&◌, All, if◌then◌else◌, option_map}
+use Rattle.std.specs.List.{AllByRecursion}
 use Rattle.std.specs.Option.{option_or}
 use Rattle.std.proofs.lemmas.Bool.Decides.{nat_tests}
 use Rattle.std.proofs.lemmas.Fmt.{length-decimal-le}
@@ -23,7 +23,7 @@ use Rattle.c_rules.specs.Units.{is_name_among}
 use Rattle.c_renaming.specs.RenamedTokens.{renamed_kind}
 use Rattle.c_units.specs.Externs.{Position, AtStart, Within, is_dropped, after_token, kept}
 use Rattle.c_units.specs.Statics.{statics_of, static_name, ends_in_number, is_reserved_kind, reserved_at}
-use Rattle.c_units.specs.Files.{FileTree, HasTokens, IsFile, AreFiles}
+use Rattle.c_units.specs.Files.{FileTree, HasTokens, AreFiles}
 use Rattle.c_units.specs.Joining.{Choice, renaming_of, joined_kinds, Joined, reserved_fault}
 use Rattle.c_units.specs.declared.fault.UnitFault.{UnitFault}
 use Rattle.c_units.specs.declared.fault.UnitFault.TheVariants.{Reserved}

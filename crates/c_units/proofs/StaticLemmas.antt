@@ -5,8 +5,8 @@ use Rattle.std.specs.List.{AllByRecursion}
 use Rattle.c_tree.specs.c_syntax.declared.token.Token.{Token}
 use Rattle.c_tree.specs.c_syntax.declared.token.TokenKind.TheVariants.{Name}
 use Rattle.c_tree.specs.c_syntax.declared.syntax.SpecWord.TheVariants.{Static}
-use Rattle.c_tree.specs.c_syntax.SyntaxTree.{FunctionSyntax, ItemTree, DeclarationTree, ExternalTree, Defined, Declared, UnitTree}
-use Rattle.c_tree.specs.c_syntax.Derives.{DerivesItem, DerivesItems, LastItem, MoreItems, DerivesDeclaration, DerivesFunction, DerivesExternal, DerivesUnit, LastExternal, MoreExternals}
+use Rattle.c_tree.specs.c_syntax.SyntaxTree.{FunctionSyntax, ItemTree, ExternalTree, Defined, Declared, UnitTree}
+use Rattle.c_tree.specs.c_syntax.Derives.{DerivesItem, DerivesItems, LastItem, MoreItems, DerivesFunction, DerivesExternal, DerivesUnit, LastExternal, MoreExternals}
 use Rattle.c_rules.specs.Typing.{has}
 use Rattle.c_units.specs.Statics.{statics_in, statics_of}
 

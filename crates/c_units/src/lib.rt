@@ -3,6 +3,8 @@
 
 mod externs;
 mod fault;
+mod laws;
 mod statics;
 
 pub use fault::UnitFault;
+pub use laws::{fresh_choices_agree, static_names_are_fresh};
