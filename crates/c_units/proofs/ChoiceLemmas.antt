@@ -1,9 +1,10 @@
 -- Two choices of fresh names give tokens that are each other's renamed.
 use Rattle.std.proofs.Common.{arith, ◌≡◌, ◌≢◌, ℕ, suc, ◌+◌, ◌≤◌, Bool, true, false, List, [], ◌∷◌, ◌++◌, length, map, refl, sym, ap, ◌∙◌, subst, inl, inr}
-use Rattle.std.specs.Prelude.{Contains, codes, if◌then◌else◌, ◌||◌}
+use Rattle.std.specs.Prelude.{codes, if◌then◌else◌, ◌||◌}
 use Rattle.std.specs.Str.{bytes_eq}
 use Rattle.std.specs.List.{AllByRecursion}
-use Rattle.std.proofs.lemmas.List.Elements.{All-from_recursion, recursion_from_All, Contains-append_right, Contains-get_or}
+use Rattle.std.proofs.lemmas.List.{map-append}
+use Rattle.std.proofs.lemmas.List.Elements.{All-from_recursion, recursion_from_All}
 use Rattle.std.proofs.lemmas.Slice.Eq.{bytes_eq-Decides}
 use Rattle.c_tree.specs.c_syntax.declared.token.Token.{Token}
 use Rattle.c_tree.specs.c_syntax.declared.token.TokenKind.{TokenKind}
@@ -20,31 +21,8 @@ use Rattle.c_units.specs.Statics.{statics_of}
 use Rattle.c_units.specs.Files.{FileTree}
 use Rattle.c_units.specs.Joining.{Choice, renaming_of, file_kinds, joined_kinds, Joined}
 use Rattle.c_units.specs.Choices.{StaticOf, all_statics, IsFreshName, IsFresh, HasProgram, HasRenamed}
-use Rattle.c_units.proofs.SwapLemmas.{IsMember, all_members, changed, changed_other, changed_each, changed_same}
-
--- ---- members of lists
-
-member_first : {A : Type 0} (x : A) (xs ys : List A) → IsMember x xs → IsMember x (xs ++ ys)
-member_first x [] ys is = absurd is
-member_first x (y ∷ xs) ys (inl e) = inl e
-member_first x (y ∷ xs) ys (inr is) = inr (member_first x xs ys is)
-
-member_last : {A : Type 0} (x : A) (xs ys : List A) → IsMember x ys → IsMember x (xs ++ ys)
-member_last x [] ys is = is
-member_last x (y ∷ xs) ys is = inr (member_last x xs ys is)
-
-contained : {A : Type 0} (x : A) (xs : List A) → IsMember x xs → Contains xs x
-contained x [] is = absurd is
-contained x (y ∷ xs) (inl e) = subst (Contains (y ∷ xs)) e (Contains-get_or (y ∷ xs) 0 y (omega arith))
-contained x (y ∷ xs) (inr is) = Contains-append_right (y ∷ []) xs x (contained x xs is)
-
-all_weaker : {A : Type 0} (P Q : A → Type 0) → ((x : A) → P x → Q x) → (xs : List A) → AllByRecursion P xs → AllByRecursion Q xs
-all_weaker P Q f [] h = tt {0}
-all_weaker P Q f (x ∷ xs) h = (f x h.0, all_weaker P Q f xs h.1)
-
-mapped_both : {A B : Type 0} (f : A → B) (xs ys : List A) → map f (xs ++ ys) ≡ map f xs ++ map f ys
-mapped_both f [] ys = refl
-mapped_both f (x ∷ xs) ys = ap (λ l. f x ∷ l) (mapped_both f xs ys)
+use Rattle.c_units.proofs.ListLemmas.{IsMember, all_weaker, all_members, member_first, member_last, contained}
+use Rattle.c_units.proofs.SwapLemmas.{changed, changed_other, changed_each, changed_same}
 
 -- a name among the statics of a file is one of them
 abbrev static : ℕ → List ℕ → StaticOf
@@ -172,7 +150,7 @@ module _ (files : List FileTree) (from to : Choice) (fresh : IsFresh from files)
       let here = map (static number) (statics_of file.unit) in
       let one = tokens_renamed number file (λ s is. within s (member_first s here (all_statics (suc number) rest) is)) file.tokens h.0 in
       let more = kinds_renamed (suc number) rest (λ s is. within s (member_last s here (all_statics (suc number) rest) is)) h.1 in
-      mapped_both (renamed_kind renaming) (file_kinds from number file) (joined_kinds from (suc number) rest) ∙ (λ i. one i ++ more i)
+      map-append (renamed_kind renaming) (file_kinds from number file) (joined_kinds from (suc number) rest) ∙ (λ i. one i ++ more i)
 
   -- ---- programs
 

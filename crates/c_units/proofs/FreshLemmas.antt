@@ -1,5 +1,5 @@
 -- The names that statics get are fresh.
-use Rattle.std.proofs.Common.{arith, ◌≡◌, ◌≢◌, ℕ, suc, ◌+◌, ◌≤◌, ◌<◌, Bool, true, false, List, [], ◌∷◌, ◌++◌, length, map, None, refl, ap, subst}
+use Rattle.std.proofs.Common.{arith, ◌≡◌, ◌≢◌, ℕ, suc, ◌+◌, ◌≤◌, ◌<◌, Bool, true, false, List, [], ◌∷◌, length, map, None, refl, ap, subst}
 use Rattle.std.specs.Prelude.{All, codes, ◌||◌}
 use Rattle.std.specs.Str.{bytes_eq}
 use Rattle.std.specs.List.{AllByRecursion}
@@ -13,27 +13,10 @@ use Rattle.c_units.specs.Statics.{statics_of, static_name, is_reserved_kind}
 use Rattle.c_units.specs.Files.{FileTree, AreFiles}
 use Rattle.c_units.specs.Joining.{reserved_fault}
 use Rattle.c_units.specs.Choices.{StaticOf, all_statics, IsAbsent, IsFreshName, IsFresh}
+use Rattle.c_units.proofs.ListLemmas.{all_weaker, all_paired, all_mapped, all_joined}
 use Rattle.c_units.proofs.NumberLemmas.{never_static, one_static}
 use Rattle.c_units.proofs.SpellingLemmas.{IsFree, IsClean, free_name, static_spelled, files_clean, as_many}
 use Rattle.c_units.proofs.StaticLemmas.{AreNamed, statics_named}
-
--- ---- lists
-
-all_weaker : {A : Type 0} (P Q : A → Type 0) → ((x : A) → P x → Q x) → (xs : List A) → AllByRecursion P xs → AllByRecursion Q xs
-all_weaker P Q f [] h = tt {0}
-all_weaker P Q f (x ∷ xs) h = (f x h.0, all_weaker P Q f xs h.1)
-
-all_paired : {A : Type 0} (P Q : A → Type 0) (xs : List A) → AllByRecursion P xs → AllByRecursion Q xs → AllByRecursion (λ x. P x × Q x) xs
-all_paired P Q [] h k = tt {0}
-all_paired P Q (x ∷ xs) h k = ((h.0, k.0), all_paired P Q xs h.1 k.1)
-
-all_mapped : {A B : Type 0} (P : B → Type 0) (f : A → B) (xs : List A) → AllByRecursion (λ x. P (f x)) xs → AllByRecursion P (map f xs)
-all_mapped P f [] h = tt {0}
-all_mapped P f (x ∷ xs) h = (h.0, all_mapped P f xs h.1)
-
-all_joined : {A : Type 0} (P : A → Type 0) (xs ys : List A) → AllByRecursion P xs → AllByRecursion P ys → AllByRecursion P (xs ++ ys)
-all_joined P [] ys h k = k
-all_joined P (x ∷ xs) ys h k = (h.0, all_joined P xs ys h.1 k)
 
 -- ---- names of statics are names of tokens
 

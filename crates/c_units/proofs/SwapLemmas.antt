@@ -4,6 +4,7 @@ use Rattle.std.specs.Prelude.{if◌then◌else◌}
 use Rattle.std.specs.Str.{bytes_eq}
 use Rattle.std.specs.List.{AllByRecursion}
 use Rattle.std.proofs.lemmas.Slice.Eq.{bytes_eq-Decides}
+use Rattle.c_units.proofs.ListLemmas.{IsMember}
 
 same_true : (a b : List ℕ) → a ≡ b → bytes_eq a b ≡ true
 same_true a b = (bytes_eq-Decides a b).1
@@ -48,16 +49,6 @@ swapped_twice a b name = by (cases name a) (cases name b)
 
 swapped_one : (a b m n : List ℕ) → swapped a b m ≡ swapped a b n → m ≡ n
 swapped_one a b m n e = sym (swapped_twice a b m) ∙ ap (swapped a b) e ∙ swapped_twice a b n
-
--- ---- lists
-
-abbrev pub IsMember : {A : Type 0} → A → List A → Type 0
-IsMember x [] = ⊥
-IsMember x (y ∷ ys) = (y ≡ x) ⊎ IsMember x ys
-
-pub all_members : {A : Type 0} (P : A → Type 0) (xs : List A) → ((x : A) → IsMember x xs → P x) → AllByRecursion P xs
-all_members P [] h = tt {0}
-all_members P (x ∷ xs) h = (h x (inl refl), all_members P xs (λ y is. h y (inr is)))
 
 -- ---- many swaps: each thing has a name, and gets another
 
