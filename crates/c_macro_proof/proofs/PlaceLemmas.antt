@@ -1,14 +1,11 @@
 -- The place of each token of a text in another text with tokens of the same kinds.
-use Rattle.std.proofs.Common.{arith, ◌≡◌, ◌≢◌, ℕ, ◌+◌, ◌≤◌, ◌==◌, if◌then◌else◌, List, [], ◌∷◌, ◌++◌, length, refl, sym, ap, ◌∙◌, subst, eq-eqb, ne_eqb}
-use Rattle.std.specs.Prelude.{⊤}
+use Rattle.std.proofs.Common.{arith, ◌≡◌, ◌≢◌, ℕ, ◌+◌, ◌≤◌, List, [], ◌∷◌, ◌++◌, length, refl, sym, ap, ◌∙◌, subst}
 use Rattle.std.specs.List.{AllZip}
 use Rattle.c_renaming.specs.c_tree.c_syntax.declared.token.Token.{Token}
 use Rattle.c_renaming.specs.c_tree.c_syntax.declared.token.TokenKind.{TokenKind}
 use Rattle.c_renaming.specs.c_tree.c_syntax.declared.token.TokenKind.TheVariants.{Word, Name, Number, Char, Mark}
 use Rattle.c_renaming.specs.c_tree.c_syntax.Lexes.{Piece, Blank, Spelled, pieces_text, AllStand, tokens_from, Lexes}
-use Rattle.c_renaming.specs.c_tree.c_syntax.Measures.{greatest_height}
 use Rattle.c_renaming.specs.c_tree.c_syntax.Source.{IsSource}
-use Rattle.c_renaming.specs.c_tree.c_syntax.SyntaxTree.{UnitTree}
 use Rattle.c_renaming.specs.c_tree.TypedTree.{ProgramTree}
 use Rattle.c_macro.specs.c_lexer.TokenText.{kind_text, tokens_text, placed_from}
 use Rattle.c_renaming.specs.RenamedTokens.{renamed_kind, AreRenamed}
@@ -19,23 +16,8 @@ use Rattle.c_syntax.proofs.Pieces.{piece_begins}
 use Rattle.c_syntax.proofs.OneReading.{one_token_list}
 use Rattle.c_lexer.proofs.TokenTexts.{lexes_again}
 use Rattle.c_lexer.proofs.SpelledTokens.{lexed_spelled}
-use Rattle.c_renaming.proofs.DerivingLemmas.{unit_kept}
-use Rattle.c_renaming.proofs.HeightLemmas.{unit_high}
+use Rattle.c_renaming.proofs.PlaceLemmas.{place_in, Rises, rises_more, HaveKinds, all_renamed, source_renamed}
 use Rattle.c_renaming.proofs.ProgramLemmas.{typed_renamed}
-
--- where the token at a place of one list is in another
-abbrev place_in : List Token → List Token → ℕ → ℕ
-place_in (t ∷ ts) (u ∷ us) n = if t.at == n then u.at else place_in ts us n
-place_in ts us n = n
-
--- the places rise from one on
-abbrev Rises : ℕ → List Token → Type 0
-Rises low [] = ⊤
-Rises low (t ∷ ts) = (low ≤ t.at) × Rises (t.at + 1) ts
-
-rises_more : (low high : ℕ) (ts : List Token) → low ≤ high → Rises high ts → Rises low ts
-rises_more low high [] below rises = tt {0}
-rises_more low high (t ∷ ts) below rises = (omega (arith, below, rises.0), rises.1)
 
 -- tokens of the same kinds
 abbrev SameKinds : List Token → List Token → Type 0
@@ -54,19 +36,15 @@ kind_moved place (Number value marked decimal) = refl
 kind_moved place (Char value) = refl
 kind_moved place (Mark mark) = refl
 
+have_kinds : (place : ℕ → ℕ) (ts us : List Token) → SameKinds ts us → HaveKinds (moved place) ts us
+have_kinds place [] [] same = tt {0}
+have_kinds place [] (u ∷ us) same = absurd same
+have_kinds place (t ∷ ts) [] same = absurd same
+have_kinds place (t ∷ ts) (u ∷ us) same = (same.0 ∙ sym (kind_moved place t.kind), have_kinds place ts us same.1)
+
 -- each is the other moved
-all_moved : (low : ℕ) (ts us : List Token) (place : ℕ → ℕ) → Rises low ts → SameKinds ts us → ((n : ℕ) → low ≤ n → place n ≡ place_in ts us n) → AreRenamed (moved place) ts us
-all_moved low [] [] place rises same is = tt {0}
-all_moved low [] (u ∷ us) place rises same is = absurd same
-all_moved low (t ∷ ts) [] place rises same is = absurd same
-all_moved low (t ∷ ts) (u ∷ us) place rises same is = (
-  record {
-    kind = same.0 ∙ sym (kind_moved place t.kind);
-    place = sym (is t.at rises.0 ∙ ap (λ b. if b then u.at else place_in ts us t.at) (eq-eqb t.at t.at refl));
-  },
-  all_moved (t.at + 1) ts us place rises.1 same.1 (λ n above.
-      is n (omega (arith, rises.0, above)) ∙ ap (λ b. if b then u.at else place_in ts us n) (ne_eqb t.at n (λ e. omega (arith, e, above)))),
-)
+all_moved : (ts us : List Token) → Rises 0 ts → SameKinds ts us → AreRenamed (moved (place_in ts us)) ts us
+all_moved ts us rises same = all_renamed (moved (place_in ts us)) 0 ts us rises (have_kinds (place_in ts us) ts us same) (λ n above. refl)
 
 -- the tokens of a text rise
 rises_read : (at : ℕ) (pieces : List Piece) (rest : List ℕ) → AllStand pieces rest → Rises at (tokens_from at pieces)
@@ -97,12 +75,6 @@ same_placed at (t ∷ ts) = (refl, same_placed (at + (length (kind_text t.kind) 
 moved_faithful : (place : ℕ → ℕ) → IsFaithful (moved place)
 moved_faithful place = record { same = λ a b. refl; main = refl; port_in = refl; port_out = refl; nothing = refl }
 
-source_moved : (ts us : List Token) (unit : UnitTree) (place : ℕ → ℕ) → AreRenamed (moved place) ts us → IsSource ts unit → IsSource us (renamed_unit (moved place) unit)
-source_moved ts us unit place are source = record {
-  derives = unit_kept (moved place) ts us unit source.derives (record { are = are });
-  low = subst (λ n. n ≤ greatest_height) (sym (unit_high (moved place) unit)) source.low;
-}
-
 -- a program goes with tokens that are moved
 carried : (text other : List ℕ) (ts us : List Token) (program : ProgramTree) (place : ℕ → ℕ) → Lexes text ts → Lexes other us → AreRenamed (moved place) ts us
     → HasProgram text program → HasMoved other program
@@ -113,7 +85,7 @@ carried text other ts us program place lexes lexed are has =
         tokens = us;
         lexes = lexed;
         unit = renamed_unit (moved place) has.unit;
-        source = source_moved ts us has.unit place are (subst (λ l. IsSource l has.unit) same has.source);
+        source = source_renamed (moved place) ts us has.unit are (subst (λ l. IsSource l has.unit) same has.source);
         typed = typed_renamed (moved place) has.unit program (moved_faithful place) has.typed;
       },
     )
@@ -128,9 +100,9 @@ module _ (text : List ℕ) (tokens : List Token) (program : ProgramTree) (lexes 
   pub kept : HasProgram text program → HasMoved (tokens_text tokens) program
   kept has =
       carried text (tokens_text tokens) tokens (placed_from 0 tokens) program (place_in tokens (placed_from 0 tokens)) lexes written
-      (all_moved 0 tokens (placed_from 0 tokens) (place_in tokens (placed_from 0 tokens)) rises (same_placed 0 tokens) (λ n above. refl)) has
+      (all_moved tokens (placed_from 0 tokens) rises (same_placed 0 tokens)) has
 
   pub had : HasProgram (tokens_text tokens) program → HasMoved text program
   had has =
       carried (tokens_text tokens) text (placed_from 0 tokens) tokens program (place_in (placed_from 0 tokens) tokens) written lexes
-      (all_moved 0 (placed_from 0 tokens) tokens (place_in (placed_from 0 tokens) tokens) (rises_placed 0 tokens) (same_kinds_back tokens (placed_from 0 tokens) (same_placed 0 tokens)) (λ n above. refl)) has
+      (all_moved (placed_from 0 tokens) tokens (rises_placed 0 tokens) (same_kinds_back tokens (placed_from 0 tokens) (same_placed 0 tokens))) has

@@ -13,3 +13,4 @@ pub mod TokenLemmas
 pub mod GrammarLemmas
 pub mod DerivingLemmas
 pub mod HeightLemmas
+pub mod PlaceLemmas

@@ -1,6 +1,6 @@
 -- The names that statics get are fresh.
-use Rattle.std.proofs.Common.{arith, ◌≡◌, ◌≢◌, ℕ, suc, ◌+◌, ◌≤◌, ◌<◌, ◌^◌, Bool, true, false, List, [], ◌∷◌, ◌++◌, length, map, None, refl, sym, ap, ◌∙◌, subst}
-use Rattle.std.specs.Prelude.{All, Contains, codes, ◌||◌}
+use Rattle.std.proofs.Common.{arith, ◌≡◌, ◌≢◌, ℕ, suc, ◌+◌, ◌≤◌, ◌<◌, Bool, true, false, List, [], ◌∷◌, length, map, None, refl, ap, subst}
+use Rattle.std.specs.Prelude.{All, codes, ◌||◌}
 use Rattle.std.specs.Str.{bytes_eq}
 use Rattle.std.specs.List.{AllByRecursion}
 use Rattle.std.proofs.lemmas.List.Elements.{All-from_recursion, All-contains}
@@ -9,31 +9,14 @@ use Rattle.c_tree.specs.c_syntax.declared.token.Token.{Token}
 use Rattle.c_tree.specs.c_syntax.declared.token.TokenKind.TheVariants.{Name}
 use Rattle.c_lexer.specs.TokenText.{HasSpelling}
 use Rattle.c_rules.specs.Units.{is_name_among}
-use Rattle.c_units.specs.Statics.{statics_of, static_name, ends_in_number, is_reserved_kind}
+use Rattle.c_units.specs.Statics.{statics_of, static_name, is_reserved_kind}
 use Rattle.c_units.specs.Files.{FileTree, AreFiles}
 use Rattle.c_units.specs.Joining.{reserved_fault}
 use Rattle.c_units.specs.Choices.{StaticOf, all_statics, IsAbsent, IsFreshName, IsFresh}
-use Rattle.c_units.proofs.NumberLemmas.{never_static, static_ends, one_static}
+use Rattle.c_units.proofs.ListLemmas.{all_weaker, all_paired, all_mapped, all_joined}
+use Rattle.c_units.proofs.NumberLemmas.{never_static, one_static}
 use Rattle.c_units.proofs.SpellingLemmas.{IsFree, IsClean, free_name, static_spelled, files_clean, as_many}
 use Rattle.c_units.proofs.StaticLemmas.{AreNamed, statics_named}
-
--- ---- lists
-
-all_weaker : {A : Type 0} (P Q : A → Type 0) → ((x : A) → P x → Q x) → (xs : List A) → AllByRecursion P xs → AllByRecursion Q xs
-all_weaker P Q f [] h = tt {0}
-all_weaker P Q f (x ∷ xs) h = (f x h.0, all_weaker P Q f xs h.1)
-
-all_paired : {A : Type 0} (P Q : A → Type 0) (xs : List A) → AllByRecursion P xs → AllByRecursion Q xs → AllByRecursion (λ x. P x × Q x) xs
-all_paired P Q [] h k = tt {0}
-all_paired P Q (x ∷ xs) h k = ((h.0, k.0), all_paired P Q xs h.1 k.1)
-
-all_mapped : {A B : Type 0} (P : B → Type 0) (f : A → B) (xs : List A) → AllByRecursion (λ x. P (f x)) xs → AllByRecursion P (map f xs)
-all_mapped P f [] h = tt {0}
-all_mapped P f (x ∷ xs) h = (h.0, all_mapped P f xs h.1)
-
-all_joined : {A : Type 0} (P : A → Type 0) (xs ys : List A) → AllByRecursion P xs → AllByRecursion P ys → AllByRecursion P (xs ++ ys)
-all_joined P [] ys h k = k
-all_joined P (x ∷ xs) ys h k = (h.0, all_joined P xs ys h.1 k)
 
 -- ---- names of statics are names of tokens
 
@@ -63,8 +46,8 @@ tokens_without : (number : ℕ) (name : List ℕ) (statics : List (List ℕ)) (t
 tokens_without number name statics tokens few =
     all_weaker (IsFree statics) (λ t. t.kind ≢ Name (static_name number name))
     (λ t free same.
-        let free_kind = subst (λ kind. is_reserved_kind statics kind ≡ false) same free.1 in
-        never_static number name (static_name number name) (omega (arith, few)) (free_name statics (static_name number name) free_kind).0 refl)
+    let free_kind = subst (λ kind. is_reserved_kind statics kind ≡ false) same free.1 in
+    never_static number name (static_name number name) (omega (arith, few)) (free_name statics (static_name number name) free_kind).0 refl)
     tokens
 
 absent : (number : ℕ) (name : List ℕ) (files : List FileTree) → number < 100000 → AllByRecursion IsClean files → IsAbsent (static_name number name) files

@@ -1,10 +1,12 @@
 -- The tokens of files, joined: each has a spelling, and their text is short.
-use Rattle.std.proofs.Common.{arith, ◌≡◌, ℕ, zero, suc, ◌+◌, ◌*◌, ◌/◌, ◌%◌, ◌≤◌, ◌<◌, ◌^◌, Bool, true, false, cond, List, [], ◌∷◌, ◌++◌, length, map, Option, Some, None, refl, sym, ap, ◌∙◌, subst, length-append}
-use Rattle.std.specs.Prelude.{nat_lt, ◌||◌, ◌&&◌, All, if◌then◌else◌, decimal, option_map}
-use Rattle.std.specs.List.{AllZip, AllByRecursion}
+use Rattle.std.proofs.Common.{arith, ◌≡◌, ℕ, zero, suc, ◌+◌, ◌*◌, ◌/◌, ◌≤◌, ◌<◌, ◌^◌, Bool, true, false, cond, List, [], ◌∷◌, ◌++◌, length, map, Option, Some, None, refl, sym, ap, ◌∙◌, subst, length-append}
+use Rattle.std.specs.Prelude.{nat_lt, ◌||◌, ◌&&◌, All, if◌then◌else◌, option_map}
+use Rattle.std.specs.List.{AllByRecursion}
 use Rattle.std.specs.Option.{option_or}
 use Rattle.std.proofs.lemmas.Bool.Decides.{nat_tests}
 use Rattle.std.proofs.lemmas.Fmt.{length-decimal-le}
+use Rattle.std.proofs.lemmas.List.{length-map}
+use Rattle.std.proofs.lemmas.List.Sums.{sum_by-cons}
 use Rattle.std.proofs.lemmas.List.Elements.{All-from_recursion, recursion_from_All}
 use Rattle.word_base.specs.Name.{IsName}
 use Rattle.c_tree.specs.c_syntax.declared.token.Token.{Token}
@@ -15,18 +17,20 @@ use Rattle.c_tree.specs.c_syntax.declared.token.Keyword.TheVariants as keyword
 use Rattle.c_tree.specs.c_syntax.declared.token.Punct.{Punct}
 use Rattle.c_tree.specs.c_syntax.declared.token.Punct.TheVariants as mark
 use Rattle.c_tree.specs.c_syntax.FixedTexts.{keyword_text, mark_text}
-use Rattle.c_tree.specs.c_syntax.Lexes.{most_tokens}
+use Rattle.c_tree.specs.c_syntax.Lexes.{most_tokens, Lexes}
 use Rattle.c_tree.specs.c_syntax.Source.{IsSource}
 use Rattle.c_lexer.specs.TokenText.{hexadecimal, number_text, suffix_text, kind_text, separator, tokens_text, placed_from, HasSpelling}
 use Rattle.c_lexer.proofs.SpelledTokens.{lexed_spelled}
+use Rattle.c_lexer.proofs.TokenTexts.{lexes_again}
 use Rattle.c_rules.specs.Units.{is_name_among}
 use Rattle.c_renaming.specs.RenamedTokens.{renamed_kind}
 use Rattle.c_units.specs.Externs.{Position, AtStart, Within, is_dropped, after_token, kept}
 use Rattle.c_units.specs.Statics.{statics_of, static_name, ends_in_number, is_reserved_kind, reserved_at}
-use Rattle.c_units.specs.Files.{FileTree, HasTokens, IsFile, AreFiles}
-use Rattle.c_units.specs.Joining.{Choice, renaming_of, joined_kinds, Joined, reserved_fault}
+use Rattle.c_units.specs.Files.{FileTree, HasTokens, AreFiles}
+use Rattle.c_units.specs.Joining.{Choice, renaming_of, file_kinds, joined_kinds, Joined, reserved_fault, undefined_fault, token_count, count_fault, Joins}
 use Rattle.c_units.specs.declared.fault.UnitFault.{UnitFault}
-use Rattle.c_units.specs.declared.fault.UnitFault.TheVariants.{Reserved}
+use Rattle.c_units.specs.declared.fault.UnitFault.TheVariants.{Reserved, TooManyTokens}
+use Rattle.c_units.proofs.ListLemmas.{all_unmapped, all_joined}
 use Rattle.c_units.proofs.NumberLemmas.{static_is_name, static_is_no_keyword}
 
 -- ---- places depend on kinds alone
@@ -189,14 +193,10 @@ each_spelled : (number : ℕ) (file : FileTree) (tokens : List Token) → number
 each_spelled number file [] few h = tt {0}
 each_spelled number file (t ∷ ts) few h = (kind_spelled number file t.kind few h.0.0 h.0.1, each_spelled number file ts few h.1)
 
-both_spelled : (a b : List TokenKind) → AllByRecursion HasSpelling a → AllByRecursion HasSpelling b → AllByRecursion HasSpelling (a ++ b)
-both_spelled [] b h k = k
-both_spelled (kind ∷ a) b h k = (h.0, both_spelled a b h.1 k)
-
 clean_spelled : (number : ℕ) (files : List FileTree) → number + length files ≤ 100000 → AllByRecursion IsClean files → AllByRecursion HasSpelling (joined_kinds static_name number files)
 clean_spelled number [] few clean = tt {0}
 clean_spelled number (file ∷ files) few clean =
-    both_spelled (map (λ t. renamed_kind (renaming_of static_name number file) t.kind) file.tokens) (joined_kinds static_name (suc number) files)
+    all_joined HasSpelling (map (λ t. renamed_kind (renaming_of static_name number file) t.kind) file.tokens) (joined_kinds static_name (suc number) files)
     (each_spelled number file file.tokens (omega (arith, few)) clean.0.0) (clean_spelled (suc number) files (omega (arith, few)) clean.1)
 
 pub joined_spelled : (sources : List (List ℕ)) (files : List FileTree) → length sources ≤ 16 → AreFiles sources files → reserved_fault 1 files ≡ None
@@ -204,3 +204,38 @@ pub joined_spelled : (sources : List (List ℕ)) (files : List FileTree) → len
 joined_spelled sources files few are none =
     All-from_recursion HasSpelling (joined_kinds static_name 1 files)
     (clean_spelled 1 files (omega (arith, few, as_many sources files are)) (files_clean 1 sources files are none))
+
+-- ---- their text has the joined tokens
+
+pub spelled_by_kinds : (tokens : List Token) (kinds : List TokenKind) → map (λ t. t.kind) tokens ≡ kinds → All HasSpelling kinds → All (λ t. HasSpelling t.kind) tokens
+spelled_by_kinds tokens kinds are h =
+    All-from_recursion (λ t. HasSpelling t.kind) tokens
+    (all_unmapped HasSpelling (λ t. t.kind) tokens (subst (AllByRecursion HasSpelling) (sym are) (recursion_from_All HasSpelling kinds h)))
+
+pub joined_count : (choice : Choice) (number : ℕ) (files : List FileTree) → length (joined_kinds choice number files) ≡ token_count files
+joined_count choice number [] = refl
+joined_count choice number (file ∷ files) =
+    length-append (file_kinds choice number file) (joined_kinds choice (suc number) files)
+    ∙ (λ i. length-map file.tokens (λ t. renamed_kind (renaming_of choice number file) t.kind) i + joined_count choice (suc number) files i)
+    ∙ sym (sum_by-cons (λ f. length f.tokens) file files)
+
+few_tokens : (count : ℕ) → (if nat_lt most_tokens count then Some (TooManyTokens count) else None) ≡ None → count ≤ most_tokens
+few_tokens count none = by (nat_lt most_tokens count) refl none
+  where
+    by : (b : Bool) → nat_lt most_tokens count ≡ b → (if b then Some (TooManyTokens count) else None) ≡ None → count ≤ most_tokens
+    by true is found = absurd cc
+    by false is found = grind (arith, nat_tests, is)
+
+none_before : (a b : Option UnitFault) → option_or a b ≡ None → (a ≡ None) × (b ≡ None)
+none_before None b none = (refl, none)
+none_before (Some fault) b none = absurd cc
+
+pub joined_text : (sources : List (List ℕ)) (tokens : List Token) → length sources ≤ 16 → Joins sources tokens → Lexes (tokens_text tokens) tokens
+joined_text sources tokens few joins =
+    let first = none_before (reserved_fault 1 joins.files) (option_or (undefined_fault joins.files) (count_fault joins.files)) joins.no_fault in
+    let second = none_before (undefined_fault joins.files) (count_fault joins.files) first.1 in
+    let counted : length tokens ≡ token_count joins.files =
+    sym (length-map tokens (λ t. t.kind)) ∙ ap length joins.joined.kinds ∙ joined_count static_name 1 joins.files in
+    let spelled = spelled_by_kinds tokens (joined_kinds static_name 1 joins.files) joins.joined.kinds (joined_spelled sources joins.files few joins.are first.0) in
+    let fits : length tokens ≤ most_tokens = omega (arith, counted, few_tokens (token_count joins.files) second.1) in
+    subst (Lexes (tokens_text tokens)) (sym joins.joined.placed) (lexes_again tokens (tokens_text tokens) refl spelled fits)

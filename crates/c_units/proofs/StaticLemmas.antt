@@ -5,10 +5,11 @@ use Rattle.std.specs.List.{AllByRecursion}
 use Rattle.c_tree.specs.c_syntax.declared.token.Token.{Token}
 use Rattle.c_tree.specs.c_syntax.declared.token.TokenKind.TheVariants.{Name}
 use Rattle.c_tree.specs.c_syntax.declared.syntax.SpecWord.TheVariants.{Static}
-use Rattle.c_tree.specs.c_syntax.SyntaxTree.{FunctionSyntax, ItemTree, DeclarationTree, ExternalTree, Defined, Declared, UnitTree}
-use Rattle.c_tree.specs.c_syntax.Derives.{DerivesItem, DerivesItems, LastItem, MoreItems, DerivesDeclaration, DerivesFunction, DerivesExternal, DerivesUnit, LastExternal, MoreExternals}
+use Rattle.c_tree.specs.c_syntax.SyntaxTree.{FunctionSyntax, ItemTree, ExternalTree, Defined, Declared, UnitTree}
+use Rattle.c_tree.specs.c_syntax.Derives.{DerivesItem, DerivesItems, LastItem, MoreItems, DerivesFunction, DerivesExternal, DerivesUnit, LastExternal, MoreExternals}
 use Rattle.c_rules.specs.Typing.{has}
 use Rattle.c_units.specs.Statics.{statics_in, statics_of}
+use Rattle.c_units.proofs.ListLemmas.{all_joined}
 
 -- what follows speaks of one property of names
 module _ (P : List ℕ → Type 0) where
@@ -24,10 +25,6 @@ module _ (P : List ℕ → Type 0) where
   last_named : (a b : List Token) → AreNamed (a ++ b) → AreNamed b
   last_named [] b named = named
   last_named (t ∷ a) b named = last_named a b named.1
-
-  all_both : (a b : List (List ℕ)) → AllByRecursion P a → AllByRecursion P b → AllByRecursion P (a ++ b)
-  all_both [] b h k = k
-  all_both (x ∷ a) b h k = (h.0, all_both a b h.1 k)
 
   function_named : (tokens : List Token) (tree : FunctionSyntax) → AreNamed tokens → DerivesFunction tokens tree → P tree.name
   function_named tokens tree named derives =
@@ -63,7 +60,7 @@ module _ (P : List ℕ → Type 0) where
       by false = tt {0}
 
   pub statics_named : (tokens : List Token) (unit : UnitTree) → AreNamed tokens → DerivesUnit tokens unit → AllByRecursion P (statics_of unit)
-  statics_named tokens _ named (LastExternal {tree = external} derives) = all_both (statics_in external) [] (external_named tokens external named derives) (tt {0})
+  statics_named tokens _ named (LastExternal {tree = external} derives) = all_joined P (statics_in external) [] (external_named tokens external named derives) (tt {0})
   statics_named tokens _ named (MoreExternals a b {tree = external} {trees = unit} cut derives rest) =
       let both = subst AreNamed cut named in
-      all_both (statics_in external) (statics_of unit) (external_named a external (first_named a b both) derives) (statics_named b unit (last_named a b both) rest)
+      all_joined P (statics_in external) (statics_of unit) (external_named a external (first_named a b both) derives) (statics_named b unit (last_named a b both) rest)

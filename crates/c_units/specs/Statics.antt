@@ -1,6 +1,6 @@
 -- The statics of a file, the names that they get, and names that are reserved for these (docs/LANGUAGE.md, "Programs of several
 -- files"; ISO 9899:1990 6.1.2.2).
-use Rattle.std.specs.Prelude.{ℕ, ◌&&◌, ◌||◌, nat_lt, nat_le, Bool, true, false, if◌then◌else◌, List, [], ◌∷◌, ◌++◌, length, map, flat_map, reverse, codes, decimal, Option, Some, None}
+use Rattle.std.specs.Prelude.{ℕ, ◌==◌, ◌&&◌, ◌||◌, nat_lt, nat_le, Bool, true, false, if◌then◌else◌, List, [], ◌∷◌, ◌++◌, length, map, flat_map, reverse, codes, decimal, Option, Some, None}
 use Rattle.c_tree.specs.c_syntax.declared.token.Token.{Token}
 use Rattle.c_tree.specs.c_syntax.declared.token.TokenKind.{TokenKind}
 use Rattle.c_tree.specs.c_syntax.declared.token.TokenKind.TheVariants.{Name}
@@ -25,10 +25,13 @@ static_name number name = name ++ (codes "__" ++ decimal number)
 abbrev pub is_digit : ℕ → Bool
 is_digit code = nat_le 48 code && nat_le code 57
 
+abbrev pub is_marked : List ℕ → Bool
+is_marked (last ∷ before ∷ front) = last == 95 && before == 95
+is_marked front = false
+
 abbrev pub marked_behind : List ℕ → Bool
-marked_behind (95 ∷ 95 ∷ front) = true
 marked_behind [] = false
-marked_behind (code ∷ front) = is_digit code && marked_behind front
+marked_behind (code ∷ front) = if is_digit code then marked_behind front else is_marked (code ∷ front)
 
 abbrev pub ends_in_number : List ℕ → Bool
 ends_in_number name = from_end (reverse name)

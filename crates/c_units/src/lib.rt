@@ -5,6 +5,7 @@ mod externs;
 mod fault;
 mod files;
 mod joining;
+mod laws;
 mod names;
 mod objects;
 mod reserved;
