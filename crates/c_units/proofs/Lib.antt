@@ -1,3 +1,5 @@
+pub mod TableLemmas
+pub mod ObjectLemmas
 pub mod OneOutcome
 pub mod ListLemmas
 pub mod NumberLemmas

@@ -6,9 +6,9 @@ ghost use Rattle.c_lexer.specs.TokenText.{HasSpelling, placed_from};
 ghost use Rattle.c_renaming.specs.RenamedTokens.{renamed_kind};
 ghost use Rattle.c_units.specs.declared.fault.UnitFault.{UnitFault};
 ghost use Rattle.c_units.specs.declared.fault.UnitFault.TheVariants as faults;
-ghost use Rattle.c_units.specs.Joining as definitions;
-ghost use Rattle.c_units.specs.Joining.{joined_kinds, file_kinds, Joined, Joins, HasFault, IsSameFault, token_count, count_fault};
-ghost use Rattle.c_units.specs.Statics.{static_name};
+ghost use Rattle.c_units.specs.Joining.{joined_kinds, file_kinds, renaming_of, Joins, HasFault, IsSameFault, token_count, count_fault};
+ghost use Rattle.c_units.specs.Statics.{static_name, statics_of};
+ghost use Rattle.c_units.specs.Files.{FileTree};
 ghost use Rattle.c_units.specs.Views.{file_of, AreNames};
 
 use crate::fault::UnitFault;

@@ -1,0 +1,58 @@
+-- Objects, one of which is left.
+use Rattle.std.proofs.Common.{◌≡◌, ◌∙◌, ℕ, ◌+◌, ◌<◌, Bool, true, false, cond, not, suc, arith, List, [], ◌∷◌, ◌++◌, map, drop, get_or, length, Option, Some, None, option_map, refl, sym, ap, append_assoc}
+use Rattle.std.specs.Prelude.{find}
+use Rattle.c_tree.specs.c_syntax.SyntaxTree.{ItemTree}
+use Rattle.c_rules.specs.Units.{is_name_among}
+use Rattle.c_rules.proofs.Turns.{first_left}
+use Rattle.c_units.specs.Files.{FileTree}
+use Rattle.c_units.specs.Objects.{ObjectTree, is_object, objects_of, file_objects, all_objects}
+
+split : {A B : Type 0} (f : A → B) (b : Bool) (x : A) (xs : List A) → map f (cond b (x ∷ []) []) ++ map f xs ≡ map f (cond b (x ∷ xs) xs)
+split f true x xs = refl
+split f false x xs = refl
+
+pub objects_split : (number : ℕ) (statics : List (List ℕ)) (extern : Bool) (item : ItemTree) (items : List ItemTree)
+    → objects_of number statics extern (item ∷ []) ++ objects_of number statics extern items ≡ objects_of number statics extern (item ∷ items)
+objects_split number statics extern item items = split _ (is_object item.form) item _
+
+-- an item of a turn
+pub item_turn : {A : Type 0} (f : A → ItemTree) (number : ℕ) (statics : List (List ℕ)) (extern : Bool) (whole made new : List ObjectTree) (list : List A) (i : ℕ) (x : A)
+    → x ≡ get_or list i x → i < length list → made ++ objects_of number statics extern (map f (drop i list)) ≡ whole
+    → new ≡ made ++ objects_of number statics extern (f x ∷ []) → new ++ objects_of number statics extern (map f (drop (i + 1) list)) ≡ whole
+item_turn f number statics extern whole made new list i x is below so_far h =
+    ap (λ l. l ++ objects_of number statics extern (map f (drop (i + 1) list))) h
+    ∙ append_assoc made (objects_of number statics extern (f x ∷ [])) _
+    ∙ ap (λ l. made ++ l) (objects_split number statics extern (f x) (map f (drop (i + 1) list)))
+    ∙ ap (λ l. made ++ objects_of number statics extern (map f l)) (sym (first_left list i x is below))
+    ∙ so_far
+
+-- an object that is no definition among these
+abbrev pub is_other : List (List ℕ) → ObjectTree → Bool
+is_other names o = not (is_name_among o.joined names)
+
+find_first : (names : List (List ℕ)) (o : ObjectTree) (rest : List ObjectTree) → is_name_among o.joined names ≡ false → find (is_other names) (o ∷ rest) ≡ Some o
+find_first names o rest e = rw e refl
+
+find_later : (names : List (List ℕ)) (o : ObjectTree) (rest : List ObjectTree) → is_name_among o.joined names ≡ true → find (is_other names) (o ∷ rest) ≡ find (is_other names) rest
+find_later names o rest e = rw e refl
+
+pub other_found : {A : Type 0} (f : A → ObjectTree) (names : List (List ℕ)) (whole : Option ObjectTree) (list : List A) (i : ℕ) (x : A) → x ≡ get_or list i x → i < length list
+    → find (is_other names) (map f (drop i list)) ≡ whole → is_name_among (f x).joined names ≡ false → whole ≡ Some (f x)
+other_found f names whole list i x is below so_far other =
+    sym so_far ∙ ap (λ l. find (is_other names) (map f l)) (first_left list i x is below) ∙ find_first names (f x) (map f (drop (i + 1) list)) other
+
+pub other_later : {A : Type 0} (f : A → ObjectTree) (names : List (List ℕ)) (whole : Option ObjectTree) (list : List A) (i : ℕ) (x : A) → x ≡ get_or list i x → i < length list
+    → find (is_other names) (map f (drop i list)) ≡ whole → is_name_among (f x).joined names ≡ true → find (is_other names) (map f (drop (i + 1) list)) ≡ whole
+other_later f names whole list i x is below so_far defined =
+    sym (find_later names (f x) (map f (drop (i + 1) list)) defined) ∙ ap (λ l. find (is_other names) (map f l)) (sym (first_left list i x is below)) ∙ so_far
+
+-- a file of a turn, of this number
+pub file_turn : {A : Type 0} (f : A → FileTree) (n : ℕ) (whole made new : List ObjectTree) (list : List A) (i : ℕ) (x : A) → x ≡ get_or list i x → i < length list
+    → made ++ all_objects n (map f (drop i list)) ≡ whole → new ≡ made ++ file_objects n (f x) → new ++ all_objects (n + 1) (map f (drop (i + 1) list)) ≡ whole
+file_turn f n whole made new list i x is below so_far h =
+    let next : n + 1 ≡ suc n = omega arith in
+    ap (λ l. l ++ all_objects (n + 1) (map f (drop (i + 1) list))) h
+    ∙ append_assoc made (file_objects n (f x)) _
+    ∙ ap (λ m. made ++ (file_objects n (f x) ++ all_objects m (map f (drop (i + 1) list)))) next
+    ∙ ap (λ l. made ++ all_objects n (map f l)) (sym (first_left list i x is below))
+    ∙ so_far
