@@ -6,3 +6,4 @@ pub mod FreshLemmas
 pub mod SwapLemmas
 pub mod ChoiceLemmas
 pub mod Examples
+pub mod OwnNames

@@ -7,4 +7,4 @@ mod laws;
 mod statics;
 
 pub use fault::UnitFault;
-pub use laws::{fresh_choices_agree, static_names_are_fresh};
+pub use laws::{fresh_choices_agree, static_names_are_fresh, statics_keep_to_their_files};
