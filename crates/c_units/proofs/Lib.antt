@@ -1,3 +1,4 @@
+pub mod OneOutcome
 pub mod ListLemmas
 pub mod NumberLemmas
 pub mod SpellingLemmas

@@ -2,7 +2,7 @@ pub use Rattle.c_renaming.specs as c_renaming
 pub use Rattle.c_renaming.specs.c_tree as c_tree
 pub use Rattle.c_lexer.specs as c_lexer
 pub mod Externs
-pub mod ExternViews
+pub mod Views
 pub mod Statics
 pub mod Files
 pub mod Objects

@@ -1,9 +1,13 @@
 //! The words `extern` that are dropped.
-ghost use Rattle.std.specs.Prelude.{◌≡◌, ◌+◌, ◌<◌, ◌^◌};
+ghost use Rattle.std.specs.Prelude.{◌≡◌, ◌+◌, ◌<◌, ◌^◌, ◌&&◌, IfOk};
 ghost use Rattle.c_units.specs.Externs as externs;
-ghost use Rattle.c_units.specs.ExternViews.{position_of};
+ghost use Rattle.c_units.specs.Externs.{AtStart};
+ghost use Rattle.c_units.specs.Views.{position_of, depth_of};
 
-use c_syntax::{Keyword, Punct, TokenKind};
+use c_syntax::{Keyword, Punct, Token, TokenKind};
+use std::alloc::Global;
+use std::collections::VecDeque;
+use word_base::NoMemory;
 
 /// Where the tokens before a token leave off.
 #[derive(Clone, Copy)]
@@ -56,4 +60,56 @@ fn inside(list: bool, depth: usize, kind: &TokenKind) -> Position
         TokenKind::Mark(Punct::CloseBrace) => Position::AtStart,
         _ => Position::Braced { list, depth },
     }
+}
+
+// Where the tokens up to this one leave off.
+fn after(position: Position, kind: &TokenKind) -> Position
+    requires { depth_of position + 1 < 2 ^ 63 }
+    ensures { position_of result ≡ externs.after_token (position_of position) kind.now }
+{
+    match position {
+        Position::AtStart => outside(false, kind),
+        Position::Within { assigned } => outside(assigned, kind),
+        Position::Braced { list, depth } => inside(list, depth, kind),
+    }
+}
+
+// Whether `extern` is dropped here, where a token follows.
+fn drops(position: Position, kind: &TokenKind) -> bool
+    ensures { result ≡ externs.is_start (position_of position) && externs.is_extern kind.now }
+{
+    matches!(position, Position::AtStart) && is_extern(kind)
+}
+
+/// The tokens of a file that are left, and the places of those that followed a dropped one, in bytes.
+#[derive(Drop)]
+pub(crate) struct Kept {
+    pub(crate) tokens: Vec<Token>,
+    pub(crate) externs: Vec<u32>,
+}
+
+/// The tokens of a file without each `extern` at the start of an external.
+pub(crate) fn without_externs(alloc: Global, tokens: Vec<Token>) -> Result<Kept, NoMemory>
+    ensures tokens { IfOk result (λ kept. kept.tokens.items ≡ externs.without_externs tokens.items) }
+    ensures places { IfOk result (λ kept. kept.externs.items ≡ externs.extern_places AtStart tokens.items) }
+{
+    let mut kept = Kept {
+        tokens: Vec::new(alloc),
+        externs: Vec::new(alloc),
+    };
+    let mut position = Position::AtStart;
+    let mut rest = VecDeque::from(tokens);
+    while let Some(token) = rest.pop_front() {
+        match rest.front() {
+            Some(next) if drops(position, &token.kind) => {
+                kept.externs.push(next.at)?;
+                position = Position::Within { assigned: false };
+            }
+            _ => {
+                position = after(position, &token.kind);
+                kept.tokens.push(token)?;
+            }
+        }
+    }
+    Ok(kept)
 }

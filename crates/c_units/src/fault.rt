@@ -1,6 +1,6 @@
 //! Why files aren't joined.
 ghost use Rattle.std.specs.Prelude.{◌≡◌};
-ghost use Rattle.c_units.specs.declared.fault.UnitFault.TheVariants as unit_faults;
+ghost use Rattle.c_units.specs.declared.fault.UnitFault.TheVariants as faults;
 
 use c_lexer::LexFault;
 use c_parser::ParseFault;
@@ -32,4 +32,28 @@ pub enum UnitFault {
     TooManyTokens { count: u64 },
     #[error("memory was wanting for the joined tokens")]
     NoMemory,
+}
+
+impl From<NoMemory> for UnitFault {
+    ghost from_gives = { λ _ e. e ≡ faults.NoMemory };
+
+    fn from(_: NoMemory) -> Self {
+        UnitFault::NoMemory
+    }
+}
+
+impl From<AllocError> for UnitFault {
+    ghost from_gives = { λ _ e. e ≡ faults.NoMemory };
+
+    fn from(_: AllocError) -> Self {
+        UnitFault::NoMemory
+    }
+}
+
+impl<T: Drop> From<AllocFailed<T>> for UnitFault {
+    ghost from_gives = { λ _ e. e ≡ faults.NoMemory };
+
+    fn from(_: AllocFailed<T>) -> Self {
+        UnitFault::NoMemory
+    }
 }

@@ -3,8 +3,14 @@
 
 mod externs;
 mod fault;
+mod files;
+mod joining;
 mod laws;
+mod names;
+mod objects;
+mod reserved;
 mod statics;
 
 pub use fault::UnitFault;
+pub use joining::join_units;
 pub use laws::{fresh_choices_agree, static_names_are_fresh, statics_keep_to_their_files};

@@ -1,0 +1,77 @@
+//! Names that are reserved for statics.
+ghost use Rattle.std.specs.Prelude.{◌≡◌, ◌≢◌, ◌≤◌, Some, None, List, ℕ, length, map, IfOk, OnOk, IfErr};
+ghost use Rattle.c_tree.specs.c_syntax.SyntaxView.{unit_of};
+ghost use Rattle.c_units.specs.declared.fault.UnitFault.TheVariants as faults;
+ghost use Rattle.c_units.specs.Statics as names;
+ghost use Rattle.c_units.specs.Joining.{reserved_fault};
+ghost use Rattle.c_units.specs.Views.{file_of, AreNames};
+
+use crate::fault::UnitFault;
+use crate::files::SourceFile;
+use crate::names::Names;
+use crate::statics::statics_of;
+use c_syntax::{Token, TokenKind};
+use std::alloc::Global;
+use word_base::NoMemory;
+
+/// The most characters of a static's name.
+const LONGEST_STATIC: usize = 120;
+
+// Whether a name ends in `__` and digits, at least one.
+fn ends_in_number(name: &str) -> bool
+    ensures { result ≡ names.ends_in_number name.now }
+{
+    let front = name.trim_end_matches(|c: char| c.is_ascii_digit());
+    front.len() < name.len() && front.ends_with("__")
+}
+
+// Whether a token is a name that is reserved in a file with these statics.
+fn is_reserved(statics: &Names<'_>, kind: &TokenKind) -> bool
+    ensures { (list : List (List ℕ)) → AreNames statics.now list → result ≡ names.is_reserved_kind list kind.now }
+{
+    match kind {
+        TokenKind::Name(name) => {
+            let name = name.as_str();
+            ends_in_number(name) || (statics.contains(name) && name.len() > LONGEST_STATIC)
+        }
+        TokenKind::Word(_) | TokenKind::Number { .. } | TokenKind::Char(_) | TokenKind::Mark(_) => {
+            false
+        }
+    }
+}
+
+// The place of the first such name among tokens, in bytes.
+fn reserved_at(statics: &Names<'_>, tokens: &[Token]) -> Option<u32>
+    ensures { (list : List (List ℕ)) → AreNames statics.now list → result ≡ names.reserved_at list tokens.now }
+{
+    for token in tokens {
+        if is_reserved(statics, &token.kind) {
+            return Some(token.at);
+        }
+    }
+    None
+}
+
+// The place of the first reserved name of a file, in bytes.
+fn reserved_in(alloc: Global, file: &SourceFile) -> Result<Option<u32>, NoMemory>
+    ensures { IfOk result (λ at. at ≡ names.reserved_at (names.statics_of (unit_of file.now.unit)) file.now.tokens.items) }
+{
+    let statics = statics_of(alloc, &file.unit)?;
+    Ok(reserved_at(&statics, &file.tokens))
+}
+
+/// Refuses the first reserved name of the files, at most sixteen.
+pub(crate) fn check_reserved(alloc: Global, files: &[SourceFile]) -> Result<(), UnitFault>
+    requires few { length files.now ≤ 16 }
+    ensures none { OnOk result (reserved_fault 1 (map file_of files.now) ≡ None) }
+    ensures fault { IfErr result (λ fault. fault ≢ faults.NoMemory → reserved_fault 1 (map file_of files.now) ≡ Some fault) }
+{
+    let mut file = 0;
+    for source in files {
+        file += 1;
+        if let Some(at) = reserved_in(alloc, source)? {
+            return Err(UnitFault::Reserved { file, at });
+        }
+    }
+    Ok(())
+}
