@@ -25,10 +25,10 @@ use Rattle.c_units.proofs.ListLemmas.{IsMember, all_weaker, all_members, member_
 use Rattle.c_units.proofs.SwapLemmas.{changed, changed_other, changed_each, changed_same}
 
 -- a name among the statics of a file is one of them
-abbrev static : ℕ → List ℕ → StaticOf
+abbrev pub static : ℕ → List ℕ → StaticOf
 static number name = record { number = number; name = name }
 
-static_member : (number : ℕ) (statics : List (List ℕ)) (name : List ℕ) → is_name_among name statics ≡ true
+pub static_member : (number : ℕ) (statics : List (List ℕ)) (name : List ℕ) → is_name_among name statics ≡ true
     → IsMember (static number name) (map (static number) statics)
 static_member number [] name among = absurd cc
 static_member number (n ∷ statics) name among = by (bytes_eq n name) refl among (static_member number statics name)
@@ -164,6 +164,7 @@ module _ (files : List FileTree) (from to : Choice) (fresh : IsFresh from files)
         faithful = faithful;
         statics = All-from_recursion (λ s. renaming.name (from s.number s.name) ≡ to s.number s.name) (all_statics 1 files)
             (all_members (λ s. renaming.name (from s.number s.name) ≡ to s.number s.name) (all_statics 1 files) each_renamed);
+        others = λ name h. stays name (recursion_from_All (λ s. (name ≢ from s.number s.name) × (name ≢ to s.number s.name)) (all_statics 1 files) h);
         has = record {
           unit = renamed_unit renaming has.unit;
           source = source_renamed renaming tokens others has.unit are has.source;

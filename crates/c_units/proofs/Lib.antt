@@ -9,3 +9,4 @@ pub mod FreshLemmas
 pub mod SwapLemmas
 pub mod ChoiceLemmas
 pub mod Examples
+pub mod OwnNames

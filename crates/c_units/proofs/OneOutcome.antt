@@ -1,20 +1,16 @@
 -- Files are joined to one list of tokens or have one fault, but for the place that one of syntax names.
-use Rattle.std.proofs.Common.{◌≡◌, ◌∙◌, ℕ, ◌+◌, List, [], ◌∷◌, ◌++◌, length, map, Option, Some, None, refl, sym, ap, subst, inl, inr}
-use Rattle.std.specs.Prelude.{◌⊎◌, ⊤, AllZip}
+use Rattle.std.proofs.Common.{arith, ◌≡◌, ◌∙◌, ℕ, ◌+◌, List, [], ◌∷◌, ◌++◌, length, Option, Some, None, refl, sym, ap, subst, inl, inr}
+use Rattle.std.specs.Prelude.{unwrap_or}
 use Rattle.c_tree.specs.c_syntax.declared.token.Token.{Token}
-use Rattle.c_tree.specs.c_syntax.Lexes.{Lexes}
 use Rattle.c_tree.specs.c_syntax.SyntaxTree.{UnitTree}
-use Rattle.c_tree.specs.c_syntax.Source.{IsSource, NoSource}
-use Rattle.c_lexer.specs.TokenText.{placed_from}
-use Rattle.c_lexer.specs.declared.fault.LexFault.{LexFault}
+use Rattle.c_tree.specs.c_syntax.Source.{IsSource}
 use Rattle.c_parser.specs.declared.fault.ParseFault.{ParseFault}
 use Rattle.c_parser.specs.declared.fault.ParseFault.TheVariants as parse_faults
 use Rattle.c_rules.specs.declared.fault.Rule.{Rule}
 use Rattle.c_rules.specs.declared.fault.TypeFault.{TypeFault}
-use Rattle.c_rules.specs.Checked.{Breaks, Holds}
+use Rattle.c_rules.specs.Checked.{Breaks}
 use Rattle.c_rules.specs.Faults.{rule_fault}
-use Rattle.c_rules.specs.Visits.{BrokenRule, first}
-use Rattle.c_rules.specs.Walk.{walk}
+use Rattle.c_rules.specs.Visits.{BrokenRule}
 use Rattle.c_syntax.proofs.OneReading.{one_token_list}
 use Rattle.c_syntax.proofs.Rows.UnitOne.{one_source}
 use Rattle.c_lexer.proofs.OneAnswer.{says_one, lexes_not_says}
@@ -24,7 +20,8 @@ use Rattle.c_units.specs.declared.fault.UnitFault.TheVariants.{Lex, Parse, Types
 use Rattle.c_units.specs.Externs.{AtStart, without_externs, extern_places}
 use Rattle.c_units.specs.Files.{FileTree, HasTokens, HasTree, IsFile, AreFiles, IsSyntaxFault, BreaksRule, HasOwnFault, OfTokens, OfSyntax, OfTypes, HasFileFault}
 use Rattle.c_units.specs.Statics.{static_name}
-use Rattle.c_units.specs.Joining.{Joined, Joins, joint_fault, HasJointFault, HasFault, IsSameFault}
+use Rattle.c_units.proofs.SpellingLemmas.{placed_by_kinds}
+use Rattle.c_units.specs.Joining.{Joined, Joins, joint_fault, HasFault, IsSameFault}
 
 -- ---- one file
 
@@ -39,16 +36,16 @@ one_unit ts us x y same s t = one_source us x y (subst (λ l. IsSource l x) same
 
 same_file : (f g : FileTree) → f.tokens ≡ g.tokens → f.externs ≡ g.externs → f.unit ≡ g.unit → f ≡ g
 same_file f g ts xs u =
-    ap (λ l : List Token. record { tokens = l; externs = f.externs; unit = f.unit }) ts
-    ∙ ap (λ l : List ℕ. record { tokens = g.tokens; externs = l; unit = f.unit }) xs
-    ∙ ap (λ x : UnitTree. record { tokens = g.tokens; externs = g.externs; unit = x }) u
+    ap (λ (l : List Token). record { tokens = l; externs = f.externs; unit = f.unit }) ts
+    ∙ ap (λ (l : List ℕ). record { tokens = g.tokens; externs = l; unit = f.unit }) xs
+    ∙ ap (λ (x : UnitTree). record { tokens = g.tokens; externs = g.externs; unit = x }) u
 
 one_tree : (bytes : List ℕ) (f g : FileTree) → HasTree bytes f → HasTree bytes g → f ≡ g
 one_tree bytes f g h k =
     let ts = one_left bytes f.tokens g.tokens f.externs g.externs h.tokens k.tokens in
     same_file f g ts (one_places bytes f.tokens g.tokens f.externs g.externs h.tokens k.tokens) (one_unit f.tokens g.tokens f.unit g.unit ts h.source k.source)
 
-broken : Rule → ℕ → BrokenRule
+abbrev broken : Rule → ℕ → BrokenRule
 broken rule at = record { rule = rule; at = at }
 
 one_breach : (unit : UnitTree) (a b : TypeFault) → BreaksRule unit a → BreaksRule unit b → a ≡ b
@@ -57,7 +54,7 @@ one_breach unit a b h k =
     h.is ∙ same_fault h.rule k.rule h.at k.at same ∙ sym k.is
   where
     same_fault : (r s : Rule) (m n : ℕ) → Some (broken r m) ≡ Some (broken s n) → rule_fault r m ≡ rule_fault s n
-    same_fault r s m n e = cc
+    same_fault r s m n e = ap (λ (found : Option BrokenRule). let one : BrokenRule = unwrap_or found (broken r m) in rule_fault one.rule one.at) e
 
 no_syntax_fault : (tokens : List Token) (unit : UnitTree) (why : ParseFault) → IsSource tokens unit → IsSyntaxFault why tokens → ⊥
 no_syntax_fault tokens unit (parse_faults.Syntax at) source fault = fault.0.never unit source
@@ -118,23 +115,22 @@ tail_one : {A : Type 0} (x y : A) (xs ys : List A) → x ∷ xs ≡ y ∷ ys →
 tail_one x y xs ys e = cc
 
 -- the first file with a fault of its own is one, whose number is so many above that of the first file
-first_one : (n : ℕ) (before : List (List ℕ)) (source : List ℕ) (after front : List (List ℕ)) (other : List ℕ) (back : List (List ℕ)) (fs gs : List FileTree) (a b : UnitFault)
-    → before ++ source ∷ after ≡ front ++ other ∷ back → AreFiles before fs → AreFiles front gs → HasOwnFault (length before + n) source a → HasOwnFault (length front + n) other b → IsSameFault a b
-first_one n [] source after [] other back fs gs a b e h k x y = one_own n source a b x (subst (λ s. HasOwnFault n s b) (sym (head_one source other after back e)) y)
-first_one n [] source after (s ∷ ss) other back fs [] a b e h k x y = absurd k
-first_one n [] source after (s ∷ ss) other back fs (g ∷ gs) a b e h k x y =
-    absurd (file_not n source g a (subst (λ t. IsFile t g) (sym (head_one source s after _ e)) k.0) x)
-first_one n (s ∷ ss) source after [] other back [] gs a b e h k x y = absurd h
-first_one n (s ∷ ss) source after [] other back (f ∷ fs) gs a b e h k x y =
-    absurd (file_not n other f b (subst (λ t. IsFile t f) (head_one s other _ back e) h.0) y)
-first_one n (s ∷ ss) source after (t ∷ tt') other back [] gs a b e h k x y = absurd h
-first_one n (s ∷ ss) source after (t ∷ tt') other back (f ∷ fs) [] a b e h k x y = absurd k
-first_one n (s ∷ ss) source after (t ∷ tt') other back (f ∷ fs) (g ∷ gs) a b e h k x y =
-    first_one (n + 1) ss source after tt' other back fs gs a b (tail_one s t _ _ e) h.1 k.1
-    (subst (λ m. HasOwnFault m source a) (moved (length ss) n) x) (subst (λ m. HasOwnFault m other b) (moved (length tt') n) y)
-  where
-    moved : (l n : ℕ) → 1 + l + n ≡ l + (n + 1)
-    moved l n = omega
+first_one : (n p q : ℕ) (before : List (List ℕ)) (source : List ℕ) (after front : List (List ℕ)) (other : List ℕ) (back : List (List ℕ)) (fs gs : List FileTree) (a b : UnitFault)
+    → before ++ source ∷ after ≡ front ++ other ∷ back → AreFiles before fs → AreFiles front gs → p ≡ length before + n → q ≡ length front + n
+    → HasOwnFault p source a → HasOwnFault q other b → IsSameFault a b
+first_one n p q [] source after [] other back fs gs a b e h k c d x y =
+    let same : q ≡ p = omega (arith, c, d) in
+    one_own p source a b x (subst (λ s. HasOwnFault p s b) (sym (head_one source other after back e)) (subst (λ m. HasOwnFault m other b) same y))
+first_one n p q [] source after (s ∷ ss) other back fs [] a b e h k c d x y = absurd k
+first_one n p q [] source after (s ∷ ss) other back fs (g ∷ gs) a b e h k c d x y =
+    absurd (file_not p source g a (subst (λ t. IsFile t g) (sym (head_one source s after (ss ++ other ∷ back) e)) k.0) x)
+first_one n p q (s ∷ ss) source after [] other back [] gs a b e h k c d x y = absurd h
+first_one n p q (s ∷ ss) source after [] other back (f ∷ fs) gs a b e h k c d x y =
+    absurd (file_not q other f b (subst (λ t. IsFile t f) (head_one s other (ss ++ source ∷ after) back e) h.0) y)
+first_one n p q (s ∷ ss) source after (t ∷ more) other back [] gs a b e h k c d x y = absurd h
+first_one n p q (s ∷ ss) source after (t ∷ more) other back (f ∷ fs) [] a b e h k c d x y = absurd k
+first_one n p q (s ∷ ss) source after (t ∷ more) other back (f ∷ fs) (g ∷ gs) a b e h k c d x y =
+    first_one (n + 1) p q ss source after more other back fs gs a b (tail_one s t (ss ++ source ∷ after) (more ++ other ∷ back) e) h.1 k.1 (omega (arith, c)) (omega (arith, d)) x y
 
 -- files that all fit have none with a fault of its own
 all_not : (n : ℕ) (before : List (List ℕ)) (source : List ℕ) (after : List (List ℕ)) (fs : List FileTree) (fault : UnitFault) → AreFiles (before ++ source ∷ after) fs → HasOwnFault n source fault → ⊥
@@ -147,7 +143,7 @@ files_not : (sources : List (List ℕ)) (fs : List FileTree) (fault : UnitFault)
 files_not sources fs fault h x = all_not (length x.before + 1) x.before x.source x.following fs fault (subst (λ s. AreFiles s fs) x.are h) x.has
 
 pub one_fault : (sources : List (List ℕ)) (a b : UnitFault) → HasFault sources a → HasFault sources b → IsSameFault a b
-one_fault sources a b (inl x) (inl y) = first_one 1 x.before x.source x.following y.before y.source y.following x.files y.files a b (sym x.are ∙ y.are) x.read y.read x.has y.has
+one_fault sources a b (inl x) (inl y) = first_one 1 (length x.before + 1) (length y.before + 1) x.before x.source x.following y.before y.source y.following x.files y.files a b (sym x.are ∙ y.are) x.read y.read refl refl x.has y.has
 one_fault sources a b (inl x) (inr y) = absurd (files_not sources y.files a y.are x)
 one_fault sources a b (inr x) (inl y) = absurd (files_not sources x.files b x.are y)
 one_fault sources a b (inr x) (inr y) =
@@ -164,15 +160,8 @@ joined_not sources tokens fault j (inr x) = none_some fault (sym j.no_fault ∙ 
     none_some : (fault : UnitFault) → None ≡ Some fault → ⊥
     none_some fault e = cc
 
--- tokens of the same kinds have the same places in their texts
-same_placed : (at : ℕ) (ts us : List Token) → map (λ t. t.kind) ts ≡ map (λ t. t.kind) us → placed_from at ts ≡ placed_from at us
-same_placed at [] [] e = refl
-same_placed at [] (u ∷ us) e = absurd (cc e)
-same_placed at (t ∷ ts) [] e = absurd (cc e)
-same_placed at (t ∷ ts) (u ∷ us) e = rw (head_one t.kind u.kind (map (λ t. t.kind) ts) (map (λ t. t.kind) us) e) (ap (λ l. _ ∷ l) (same_placed _ ts us (tail_one t.kind u.kind (map (λ t. t.kind) ts) (map (λ t. t.kind) us) e)))
-
 pub one_joined : (sources : List (List ℕ)) (ts us : List Token) → Joins sources ts → Joins sources us → ts ≡ us
 one_joined sources ts us j k =
     let files = one_list sources j.files k.files j.are k.are in
     let also = subst (λ fs. Joined static_name fs ts) files j.joined in
-    also.placed ∙ same_placed 0 ts us (also.kinds ∙ sym k.joined.kinds) ∙ sym k.joined.placed
+    also.placed ∙ placed_by_kinds 0 ts us (also.kinds ∙ sym k.joined.kinds) ∙ sym k.joined.placed

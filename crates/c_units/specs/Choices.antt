@@ -41,15 +41,26 @@ pub record IsFresh (choice : Choice) (files : List FileTree) : Type 0 where
   pub apart : (s t : StaticOf) → Contains (all_statics 1 files) s → Contains (all_statics 1 files) t
       → choice s.number s.name ≡ choice t.number t.name → s ≡ t
 
+-- a token of the file of this number is a static's: it is in its file, and has its name
+pub record IsOfStatic (number : ℕ) (t : Token) (s : StaticOf) : Type 0 where
+  pub file : s.number ≡ number
+  pub name : t.kind ≡ Name s.name
+
+-- neither choice gives this name to a static
+abbrev pub IsOther : List FileTree → Choice → Choice → List ℕ → Type 0
+IsOther files from to name = All (λ s. (name ≢ from s.number s.name) × (name ≢ to s.number s.name)) (all_statics 1 files)
+
 -- tokens have a typed program
 pub record HasProgram (tokens : List Token) (program : ProgramTree) : Type 0 where
   pub unit : UnitTree
   pub source : IsSource tokens unit
   pub typed : IsTyped unit program
 
--- tokens have this program but for names and places: each static has the name of one choice where it had that of another
+-- tokens have this program but for names and places: each static has the name of one choice where it had that of another, and all else
+-- keeps its name
 pub record HasRenamed (files : List FileTree) (from to : Choice) (tokens : List Token) (program : ProgramTree) : Type 0 where
   pub renaming : Renaming
   pub faithful : IsFaithful renaming
   pub statics : All (λ s. renaming.name (from s.number s.name) ≡ to s.number s.name) (all_statics 1 files)
+  pub others : (name : List ℕ) → IsOther files from to name → renaming.name name ≡ name
   pub has : HasProgram tokens (renamed_program renaming program)

@@ -13,3 +13,4 @@ mod statics;
 
 pub use fault::UnitFault;
 pub use joining::join_units;
+pub use laws::{fresh_choices_agree, static_names_are_fresh, statics_keep_to_their_files};
