@@ -1,5 +1,7 @@
 pub mod TableLemmas
 pub mod ObjectLemmas
+pub mod FileLemmas
+pub mod CountLemmas
 pub mod OneOutcome
 pub mod ListLemmas
 pub mod NumberLemmas

@@ -105,7 +105,7 @@ text_fits tokens h few = omega (arith, few, text_length tokens (recursion_from_A
 
 -- ---- the tokens of files have spellings, and none is reserved
 
-left_of : (P : Token → Type 0) (position : Position) (tokens : List Token) → AllByRecursion P tokens → AllByRecursion P (kept position tokens)
+pub left_of : (P : Token → Type 0) (position : Position) (tokens : List Token) → AllByRecursion P tokens → AllByRecursion P (kept position tokens)
 left_of P position [] h = tt {0}
 left_of P position (t ∷ ts) h = by (is_dropped position t ts) (left_of P (Within false) ts h.1) (left_of P (after_token position t.kind) ts h.1)
   where
@@ -114,7 +114,7 @@ left_of P position (t ∷ ts) h = by (is_dropped position t ts) (left_of P (With
     by true dropped other = dropped
     by false dropped other = (h.0, other)
 
-tokens_spelled : (bytes : List ℕ) (tokens : List Token) (externs : List ℕ) → HasTokens bytes tokens externs → AllByRecursion (λ t. HasSpelling t.kind) tokens
+pub tokens_spelled : (bytes : List ℕ) (tokens : List Token) (externs : List ℕ) → HasTokens bytes tokens externs → AllByRecursion (λ t. HasSpelling t.kind) tokens
 tokens_spelled bytes tokens externs h =
     subst (AllByRecursion (λ t. HasSpelling t.kind)) (sym h.left)
     (left_of (λ t. HasSpelling t.kind) AtStart h.all (recursion_from_All (λ t. HasSpelling t.kind) h.all (lexed_spelled bytes h.all h.lexes)))
@@ -226,7 +226,7 @@ few_tokens count none = by (nat_lt most_tokens count) refl none
     by true is found = absurd cc
     by false is found = grind (arith, nat_tests, is)
 
-none_before : (a b : Option UnitFault) → option_or a b ≡ None → (a ≡ None) × (b ≡ None)
+pub none_before : (a b : Option UnitFault) → option_or a b ≡ None → (a ≡ None) × (b ≡ None)
 none_before None b none = (refl, none)
 none_before (Some fault) b none = absurd cc
 

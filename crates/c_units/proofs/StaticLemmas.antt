@@ -18,15 +18,15 @@ module _ (P : List ℕ → Type 0) where
   AreNamed [] = ⊤
   AreNamed (t ∷ ts) = ((name : List ℕ) → t.kind ≡ Name name → P name) × AreNamed ts
 
-  first_named : (a b : List Token) → AreNamed (a ++ b) → AreNamed a
+  pub first_named : (a b : List Token) → AreNamed (a ++ b) → AreNamed a
   first_named [] b named = tt {0}
   first_named (t ∷ a) b named = (named.0, first_named a b named.1)
 
-  last_named : (a b : List Token) → AreNamed (a ++ b) → AreNamed b
+  pub last_named : (a b : List Token) → AreNamed (a ++ b) → AreNamed b
   last_named [] b named = named
   last_named (t ∷ a) b named = last_named a b named.1
 
-  function_named : (tokens : List Token) (tree : FunctionSyntax) → AreNamed tokens → DerivesFunction tokens tree → P tree.name
+  pub function_named : (tokens : List Token) (tree : FunctionSyntax) → AreNamed tokens → DerivesFunction tokens tree → P tree.name
   function_named tokens tree named derives =
       let all = subst AreNamed derives.cut named
       in let front = first_named (derives.a ++ derives.b ++ derives.n ∷ derives.t ∷ derives.c) (derives.u ∷ derives.d) all

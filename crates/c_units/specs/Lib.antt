@@ -5,6 +5,7 @@ pub mod Externs
 pub mod Views
 pub mod Statics
 pub mod Files
+pub mod PartFaults
 pub mod Objects
 pub mod Joining
 pub mod Choices

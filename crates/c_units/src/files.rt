@@ -1,11 +1,12 @@
 //! The files by themselves.
-ghost use Rattle.std.specs.Prelude.{◌≡◌, ◌≢◌, ◌<◌, ◌≤◌, ◌+◌, ◌^◌, length, map, All, IfOk, OnOk, IfErr};
+ghost use Rattle.std.specs.Prelude.{◌≡◌, ◌≢◌, ◌<◌, ◌≤◌, ◌^◌, ⊤, length, map, All, IfOk, OnOk, IfErr};
 ghost use Rattle.c_tree.specs.c_syntax.Lexes.{most_tokens};
 ghost use Rattle.c_tree.specs.c_syntax.Source.{IsSource};
 ghost use Rattle.c_tree.specs.c_syntax.SyntaxView.{unit_of};
 ghost use Rattle.c_rules.specs.Checked.{Holds};
 ghost use Rattle.c_units.specs.declared.fault.UnitFault.TheVariants as faults;
-ghost use Rattle.c_units.specs.Files.{HasTokens, IsFile, AreFiles, HasTree, IsSyntaxFault, BreaksRule, HasOwnFault, HasFileFault};
+ghost use Rattle.c_units.specs.Files.{HasTokens, IsFile, AreFiles, HasTree, HasOwnFault, HasFileFault};
+ghost use Rattle.c_units.specs.PartFaults.{of_lex_fault, of_parse_fault, of_type_fault};
 ghost use Rattle.c_units.specs.Views.{file_of};
 
 use crate::externs::{Kept, without_externs};
@@ -24,6 +25,49 @@ pub(crate) struct SourceFile {
     pub(crate) unit: Unit,
 }
 
+// A fault of the tokens of the file of this number.
+fn of_tokens(number: u8, fault: LexFault) -> UnitFault
+    ensures { result ≡ of_lex_fault number fault }
+{
+    match fault {
+        LexFault::NoMemory => UnitFault::NoMemory,
+        fault => UnitFault::Lex {
+            file: number,
+            fault,
+        },
+    }
+}
+
+// A fault of its syntax.
+fn of_syntax(number: u8, fault: ParseFault) -> UnitFault
+    ensures { result ≡ of_parse_fault number fault }
+{
+    match fault {
+        ParseFault::NoMemory => UnitFault::NoMemory,
+        fault => UnitFault::Parse {
+            file: number,
+            fault,
+        },
+    }
+}
+
+// A fault of its types. What is wanted of a whole program is left to the joined text.
+fn of_types(number: u8, fault: TypeFault) -> Option<UnitFault>
+    ensures { result ≡ of_type_fault number fault }
+{
+    match fault {
+        TypeFault::MissingMain { .. }
+        | TypeFault::MissingBody { .. }
+        | TypeFault::Recursion { .. }
+        | TypeFault::Limit { .. } => None,
+        TypeFault::NoMemory => Some(UnitFault::NoMemory),
+        fault => Some(UnitFault::Types {
+            file: number,
+            fault,
+        }),
+    }
+}
+
 // The tokens of a file that are left.
 fn kept_tokens(alloc: Global, number: u8, source: &[u8]) -> Result<Kept, UnitFault>
     requires short { length source.now < 2 ^ 32 }
@@ -32,11 +76,7 @@ fn kept_tokens(alloc: Global, number: u8, source: &[u8]) -> Result<Kept, UnitFau
 {
     match lex(alloc, source) {
         Ok(tokens) => Ok(without_externs(alloc, tokens)?),
-        Err(LexFault::NoMemory) => Err(UnitFault::NoMemory),
-        Err(fault) => Err(UnitFault::Lex {
-            file: number,
-            fault,
-        }),
+        Err(fault) => Err(of_tokens(number, fault)),
     }
 }
 
@@ -48,33 +88,22 @@ fn tree(alloc: Global, number: u8, source: &[u8], kept: &Kept) -> Result<Unit, U
 {
     match parse(alloc, &kept.tokens) {
         Ok(unit) => Ok(unit),
-        Err(ParseFault::NoMemory) => Err(UnitFault::NoMemory),
-        Err(fault) => Err(UnitFault::Parse {
-            file: number,
-            fault,
-        }),
+        Err(fault) => Err(of_syntax(number, fault)),
     }
 }
 
-// Whether no node of a file breaks a rule. What is wanted of a whole program is left to the joined text.
+// Refuses the first rule that a node of a file breaks.
 fn check_rules(alloc: Global, number: u8, source: &[u8], file: &SourceFile) -> Result<(), UnitFault>
     requires tree { HasTree source.now (file_of file.now) }
     ensures valid { OnOk result (Holds (unit_of file.now.unit) (λ functions. ⊤)) }
     ensures fault { IfErr result (λ fault. fault ≢ faults.NoMemory → HasOwnFault number source.now fault) }
 {
     match check(alloc, &file.unit) {
-        Ok(_)
-        | Err(
-            TypeFault::MissingMain { .. }
-            | TypeFault::MissingBody { .. }
-            | TypeFault::Recursion { .. }
-            | TypeFault::Limit { .. },
-        ) => Ok(()),
-        Err(TypeFault::NoMemory) => Err(UnitFault::NoMemory),
-        Err(fault) => Err(UnitFault::Types {
-            file: number,
-            fault,
-        }),
+        Ok(_) => Ok(()),
+        Err(fault) => match of_types(number, fault) {
+            Some(own) => Err(own),
+            None => Ok(()),
+        },
     }
 }
 

@@ -64,8 +64,8 @@ fn push_tokens(
     file: Vec<Token>,
     tokens: &mut Vec<Token>,
 ) -> Result<(), NoMemory>
-    ensures { OnOk result ((source : FileTree) → AreNames statics.now (statics_of source.unit) → file.items ≡ source.tokens
-        → map (λ t. t.kind) tokens.new.items ≡ map (λ t. t.kind) tokens.old.items ++ file_kinds static_name number source) }
+    ensures { OnOk result ((source : FileTree) → AreNames statics.now (statics_of source.unit)
+        → map (λ t. t.kind) tokens.new.items ≡ map (λ t. t.kind) tokens.old.items ++ map (λ t. renamed_kind (renaming_of static_name number source) t.kind) file.items) }
 {
     for token in file {
         tokens.push(Token {

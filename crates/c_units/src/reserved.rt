@@ -1,5 +1,5 @@
 //! Names that are reserved for statics.
-ghost use Rattle.std.specs.Prelude.{◌≡◌, ◌≢◌, ◌≤◌, Some, None, List, ℕ, length, map, IfOk, OnOk, IfErr};
+ghost use Rattle.std.specs.Prelude.{◌≡◌, ◌≢◌, ◌≤◌, reverse, Some, None, List, ℕ, length, map, IfOk, OnOk, IfErr};
 ghost use Rattle.c_tree.specs.c_syntax.SyntaxView.{unit_of};
 ghost use Rattle.c_units.specs.declared.fault.UnitFault.TheVariants as faults;
 ghost use Rattle.c_units.specs.Statics as names;
@@ -17,12 +17,41 @@ use word_base::NoMemory;
 /// The most characters of a static's name.
 const LONGEST_STATIC: usize = 120;
 
+// Whether a text ends in `__`.
+fn is_marked(text: &[u8]) -> bool
+    ensures { result ≡ names.is_marked (reverse text.now) }
+{
+    let Some((last, rest)) = text.split_last() else {
+        return false;
+    };
+    let Some((before, _)) = rest.split_last() else {
+        return false;
+    };
+    *last == b'_' && *before == b'_'
+}
+
+// Whether a text ends in `__` and digits, if any.
+fn is_numbered(text: &[u8]) -> bool
+    ensures { result ≡ names.marked_behind (reverse text.now) }
+{
+    let mut front = text;
+    while let Some((last, rest)) = front.split_last() {
+        if !last.is_ascii_digit() {
+            return is_marked(front);
+        }
+        front = rest;
+    }
+    false
+}
+
 // Whether a name ends in `__` and digits, at least one.
 fn ends_in_number(name: &str) -> bool
     ensures { result ≡ names.ends_in_number name.now }
 {
-    let front = name.trim_end_matches(|c: char| c.is_ascii_digit());
-    front.len() < name.len() && front.ends_with("__")
+    match name.as_bytes().split_last() {
+        Some((last, front)) => last.is_ascii_digit() && is_numbered(front),
+        None => false,
+    }
 }
 
 // Whether a token is a name that is reserved in a file with these statics.
