@@ -60,7 +60,11 @@ fn with_names<'a>(
 {
     match names {
         Some(names) => {
-            command.arg(Arg::new(alloc, names.id).required(true).num_args(1..=names.most))
+            command.arg(
+                Arg::new(alloc, names.id)
+                    .required(true)
+                    .num_args(1..=names.most),
+            )
         }
         None => Ok(command),
     }

@@ -12,8 +12,8 @@ returns-in_default-get_strs c =
 pub returns-then-is_empty : goal.returns-then-is_empty
 returns-then-is_empty c =
     rw c.in-Some.is (names_given (found_of c.args.matches.now) (several_of c.in-Some.names) (Some (map name_of c.in-Some-get_strs.found.now)) None (rw c.in-Some-get_strs.is at c.get_strs.ensures) (elim c.then-is_empty.branch [
-      then-is_empty-via-then-is_empty w ↦ too_few c.in-Some.names.most c.in-Some-get_strs.found.now (sym c.is_empty.ensures ∙ w.if-is_empty.true)
-    | then-is_empty-via-else-is_empty+then-found-names w ↦ too_many c.in-Some.names.most c.in-Some-get_strs.found.now w.if-found-names.true
+      | then-is_empty-via-then-is_empty w ↦ too_few c.in-Some.names.most c.in-Some-get_strs.found.now (sym c.is_empty.ensures ∙ w.if-is_empty.true)
+      | then-is_empty-via-else-is_empty+then-found-names w ↦ too_many c.in-Some.names.most c.in-Some-get_strs.found.now w.if-found-names.true
     ]))
 
 pub returns : goal.returns
