@@ -5,4 +5,7 @@ mod externs;
 mod fault;
 mod statics;
 
+pub use c_lexer::{LexFault, token_text};
+pub use c_parser::ParseFault;
+pub use c_rules::{LimitName, TypeFault};
 pub use fault::UnitFault;
