@@ -56,12 +56,7 @@ fn limit_name(which: LimitName) -> &'static str
 }
 
 // The line of more of something than a limit allows.
-fn limit_line(
-    alloc: Global,
-    source: &str,
-    which: LimitName,
-    count: u32,
-) -> Result<String, NoMemory>
+fn limit_line(alloc: Global, source: &str, which: LimitName, count: u32) -> Result<String, NoMemory>
     ensures { IfOk result (λ line. string_bytes line ≡ limit_line source.now which count) }
 {
     let name = limit_name(which);
@@ -69,11 +64,7 @@ fn limit_line(
 }
 
 /// The line of a fault of types.
-pub(crate) fn type_line(
-    alloc: Global,
-    source: &str,
-    fault: &TypeFault,
-) -> Result<String, NoMemory>
+pub(crate) fn type_line(alloc: Global, source: &str, fault: &TypeFault) -> Result<String, NoMemory>
     ensures { IfOk result (λ line. string_bytes line ≡ type_line source.now fault.now) }
 {
     match fault {
@@ -95,11 +86,7 @@ pub(crate) fn type_line(
 }
 
 /// The line of a fault of the lexer.
-pub(crate) fn lex_line(
-    alloc: Global,
-    source: &str,
-    fault: LexFault,
-) -> Result<String, NoMemory>
+pub(crate) fn lex_line(alloc: Global, source: &str, fault: LexFault) -> Result<String, NoMemory>
     ensures { IfOk result (λ line. string_bytes line ≡ lex_line source.now fault) }
 {
     match fault {
@@ -113,11 +100,7 @@ pub(crate) fn lex_line(
 }
 
 /// The line of a fault of syntax.
-pub(crate) fn parse_line(
-    alloc: Global,
-    source: &str,
-    fault: ParseFault,
-) -> Result<String, NoMemory>
+pub(crate) fn parse_line(alloc: Global, source: &str, fault: ParseFault) -> Result<String, NoMemory>
     ensures { IfOk result (λ line. string_bytes line ≡ parse_line source.now fault) }
 {
     match fault {
