@@ -176,3 +176,8 @@ each_fits shelf names limit [] all k d lt = absurd (omega (arith, lt))
 each_fits shelf [] limit (file ∷ files) all k d lt = absurd all
 each_fits shelf (name ∷ names) limit (file ∷ files) all zero d lt = all.0.fits
 each_fits shelf (name ∷ names) limit (file ∷ files) all (suc k) d lt = each_fits shelf names limit files all.1 k d (omega (arith, lt))
+
+-- files by the texts of their names
+pub names_as_texts : (names : List (Bor (List ℕ))) (limit : ℕ) → map (λ name. wanted name limit) (map (λ name. name.now) names) ≡ of_names names limit
+names_as_texts [] limit = refl
+names_as_texts (name ∷ names) limit = ap (λ ws. wanted name.now limit ∷ ws) (names_as_texts names limit)
