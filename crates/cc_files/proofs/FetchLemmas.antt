@@ -3,7 +3,7 @@ use Rattle.std.proofs.Common.{◌≡◌, ◌∙◌, ◌<◌, ◌≤◌, ◌++◌
 use Rattle.std.proofs.lemmas.List.{map-append, take-append-drop}
 use Rattle.std.proofs.Math.Seq.{drop-cons, take-suc}
 use Rattle.std.specs.Borrow.{Bor}
-use Rattle.std.specs.Prelude.{All, Vec}
+use Rattle.std.specs.Prelude.{All, IsTrue, Vec, unwrap_or}
 use Rattle.std.specs.declared.alloc.Global.{Global}
 use Rattle.cc_files.specs.Wants.{of_names, contents_of}
 use Rattle.cc_shelf.specs.Stock.{Stock, Fetch}
@@ -30,7 +30,7 @@ none_so_far tells stock = record {
 }
 
 -- what is fetched has bytes
-with_bytes : (shelf : Shelves) (ws : List Wanted) (contents : List (List ℕ)) → AllFetched shelf ws contents → AreFetched shelf ws
+pub with_bytes : (shelf : Shelves) (ws : List Wanted) (contents : List (List ℕ)) → AllFetched shelf ws contents → AreFetched shelf ws
 with_bytes shelf [] [] all = tt {0}
 with_bytes shelf [] (bytes ∷ contents) all = absurd all
 with_bytes shelf (w ∷ ws) [] all = absurd all
@@ -181,3 +181,14 @@ each_fits shelf (name ∷ names) limit (file ∷ files) all (suc k) d lt = each_
 pub names_as_texts : (names : List (Bor (List ℕ))) (limit : ℕ) → map (λ name. wanted name limit) (map (λ name. name.now) names) ≡ of_names names limit
 names_as_texts [] limit = refl
 names_as_texts (name ∷ names) limit = ap (λ ws. wanted name.now limit ∷ ws) (names_as_texts names limit)
+
+-- what is told of files are the same bytes
+pub same_contents : (shelf : Shelves) → IsTrue shelf.tells → (ws : List Wanted) (a b : List (List ℕ)) → AllFetched shelf ws a → AllFetched shelf ws b → a ≡ b
+same_contents shelf tells [] [] [] f g = refl
+same_contents shelf tells [] (x ∷ a) b f g = absurd f
+same_contents shelf tells [] [] (y ∷ b) f g = absurd g
+same_contents shelf tells (w ∷ ws) [] b f g = absurd f
+same_contents shelf tells (w ∷ ws) (x ∷ a) [] f g = absurd g
+same_contents shelf tells (w ∷ ws) (x ∷ a) (y ∷ b) f g =
+    let here : x ≡ y = ap (λ o. unwrap_or o x) (sym (f.0.told tells) ∙ g.0.told tells) in
+    ap (λ bytes. bytes ∷ a) here ∙ ap (λ contents. y ∷ contents) (same_contents shelf tells ws a b f.1 g.1)
