@@ -287,8 +287,8 @@ abbrev pub JoinsNames : Type 0
 JoinsNames = OnAllPlain (λ a sources. 1 ≤ length sources → length sources ≤ most_sources
     → Asks (codes "join" ∷ a ∷ sources) (ToJoin a sources))
 
--- `join` with fewer names, or with more
+-- `join` with fewer names, or with more, whatever follows
 abbrev pub JoinsNoOtherNames : Type 0
 JoinsNoOtherNames = AsksNothing (codes "join" ∷ [])
     × ((a : Text) → is_plain_word a ≡ true → AsksNothing (codes "join" ∷ a ∷ []))
-    × OnAllPlain (λ a sources. most_sources < length sources → AsksNothing (codes "join" ∷ a ∷ sources))
+    × OnAllPlain (λ a sources. (rest : List Text) → most_sources < length sources → AsksNothing (codes "join" ∷ a ∷ (sources ++ rest)))
