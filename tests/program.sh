@@ -309,7 +309,7 @@ mkdir asked
 cd asked || exit 1
 : > ../no.file
 asks() {
-    local request
+    local request name
     read -ra request <<< "$1"
     shift
     case ${request[0]} in
@@ -377,6 +377,16 @@ register 0: 0' "$@"
             echo 'int a [ 7 ] ;' | cmp -s - "./${request[2]}" || fail "no text under ${request[2]}: $*"
             rm -f -- "./${request[1]}" "./${request[2]}"
             ;;
+        join)
+            # Each source has an object of its own, so the text tells which sources were joined, in which order.
+            for name in "${request[@]:2}"; do
+                [ -e "./$name" ] || printf 'int s%d;\n' "$(ls -A | wc -l)" > "./$name"
+            done
+            for name in "${request[@]:2}"; do sed 's/;/ ;/' < "./$name"; done > ../joined.wants
+            wants 0 '' "$@"
+            cmp -s ../joined.wants "./${request[1]}" || fail "another text under ${request[1]}: $*"
+            for name in "${request[@]:1}"; do rm -f -- "./$name"; done
+            ;;
         *) fail "another request: ${request[*]}" ;;
     esac
     [ -z "$(ls -A)" ] || fail "other files are left by '$*': $(ls -A)"
@@ -395,7 +405,7 @@ while IFS= read -r row; do
     fi
 done < <(rows words.txt)
 cd ..
-[ "$lists" -ge 322 ] || fail "words.txt has $lists lists"
+[ "$lists" -ge 376 ] || fail "words.txt has $lists lists"
 wants 2 'words refused' ''
 
 # Files as long as they may be, and one byte longer.

@@ -11,6 +11,9 @@ mod objects;
 mod reserved;
 mod statics;
 
+pub use c_lexer::{LexFault, token_text};
+pub use c_parser::ParseFault;
+pub use c_rules::{LimitName, TypeFault};
 pub use fault::UnitFault;
 pub use joining::join_units;
 pub use laws::{fresh_choices_agree, static_names_are_fresh, statics_keep_to_their_files};

@@ -10,7 +10,7 @@ use Rattle.c_tree.specs.TypedTree.{ProgramTree}
 use Rattle.c_rules.specs.Checked.{IsTyped}
 use Rattle.c25_isa.specs.Agrees.{Agrees}
 use Rattle.c25_isa.specs.Image.{Contents}
-use Rattle.lay_cert.specs.Frames.{Frame}
+use Rattle.cc_image.specs.lay_cert.Frames.{Frame}
 use Rattle.cc_image.specs.frame_layouts.declared.options.Options.{Options}
 use Rattle.cc_image.specs.Images.{AccessAs, AreWalked, EndsWithin, HasFrames, HasImage, IsDirect, KeepsRuns, TreeKeepsRuns}
 

@@ -9,9 +9,8 @@ mod laws;
 mod phases;
 
 pub use cc_fault_laws::one_source_fault;
-pub use cc_image::{LinkFault, Options, PlanFault, runs_tell};
+pub use cc_image::{CertFault, LinkFault, Options, PlanFault, runs_tell};
 pub use fault::BuildFault;
 pub use front::typed_program;
 pub use laws::full_code_is_large;
-pub use lay_cert::CertFault;
 pub use phases::{Built, compile};

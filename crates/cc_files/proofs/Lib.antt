@@ -5,4 +5,5 @@ pub use Rattle.cc_text.proofs.image_proof as image_proof
 pub use Rattle.cc_text.proofs.c_macro as c_macro
 pub mod PassedOn
 pub mod ShelfLemmas
+pub mod FetchLemmas
 pub mod PutLemmas

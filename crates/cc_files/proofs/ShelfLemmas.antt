@@ -105,14 +105,14 @@ module _ (tells : Bool) (first between last : Stock) (same : Unchanged first.fil
   pub fetched_before : (w : Wanted) (bytes : List ℕ) → IsFetched (shelves tells between last) w bytes → IsFetched (shelves tells first last) w bytes
   fetched_before w bytes f = record { told = λ t. sym (same w.name) ∙ f.told t; fits = f.fits }
 
-  still_fetched : (ws : List Wanted) → AreFetched (shelves tells between last) ws → AreFetched (shelves tells first last) ws
+  pub still_fetched : (ws : List Wanted) → AreFetched (shelves tells between last) ws → AreFetched (shelves tells first last) ws
   still_fetched [] t = tt {0}
   still_fetched (w ∷ ws) t = ((t.0.0, fetched_before w t.0.0 t.0.1), still_fetched ws t.1)
 
   still_asked : (w : Wanted) (fs : List Fetch) → AreAsked (shelves tells first between) (fetch_of false w ∷ []) → AreAsked (shelves tells between last) fs → AreAsked (shelves tells first last) (fetch_of false w ∷ fs)
   still_asked w fs one more = λ t. more t ∙ ap (λ names. names ++ fs) (one t) ∙ append_assoc first.fetched (fetch_of false w ∷ []) fs
 
-  still_cause : NoFetchFailed first.counts between.counts → (w : Wanted) (failed : Bool) (fault : FileFault) → FetchCause (shelves tells between last) w failed fault → FetchCause (shelves tells first last) w failed fault
+  pub still_cause : NoFetchFailed first.counts between.counts → (w : Wanted) (failed : Bool) (fault : FileFault) → FetchCause (shelves tells between last) w failed fault → FetchCause (shelves tells first last) w failed fault
   still_cause none w true Read c = rose_later 1 first.counts.fetch_faults between.counts.fetch_faults last.counts.fetch_faults counts.fetch_faults c
   still_cause none w true TooLong c = absurd c
   still_cause none w true (Image why) c = absurd c

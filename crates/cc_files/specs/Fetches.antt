@@ -1,5 +1,6 @@
 -- The fetches of a command's files, in their order, and when they are refused (docs/COMMANDS.md).
 use Rattle.std.specs.Prelude.{◌≡◌, ℕ, ◌+◌, ◌<◌, ◌≤◌, Bool, true, false, IsTrue, List, [], ◌∷◌, ◌++◌, length, map, Some, None}
+use Rattle.std.specs.List.{AllZip}
 use Rattle.cc_shelf.specs.Counts.{FetchFailed, RoseBy}
 use Rattle.cc_shelf.specs.Stock.{Fetch}
 use Rattle.cc_shelf.specs.ShelfAnswers.{NoFetchFailed}
@@ -27,6 +28,10 @@ pub record IsFetched (shelf : Shelves) (file : Wanted) (bytes : List ℕ) : Type
 abbrev pub AreFetched : Shelves → List Wanted → Type 0
 AreFetched shelf [] = Unit {0}
 AreFetched shelf (w ∷ ws) = ((bytes : List ℕ) × IsFetched shelf w bytes) × AreFetched shelf ws
+
+-- each of these has these bytes
+abbrev pub AllFetched : Shelves → List Wanted → List (List ℕ) → Type 0
+AllFetched shelf ws contents = AllZip (IsFetched shelf) ws contents
 
 -- a fetch of a file, and whether it failed
 abbrev pub fetch_of : Bool → Wanted → Fetch

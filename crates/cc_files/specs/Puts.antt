@@ -5,9 +5,10 @@ use Rattle.word_base.specs.declared.text.NoMemory.{NoMemory}
 use Rattle.cc_shelf.specs.Counts.{Rose, raised}
 use Rattle.cc_shelf.specs.Output.{Output}
 use Rattle.cc_answers.specs.Answers.{Answered}
-use Rattle.cc_text.specs.Refusals.{Why, OfFile, OfSource, OfMacros, OfStore, OfMemory, file_line, refusal_status}
+use Rattle.cc_text.specs.Refusals.{Why, OfFile, OfSource, OfMacros, OfUnits, OfStore, OfMemory, file_line, refusal_status}
 use Rattle.cc_text.specs.SourceText.{source_line}
 use Rattle.cc_text.specs.MacroText.{macro_line}
+use Rattle.cc_text.specs.UnitText.{unit_line}
 use Rattle.cc_files.specs.World.{Sinks}
 
 -- what a put of a line made of a sink that tells
@@ -46,6 +47,7 @@ abbrev pub PutsRefusal : Why → Sinks → Type 0
 PutsRefusal (OfFile name why) sink = PutsMade (file_line name why) sink
 PutsRefusal (OfSource why) sink = PutsMade (source_line why) sink
 PutsRefusal (OfMacros why) sink = PutsMade (macro_line why) sink
+PutsRefusal (OfUnits why) sink = PutsMade (unit_line why) sink
 PutsRefusal OfStore sink = PutsNothing sink
 PutsRefusal OfMemory sink = PutsLine memory_line sink
 

@@ -12,5 +12,6 @@ pub use cc_text::{
 pub use output::{put, refuse, say};
 pub use shelf::{
     CERTIFICATE_LIMIT, Fetched, FetchedThree, IMAGE_LIMIT, PORTS_LIMIT, SCRIPT_LIMIT,
-    SEQUENCE_LIMIT, SOURCE_LIMIT, TEXT_LIMIT, Want, fetch, fetch_both, fetch_three, store,
+    SEQUENCE_LIMIT, SOURCE_LIMIT, TEXT_LIMIT, Want, fetch, fetch_all, fetch_both, fetch_three,
+    store,
 };

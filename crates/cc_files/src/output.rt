@@ -6,7 +6,7 @@ ghost use Rattle.cc_files.specs.Puts.{PutsLine, PutsWhere, TextPut, AnswerPut, R
 
 use cc_answers::Answer;
 use cc_shelf::{Sink, SinkFault};
-use cc_text::{Refusal, file_line, macro_line, source_line};
+use cc_text::{Refusal, file_line, macro_line, source_line, unit_line};
 use std::alloc::Global;
 use word_base::NoMemory;
 
@@ -34,6 +34,7 @@ pub fn refuse<K: Sink>(alloc: Global, out: &mut K, refusal: &Refusal<'_>) -> u8
         Refusal::File { name, why } => say_made(alloc, out, &file_line(alloc, name, *why)),
         Refusal::Source(why) => say_made(alloc, out, &source_line(alloc, why)),
         Refusal::Macros(why) => say_made(alloc, out, &macro_line(alloc, *why)),
+        Refusal::Units(why) => say_made(alloc, out, &unit_line(alloc, why)),
         Refusal::Store => {}
         Refusal::NoMemory => say(alloc, out, b"want of memory\n"),
     }

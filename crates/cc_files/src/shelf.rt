@@ -1,15 +1,16 @@
 //! The files of commands.
-ghost use Rattle.std.specs.Prelude.{◌≡◌, ◌≢◌, [], ◌∷◌, List, ℕ, Some, IfOk, OnOk, IfErr, IsTrue};
+ghost use Rattle.std.specs.Prelude.{◌≡◌, ◌≢◌, [], ◌∷◌, ◌++◌, List, ℕ, Some, IfOk, OnOk, IfErr, IsTrue};
 ghost use Rattle.cc_shelf.specs.ShelfAnswers.{AfterFetch};
 ghost use Rattle.cc_text.specs.Refusals.{why_of};
 ghost use Rattle.cc_files.specs.World.{shelves};
-ghost use Rattle.cc_files.specs.Fetches.{wanted, of_shelf_fault, IsFetched, NoneFailed, NotFetched};
-ghost use Rattle.cc_files.specs.Wants.{of_want};
+ghost use Rattle.cc_files.specs.Fetches.{wanted, of_shelf_fault, IsFetched, AllFetched, NoneFailed, NotFetched};
+ghost use Rattle.cc_files.specs.Wants.{of_want, of_names, contents_of};
 ghost use Rattle.cc_files.specs.Stores.{NothingStored, StoreStopped};
 
 use cc_shelf::{Shelf, ShelfFault};
 use cc_text::{FileFault, Refusal};
 use std::alloc::Global;
+use word_base::NoMemory;
 
 /// The greatest length of a source, in bytes.
 pub const SOURCE_LIMIT: u64 = 1_048_576;
@@ -142,6 +143,33 @@ pub fn fetch_three<'a, F: Shelf>(
         second: others.bytes,
         third: others.more,
     })
+}
+
+// Puts the bytes of a file behind those of others.
+fn keep(files: &mut Vec<Vec<u8>>, bytes: Vec<u8>) -> Result<(), NoMemory>
+    ensures { OnOk result (files.new.items ≡ files.old.items ++ bytes ∷ []) }
+{
+    Ok(files.push(bytes)?)
+}
+
+/// Fetches files of these names and of at most so many bytes each, one behind another. A fetch that is refused is the last; its file is named.
+pub fn fetch_all<'a, F: Shelf>(
+    alloc: Global,
+    shelf: &mut F,
+    names: &[&'a str],
+    limit: u64,
+) -> Result<Vec<Vec<u8>>, Refusal<'a>>
+    ensures fetched { IfOk result (λ files. AllFetched (shelves F.tells (F.stock shelf.old) (F.stock shelf.new)) (of_names names.now limit) (contents_of files.items)) }
+    ensures asked { OnOk result (NoneFailed (shelves F.tells (F.stock shelf.old) (F.stock shelf.new)) (of_names names.now limit)) }
+    ensures refused { IfErr result (λ r. NotFetched (shelves F.tells (F.stock shelf.old) (F.stock shelf.new)) (of_names names.now limit) (why_of r)) }
+    ensures stored { NothingStored (shelves F.tells (F.stock shelf.old) (F.stock shelf.new)) }
+{
+    let mut files = Vec::new(alloc);
+    for name in names {
+        let bytes = fetch(alloc, shelf, name, limit)?;
+        keep(&mut files, bytes)?;
+    }
+    Ok(files)
 }
 
 /// Stores a file. It is refused where it can't be written, and for want of memory; no other file changes.

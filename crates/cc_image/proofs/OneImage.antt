@@ -14,7 +14,7 @@ use Rattle.c25_link.specs.Linking.{linked_image, pieces_words}
 use Rattle.c25_link.specs.declared.fault.LinkFault.{LinkFault}
 use Rattle.c25_link.specs.declared.fault.LinkFault.TheVariants as link_faults
 use Rattle.frame_layouts.specs.declared.options.Options.{Options}
-use Rattle.lay_cert.specs.Frames.{Frame}
+use Rattle.frame_layouts.specs.lay_cert.Frames.{Frame}
 use Rattle.frame_layouts.specs.Frames.{frames_of}
 use Rattle.acc_select.specs.Selected.{selected}
 use Rattle.cc_image.specs.Images.{HasFrames, HasImage, HasTooMuchData, HasTooMuchCode, HasPlanFault, HasLinkFault, IsPlanOf, all_pieces, layouts}

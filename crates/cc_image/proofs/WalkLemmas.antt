@@ -15,7 +15,7 @@ use Rattle.acc_select.specs.IsSelected.{IsEmittable}
 use Rattle.acc_select.specs.Selected.{selected}
 use Rattle.lay_cost.specs.Cost.{block_cost}
 use Rattle.lay_cost.specs.Placements.{placement_of}
-use Rattle.lay_cert.specs.Frames.{Frame}
+use Rattle.frame_layouts.specs.lay_cert.Frames.{Frame}
 use Rattle.mem_plan.specs.declared.data_plan.DataPlan.{DataPlan}
 use Rattle.mem_plan.specs.declared.data_plan.FramePlan.{FramePlan}
 use Rattle.mem_plan.specs.Plan.{AreArranged, IsPlan}

@@ -19,7 +19,7 @@ use Rattle.image_proof.specs.PlanPlaces.{places_of}
 use Rattle.image_proof.specs.Agreeing.{EndsInTime, emission_of}
 use Rattle.image_proof.specs.Directs.{AreDirect}
 use Rattle.image_proof.specs.FunctionWalks.{place_of}
-use Rattle.lay_cert.specs.Frames.{Frame}
+use Rattle.frame_layouts.specs.lay_cert.Frames.{Frame}
 use Rattle.frame_layouts.specs.declared.options.Options.{Options}
 use Rattle.frame_layouts.specs.Frames.{layout_of, frames_of}
 use Rattle.c25_isa.specs.declared.image.FunctionRange.{FunctionRange}

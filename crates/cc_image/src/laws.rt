@@ -5,7 +5,7 @@ ghost use Rattle.c_tree.specs.WellFormedProgram.{IsProgram};
 ghost use Rattle.c25_isa.specs.Image.{Contents};
 ghost use Rattle.ir_semantics.specs.SourceWeights.{source_weight};
 ghost use Rattle.frame_layouts.specs.declared.options.Options.{Options};
-ghost use Rattle.lay_cert.specs.Frames.{Frame};
+ghost use Rattle.frame_layouts.specs.lay_cert.Frames.{Frame};
 ghost use Rattle.cc_image.specs.Images.{HasFrames, HasImage, HasTooMuchData, HasTooMuchCode};
 
 /// A typed program has one image at most and one list of frames, and no image where its data or its code find no room; how many words they need is one number. It does

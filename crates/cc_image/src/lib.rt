@@ -7,7 +7,7 @@ mod phases;
 
 pub use c25_link::LinkFault;
 pub use fault::TranslationFault;
-pub use frame_layouts::{Options, report_rows};
+pub use frame_layouts::{CertFault, Certificate, Options, report_rows};
 pub use image_proof::runs_tell;
 pub use laws::{code_is_bounded, one_image};
 pub use mem_plan::PlanFault;

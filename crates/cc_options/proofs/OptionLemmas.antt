@@ -1,16 +1,19 @@
 -- From what `clap` says of its matches to what the words give a command.
-use Rattle.std.proofs.Common.{◌≡◌, ◌∙◌, arith, ℕ, Bool, true, false, refl, sym, ap, subst, List, Option, Some, None, Result, Ok, Err, cond}
-use Rattle.std.specs.Prelude.{◌^◌, ◌&&◌, nat_le, nat_lt, option_and_then}
+use Rattle.std.proofs.Common.{◌≡◌, ◌∙◌, ◌<◌, ◌≤◌, arith, ℕ, suc, Bool, true, false, refl, sym, ap, subst, List, [], ◌∷◌, length, map, Option, Some, None, Result, Ok, Err, cond, true≢false}
+use Rattle.std.specs.Prelude.{◌^◌, ◌&&◌, ◌==◌, nat_le, nat_lt, option_and_then, option_map}
+use Rattle.std.specs.Borrow.{Bor}
 use Rattle.std.specs.Str.Parse.{ParsesUnsigned, digits_value, without_leading_plus}
-use Rattle.clap.specs.Matches.{ReadsOne, one_text}
+use Rattle.std.proofs.lemmas.Bool.{eqb-true, le-leb, lt-leb}
+use Rattle.std.proofs.lemmas.List.{length-map}
+use Rattle.clap.specs.Matches.{ReadsOne, matched_of, one_text, raw_values}
 use Rattle.clap.specs.Values.{IsUnsignedIn}
 use Rattle.clap.specs.ValueTests.{is_numeral, is_unsigned_in}
 use Rattle.clap.specs.Words.{App, Row, Text, is_simple, is_simple_and_free, matches_of, rows_of}
 use Rattle.clap.specs.declared.builder.value_parser.ValueParser.TheVariants as parser
 use Rattle.clap.specs.declared.parser.matches.Found.{Found}
 use Rattle.clap.proofs.ValueTestLemmas.{Accepts-accepts, accepts-Accepts}
-use Rattle.clap.proofs.WalkLemmas.{both, one_text-rows}
-use Rattle.cc_options.specs.Options.{Options, Values, app_of_options, is_number_to, is_taken, number_of, number_to, values_in, values_of, within}
+use Rattle.clap.proofs.WalkLemmas.{both, one_text-rows, raw_values-rows}
+use Rattle.cc_options.specs.Options.{Options, Several, Values, app_of_options, is_number_to, is_taken, name_of, names_in, number_of, number_to, up_to, values_in, values_of, within}
 
 pub simple_of : (a : App) → is_simple_and_free a ≡ true → is_simple a ≡ true
 simple_of a e = (both _ _ e).0
@@ -51,6 +54,25 @@ module _ (E : Type 0) (G : List ℕ → Result ℕ E → Type 0) (only : (u : Li
       go (Some t) e =
           let h = value t e in
           no_number_read E greatest t (h.0, only t (Err h.0) h.1)
+
+-- names are from one to the most that there may be, or they aren't
+pub too_few : (most : ℕ) (names : List (Bor Text)) → (length names == 0) ≡ true → None ≡ up_to most (map name_of names)
+too_few most [] e = refl
+too_few most (name ∷ names) e = let none : suc (length names) ≡ 0 = eqb-true (suc (length names)) 0 e in absurd (omega (arith, none))
+
+pub too_many : (most : ℕ) (names : List (Bor Text)) → most < length names → None ≡ up_to most (map name_of names)
+too_many most [] over = absurd (omega arith)
+too_many most (name ∷ names) over = rw (length-map names name_of, le-leb 1 (suc (length names)) (omega arith), lt-leb (suc (length names)) most over) refl
+
+pub as_many_as_may_be : (most : ℕ) (names : List (Bor Text)) → (length names == 0) ≡ false → length names ≤ most → Some (map name_of names) ≡ up_to most (map name_of names)
+as_many_as_may_be most [] some fit = absurd (true≢false some)
+as_many_as_may_be most (name ∷ names) some fit =
+    rw (length-map names name_of, le-leb 1 (suc (length names)) (omega arith), le-leb (suc (length names)) most fit) refl
+
+-- what the getter of several texts gives of what the matches hold
+pub names_given : (f : Found) (s : Several) (names : Option (List Text)) (r : Option (List Text)) → names ≡ option_map raw_values (matched_of f s.id)
+    → r ≡ option_and_then (up_to s.most) names → r ≡ names_in (rows_of f) s
+names_given f s names r held is = is ∙ ap (option_and_then (up_to s.most)) (held ∙ raw_values-rows f s.id)
 
 -- the words are taken, and the matches say what they give
 pub taken : (app : App) (o : Options) (words : List Text) (rows : List Row) (v : Values) → app ≡ app_of_options o → is_taken app words ≡ true → rows ≡ matches_of app words → v ≡ values_in o rows → Some v ≡ values_of o words

@@ -1,17 +1,18 @@
 -- What the words of a command give it, by what `clap` makes of them.
-use Rattle.std.specs.Prelude.{◌&&◌, ℕ, nat_le, Bool, true, List, []}
-use Rattle.std.specs.Prelude.{◌∷◌, map, Option, Some, None, String, string_bytes}
+use Rattle.std.specs.Prelude.{◌&&◌, ℕ, nat_le, max, Bool, true, List, [], length}
+use Rattle.std.specs.Prelude.{◌∷◌, map, Option, Some, None, String, string_bytes, Vec}
 use Rattle.std.specs.Prelude.{if◌then◌else◌, option_and_then, option_map}
 use Rattle.std.specs.Borrow.{Bor}
 use Rattle.std.specs.Str.Parse.{digits_value, without_leading_plus}
 use Rattle.std.specs.declared.alloc.Global.{Global}
 use Rattle.clap.specs.ValueTests.{is_unsigned_in}
 use Rattle.clap.specs.Walk.{is_empty}
-use Rattle.clap.specs.Words.{App, Row, Rule, Text, fault_of, first_of, matches_of, new_app, new_rule, one_of, with_rule}
+use Rattle.clap.specs.Words.{App, Row, Rule, Text, all_of, fault_of, first_of, matches_of, new_app, new_rule, one_of, with_rule}
 use Rattle.clap.specs.declared.builder.value_parser.ValueParser.TheVariants as parser
 use Rattle.cc_options.specs.declared.given.Given.{Given}
 use Rattle.cc_options.specs.declared.table.Form.{Form}
 use Rattle.cc_options.specs.declared.table.Form.TheVariants as form
+use Rattle.cc_options.specs.declared.table.Names.{Names}
 use Rattle.cc_options.specs.declared.table.Number.{Number}
 use Rattle.cc_options.specs.declared.table.Table.{Table}
 
@@ -45,6 +46,16 @@ letter_rule id letter usual greatest = record (new_rule id) {
   parser = Some (parser.Unsigned 1 greatest);
 }
 
+-- names, of which one has to be there and at most so many
+abbrev pub names_rule : Text → ℕ → Rule
+names_rule id most = record (new_rule id) {
+  required = true;
+  range = Some (record {
+    start_inclusive = 1;
+    end_inclusive = max most 1;
+  });
+}
+
 -- ---- what a command has
 
 -- a number: what it is called, how `clap` reads it and the greatest that it may be
@@ -53,7 +64,12 @@ pub record Quantity : Type 0 where
   pub rule : Rule
   pub greatest : ℕ
 
--- a command: the word that chooses it, what its names are called, and its numbers
+-- names: what they are called, and the most that there may be
+pub record Several : Type 0 where
+  pub id : Text
+  pub most : ℕ
+
+-- a command: the word that chooses it, what its names are called, its numbers, and its names behind these
 pub record Options : Type 0 where
   pub word : Text
   pub first : Option Text
@@ -62,6 +78,7 @@ pub record Options : Type 0 where
   pub one : Option Quantity
   pub two : Option Quantity
   pub three : Option Quantity
+  pub rest : Option Several
 
 abbrev pub rule_by : Form → Text → ℕ → Rule
 rule_by form.Word id greatest = count_rule id greatest
@@ -74,6 +91,12 @@ quantity_of n = record { id = n.id.now; rule = rule_by n.form n.id.now n.greates
 abbrev pub name_of : Bor Text → Text
 name_of name = name.now
 
+abbrev pub names_of : Vec (Bor Text) Global → List Text
+names_of names = map name_of names.items
+
+abbrev pub several_of : Names → Several
+several_of n = record { id = n.id.now; most = n.most }
+
 -- a table, as what it says
 abbrev pub options_of : Table → Options
 options_of t = record {
@@ -84,6 +107,7 @@ options_of t = record {
   one = option_map quantity_of t.one;
   two = option_map quantity_of t.two;
   three = option_map quantity_of t.three;
+  rest = option_map several_of t.rest;
 }
 
 -- ---- how `clap` reads the words of a command
@@ -96,9 +120,13 @@ abbrev pub numbered : Option Quantity → App → App
 numbered None app = app
 numbered (Some n) app = with_rule app n.rule
 
+abbrev pub with_several : Option Several → App → App
+with_several None app = app
+with_several (Some s) app = with_rule app (names_rule s.id s.most)
+
 abbrev pub app_of_options : Options → App
 app_of_options o =
-    numbered o.three (numbered o.two (numbered o.one (named o.third (named o.second (named o.first (new_app o.word))))))
+    with_several o.rest (numbered o.three (numbered o.two (numbered o.one (named o.third (named o.second (named o.first (new_app o.word)))))))
 
 -- `clap` takes the words as those of the command
 abbrev pub is_taken : App → List Text → Bool
@@ -126,7 +154,18 @@ within greatest n = if nat_le 1 n && nat_le n greatest then Some n else None
 abbrev pub number_in : List Row → Quantity → Option ℕ
 number_in rows n = number_of n.id n.greatest rows
 
--- what words give a command: its names, and its numbers
+-- names, if they are from one to the most that there may be
+abbrev pub up_to : ℕ → List Text → Option (List Text)
+up_to most names = if nat_le 1 (length names) && nat_le (length names) most then Some names else None
+
+-- the names that the matches hold, if they are from one to the most
+abbrev pub names_under : Text → ℕ → List Row → Option (List Text)
+names_under id most rows = option_and_then (up_to most) (all_of id rows)
+
+abbrev pub names_in : List Row → Several → Option (List Text)
+names_in rows s = names_under s.id s.most rows
+
+-- what words give a command: its names, its numbers, and its names behind these
 pub record Values : Type 0 where
   pub first : Option Text
   pub second : Option Text
@@ -134,6 +173,7 @@ pub record Values : Type 0 where
   pub one : Option ℕ
   pub two : Option ℕ
   pub three : Option ℕ
+  pub rest : Option (List Text)
 
 abbrev pub values_of_given : Given → Values
 values_of_given g = record {
@@ -143,6 +183,7 @@ values_of_given g = record {
   one = g.one;
   two = g.two;
   three = g.three;
+  rest = option_map names_of g.rest;
 }
 
 -- what the matches hold
@@ -154,6 +195,7 @@ values_in o rows = record {
   one = option_and_then (number_in rows) o.one;
   two = option_and_then (number_in rows) o.two;
   three = option_and_then (number_in rows) o.three;
+  rest = option_and_then (names_in rows) o.rest;
 }
 
 -- what the words give the command, if it takes them: the first of them is its name

@@ -1,9 +1,9 @@
 //! How `clap` reads the words of a command.
 ghost use Rattle.std.specs.Prelude.{◌≡◌, IfOk, option_map, false};
 ghost use Rattle.clap.specs.Words.{app_of, rule_of};
-ghost use Rattle.cc_options.specs.Options.{app_of_options, name_of, named, numbered, options_of, quantity_of};
+ghost use Rattle.cc_options.specs.Options.{app_of_options, name_of, named, numbered, options_of, quantity_of, several_of, with_several};
 
-use crate::table::{Form, Number, Table};
+use crate::table::{Form, Names, Number, Table};
 use clap::builder::ValueParser;
 use clap::{Arg, Command};
 use std::alloc::{AllocError, Global};
@@ -50,6 +50,26 @@ fn with_number<'a>(
     }
 }
 
+// The command with names of which one has to be there, if it has any.
+fn with_names<'a>(
+    alloc: Global,
+    command: Command<'a>,
+    names: Option<Names<'a>>,
+) -> Result<Command<'a>, AllocError>
+    ensures { IfOk result (λ c. app_of c ≡ with_several (option_map several_of names.entry) (app_of command.entry)) }
+{
+    match names {
+        Some(names) => {
+            command.arg(
+                Arg::new(alloc, names.id)
+                    .required(true)
+                    .num_args(1..=names.most),
+            )
+        }
+        None => Ok(command),
+    }
+}
+
 /// How it reads the words of a command.
 pub(crate) fn command_of<'a>(alloc: Global, table: &Table<'a>) -> Result<Command<'a>, AllocError>
     ensures { IfOk result (λ c. app_of c ≡ app_of_options (options_of table.now)) }
@@ -60,5 +80,6 @@ pub(crate) fn command_of<'a>(alloc: Global, table: &Table<'a>) -> Result<Command
     let command = with_name(alloc, command, table.third)?;
     let command = with_number(alloc, command, table.one)?;
     let command = with_number(alloc, command, table.two)?;
-    with_number(alloc, command, table.three)
+    let command = with_number(alloc, command, table.three)?;
+    with_names(alloc, command, table.rest)
 }

@@ -8,5 +8,5 @@ mod table;
 mod words;
 
 pub use given::Given;
-pub use table::{Form, Number, Table};
+pub use table::{Form, Names, Number, Table};
 pub use words::read;

@@ -22,7 +22,16 @@ pub struct Number<'a> {
     pub greatest: u32,
 }
 
-/// A command of at most three names, which have to be there, and behind them at most three numbers.
+/// Names of which at least one has to be there.
+#[derive(Clone, Copy)]
+pub struct Names<'a> {
+    /// What they are called.
+    pub id: &'a str,
+    /// The most that there may be, at least one.
+    pub most: usize,
+}
+
+/// A command of at most three names, which have to be there, behind them at most three numbers, and then further names.
 #[derive(Clone, Copy)]
 pub struct Table<'a> {
     /// The word that chooses the command.
@@ -39,4 +48,6 @@ pub struct Table<'a> {
     pub two: Option<Number<'a>>,
     /// Its third number.
     pub three: Option<Number<'a>>,
+    /// Its names behind these.
+    pub rest: Option<Names<'a>>,
 }

@@ -43,7 +43,7 @@ pub fn read<'a>(
     ensures { IfOk result (λ r. option_map values_of_given r ≡ values_of (options_of table.now) (texts_of words.entry.now)) }
 {
     match matched(command_of(alloc, table)?, words)? {
-        Some(matches) => Ok(Some(held(&matches, table))),
+        Some(matches) => Ok(Some(held(alloc, &matches, table)?)),
         None => Ok(None),
     }
 }

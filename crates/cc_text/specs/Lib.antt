@@ -7,6 +7,8 @@ pub use Rattle.cc_compile.specs.tree_code_proof as tree_code_proof
 pub use Rattle.c_macro.specs as c_macro
 pub use Rattle.c_macro.specs.c_lexer as c_lexer
 pub use Rattle.c_macro.specs.c_syntax as c_syntax
+pub use Rattle.c_units.specs as c_units
 pub mod SourceText
 pub mod MacroText
+pub mod UnitText
 pub mod Refusals

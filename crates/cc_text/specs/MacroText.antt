@@ -14,9 +14,9 @@ macro_limit Macros = codes "macros"
 
 -- a fault of the lexer has the lexer's line; want of memory has none
 abbrev pub macro_line : MacroFault → List ℕ
-macro_line (Lex why) = lex_line why
-macro_line (Directive at) = place_line (codes "bad directive") at
-macro_line (Redefined at) = place_line (codes "macro redefined") at
-macro_line (Unbalanced at) = place_line (codes "unbalanced section") at
-macro_line (TooMany what count) = too_many_line (macro_limit what) count
+macro_line (Lex why) = lex_line [] why
+macro_line (Directive at) = place_line [] (codes "bad directive") at
+macro_line (Redefined at) = place_line [] (codes "macro redefined") at
+macro_line (Unbalanced at) = place_line [] (codes "unbalanced section") at
+macro_line (TooMany what count) = too_many_line [] (macro_limit what) count
 macro_line NoMemory = []

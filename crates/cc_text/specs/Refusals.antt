@@ -16,17 +16,20 @@ use Rattle.cc_compile.specs.declared.fault.BuildFault.{BuildFault}
 use Rattle.cc_compile.specs.declared.fault.BuildFault.TheVariants as build_faults
 use Rattle.c_macro.specs.declared.fault.MacroFault.{MacroFault}
 use Rattle.c_macro.specs.declared.fault.MacroFault.TheVariants as macro_faults
+use Rattle.c_units.specs.declared.fault.UnitFault.{UnitFault}
+use Rattle.c_units.specs.declared.fault.UnitFault.TheVariants as unit_faults
 use Rattle.cc_text.specs.declared.refusal.FileFault.{FileFault}
 use Rattle.cc_text.specs.declared.refusal.FileFault.TheVariants.{Read, TooLong, Image, Ports, Sequence, Certificate, Assembly, Script}
 use Rattle.cc_text.specs.declared.refusal.Refusal.{Refusal}
 use Rattle.cc_text.specs.declared.refusal.Refusal.TheVariants as refusal
 
--- a file of a name is refused, the source for its fault, the source for that of its macros and sections, the store failed, or memory was
--- wanting
+-- a file of a name is refused, the source for its fault, the source for that of its macros and sections, sources for what keeps them from
+-- being joined, the store failed, or memory was wanting
 pub data Why : Type 0 where
   OfFile : List ℕ → FileFault → Why
   OfSource : BuildFault → Why
   OfMacros : MacroFault → Why
+  OfUnits : UnitFault → Why
   OfStore : Why
   OfMemory : Why
 
@@ -35,6 +38,7 @@ abbrev pub why_of : Refusal → Why
 why_of (refusal.File name why) = OfFile name.now why
 why_of (refusal.Source why) = OfSource why
 why_of (refusal.Macros why) = OfMacros why
+why_of (refusal.Units why) = OfUnits why
 why_of refusal.Store = OfStore
 why_of refusal.NoMemory = OfMemory
 
@@ -46,6 +50,10 @@ of_build_fault why = OfSource why
 abbrev pub of_macro_fault : MacroFault → Why
 of_macro_fault macro_faults.NoMemory = OfMemory
 of_macro_fault why = OfMacros why
+
+abbrev pub of_unit_fault : UnitFault → Why
+of_unit_fault unit_faults.NoMemory = OfMemory
+of_unit_fault why = OfUnits why
 
 abbrev pub of_image_fault : List ℕ → ImageFault → Why
 of_image_fault name image_faults.NoMemory = OfMemory
@@ -137,5 +145,6 @@ abbrev pub refusal_status : Why → ℕ
 refusal_status (OfFile name why) = file_status why
 refusal_status (OfSource why) = 1
 refusal_status (OfMacros why) = 1
+refusal_status (OfUnits why) = 1
 refusal_status OfStore = 4
 refusal_status OfMemory = 5

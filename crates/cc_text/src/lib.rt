@@ -5,11 +5,13 @@ mod macro_text;
 mod refusal;
 mod refusal_text;
 mod source_text;
+mod unit_text;
 
-pub use c_lexer::token_text;
 pub use c_macro::{expand, expansions_have_spellings};
+pub use c_units::token_text;
 pub use cc_compile::{Built, Options, compile, runs_tell, typed_program};
 pub use macro_text::macro_line;
 pub use refusal::{FileFault, Refusal};
 pub use refusal_text::file_line;
 pub use source_text::source_line;
+pub use unit_text::unit_line;

@@ -23,12 +23,12 @@ pub fn macro_line(alloc: Global, fault: MacroFault) -> Result<String, NoMemory>
     ensures { IfOk result (λ line. string_bytes line ≡ macro_line fault) }
 {
     match fault {
-        MacroFault::Lex(why) => lex_line(alloc, why),
-        MacroFault::Directive { at } => place_line(alloc, "bad directive", at),
-        MacroFault::Redefined { at } => place_line(alloc, "macro redefined", at),
-        MacroFault::Unbalanced { at } => place_line(alloc, "unbalanced section", at),
+        MacroFault::Lex(why) => lex_line(alloc, "", why),
+        MacroFault::Directive { at } => place_line(alloc, "", "bad directive", at),
+        MacroFault::Redefined { at } => place_line(alloc, "", "macro redefined", at),
+        MacroFault::Unbalanced { at } => place_line(alloc, "", "unbalanced section", at),
         MacroFault::TooMany { what, count } => {
-            too_many_line(alloc, macro_limit(what), u64::from(count))
+            too_many_line(alloc, "", macro_limit(what), u64::from(count))
         }
         MacroFault::NoMemory => Err(NoMemory),
     }

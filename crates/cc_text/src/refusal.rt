@@ -3,6 +3,7 @@ ghost use Rattle.std.specs.Prelude.{◌≡◌};
 ghost use Rattle.cc_text.specs.Refusals.{why_of, of_image_fault, of_port_fault, of_sequence_fault, of_certificate_fault, of_assembly_fault, of_script_fault, refusal_status, file_status};
 
 use c_macro::MacroFault;
+use c_units::UnitFault;
 use c25_asm::AsmFault;
 use c25_debug::ScriptFault;
 use c25_image::{ImageFault, PortFault};
@@ -57,6 +58,8 @@ pub enum Refusal<'a> {
     Source(BuildFault),
     /// The source has no expansion.
     Macros(MacroFault),
+    /// The sources aren't joined.
+    Units(UnitFault),
     /// The store failed.
     Store,
     NoMemory,
@@ -147,7 +150,7 @@ impl<'a> Refusal<'a> {
     {
         match self {
             Refusal::File { why, .. } => why.status(),
-            Refusal::Source(_) | Refusal::Macros(_) => 1,
+            Refusal::Source(_) | Refusal::Macros(_) | Refusal::Units(_) => 1,
             Refusal::Store => 4,
             Refusal::NoMemory => 5,
         }
@@ -186,6 +189,19 @@ impl<'a> From<MacroFault> for Refusal<'a> {
         match fault {
             MacroFault::NoMemory => Refusal::NoMemory,
             why => Refusal::Macros(why),
+        }
+    }
+}
+
+impl<'a> From<UnitFault> for Refusal<'a> {
+    ghost use Rattle.cc_text.specs.Refusals.{why_of, of_unit_fault};
+
+    ghost from_gives = { λ given e. why_of e ≡ of_unit_fault given };
+
+    fn from(fault: UnitFault) -> Self {
+        match fault {
+            UnitFault::NoMemory => Refusal::NoMemory,
+            why => Refusal::Units(why),
         }
     }
 }

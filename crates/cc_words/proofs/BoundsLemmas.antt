@@ -1,15 +1,17 @@
 -- What is asked for is within the ranges of its numbers.
-use Rattle.std.proofs.Common.{◌≡◌, ℕ, Bool, true, false, refl, ap, subst, List, [], ◌∷◌, Option, Some, None, codes, cond}
-use Rattle.std.specs.Prelude.{option_and_then, option_map, unwrap_or, IfSome, ◌≤◌}
+use Rattle.std.proofs.Common.{◌≡◌, ℕ, Bool, true, false, refl, ap, subst, List, [], ◌∷◌, length, Option, Some, None, codes, cond}
+use Rattle.std.specs.Prelude.{option_and_then, option_map, unwrap_or, IfSome, ◌≤◌, ◌&&◌, nat_le}
+use Rattle.std.proofs.lemmas.Bool.{and_parts, leb-true}
 use Rattle.std.specs.Str.Parse.{digits_value, without_leading_plus}
 use Rattle.clap.specs.Values.{IsUnsignedIn}
 use Rattle.clap.proofs.ValueTestLemmas.{accepts-Accepts}
-use Rattle.clap.specs.Words.{Row, Text, first_of, matches_of, one_of}
+use Rattle.clap.specs.Words.{Row, Text, all_of, first_of, matches_of, one_of}
+use Rattle.cc_options.specs.Options.{up_to}
 use Rattle.clap.specs.declared.builder.value_parser.ValueParser.TheVariants as parser
 use Rattle.cc_words.specs.declared.name.Name.{Name}
 use Rattle.cc_words.specs.declared.name.Name.TheVariants as name
-use Rattle.cc_words.specs.Asked.{Asked, ToAssemble, ToBuild, ToCheck, ToDebug, ToExpand, ToGenerate, ToList, ToRun, ToEvaluate, ToExecute, ToLayOut, app_of_name, asked_to, both_of, build_of, debug_of, dis_of, gen_of, name_of, rows_ask, is_number_to, is_taken, layout_of, number_of, number_to, numbered_of}
-use Rattle.cc_words.specs.Commands.{greatest_budget, greatest_program, greatest_registers, greatest_step, greatest_steps, greatest_turns}
+use Rattle.cc_words.specs.Asked.{Asked, ToAssemble, ToBuild, ToCheck, ToDebug, ToExpand, ToGenerate, ToJoin, ToList, ToRun, ToEvaluate, ToExecute, ToLayOut, app_of_name, asked_to, both_of, build_of, debug_of, dis_of, gen_of, join_of, name_of, rows_ask, is_number_to, is_taken, layout_of, number_of, number_to, numbered_of}
+use Rattle.cc_words.specs.Commands.{greatest_budget, greatest_program, greatest_registers, greatest_step, greatest_steps, greatest_turns, most_sources}
 use Rattle.cc_words.specs.Bounds.{AsksWithin, IsWithinBounds}
 
 number_bounded : (greatest : ℕ) (m : Text) (n : ℕ) → number_to greatest m ≡ Some n → (1 ≤ n) × (n ≤ greatest)
@@ -105,6 +107,21 @@ layout_bounded rows = parts (first_of (codes "sequence") rows) (number_of (codes
         let second = given_bounded (codes "budget") greatest_budget rows n f in
         (first.0, first.1, second.0, second.1)
 
+join_bounded : (rows : List Row) → IfSome (join_of rows) IsWithinBounds
+join_bounded rows = parts (first_of (codes "output") rows) (all_of (codes "sources") rows)
+  where
+    counted : (output : Text) (sources : List Text) (b : Bool) → (nat_le 1 (length sources) && nat_le (length sources) most_sources) ≡ b
+        → IfSome (option_map (ToJoin output) (cond b (Some sources) None)) IsWithinBounds
+    counted output sources false e = tt
+    counted output sources true e =
+        let both = and_parts _ _ e in
+        (leb-true 1 (length sources) both.0, leb-true (length sources) most_sources both.1)
+
+    parts : (o : Option Text) (s : Option (List Text)) → IfSome (option_and_then (λ output. option_map (ToJoin output) (option_and_then (up_to most_sources) s)) o) IsWithinBounds
+    parts None s = tt
+    parts (Some output) None = tt
+    parts (Some output) (Some sources) = counted output sources (nat_le 1 (length sources) && nat_le (length sources) most_sources) refl
+
 -- what holds of what is asked for, where the words are taken
 taken_only : (t : Bool) (o : Option Asked) → IfSome o IsWithinBounds → IfSome (cond t o None) IsWithinBounds
 taken_only true o h = h
@@ -122,6 +139,7 @@ rows_bounded name.Dis = dis_bounded
 rows_bounded name.Gen = gen_bounded
 rows_bounded name.Debug = debug_bounded
 rows_bounded name.Pre = both_bounded _ _ ToExpand (λ a b. tt)
+rows_bounded name.Join = join_bounded
 
 pub within_asked : AsksWithin
 unfolding asked_to

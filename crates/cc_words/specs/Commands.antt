@@ -1,7 +1,7 @@
 -- The commands, as `clap` reads them.
 use Rattle.std.specs.Prelude.{ℕ, codes}
 use Rattle.clap.specs.Words.{App, Rule, Text, new_app, with_rule}
-pub use Rattle.cc_options.specs.Options.{count_rule, letter_rule, name_rule, number_rule}
+pub use Rattle.cc_options.specs.Options.{count_rule, letter_rule, name_rule, names_rule, number_rule}
 
 -- the greatest number of steps that a run may have
 abbrev pub greatest_steps : ℕ
@@ -26,6 +26,10 @@ greatest_step = 8
 -- the greatest number from which a program is made
 abbrev pub greatest_program : ℕ
 greatest_program = 200
+
+-- the most sources that may be joined
+abbrev pub most_sources : ℕ
+most_sources = 16
 
 -- `--steps M`
 abbrev pub steps_rule : Rule
@@ -106,6 +110,10 @@ debug_app = with_rule (named_app (codes "debug") (codes "image") (codes "ports")
 -- `pre SRC OUT`
 abbrev pub pre_app : App
 pre_app = named_app (codes "pre") (codes "source") (codes "output")
+
+-- `join OUT SRC..`
+abbrev pub join_app : App
+join_app = with_rule (single_app (codes "join") (codes "output")) (names_rule (codes "sources") most_sources)
 
 -- `gen N`
 abbrev pub gen_app : App

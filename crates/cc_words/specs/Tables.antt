@@ -1,11 +1,11 @@
 -- The commands, as tables of their names and numbers.
 use Rattle.std.specs.Prelude.{ℕ, nat_lt, Option, Some, None, codes, if◌then◌else◌, option_and_then, option_map}
 use Rattle.clap.specs.Words.{Text}
-use Rattle.cc_options.specs.Options.{Options, Quantity, Values}
+use Rattle.cc_options.specs.Options.{Options, Quantity, Several, Values}
 use Rattle.cc_words.specs.Asked.{Asked, ToAssemble, ToCheck, ToEvaluate, ToExecute, ToExpand, ToGenerate}
-use Rattle.cc_words.specs.Asked.{ToList, ToRun, both_by, build_by, debug_by, layout_by, numbered_by}
+use Rattle.cc_words.specs.Asked.{ToList, ToRun, both_by, build_by, debug_by, join_by, layout_by, numbered_by}
 use Rattle.cc_words.specs.Commands.{budget_rule, count_rule, greatest_budget, greatest_program, greatest_registers}
-use Rattle.cc_words.specs.Commands.{greatest_step, greatest_steps, greatest_turns, registers_rule, step_rule}
+use Rattle.cc_words.specs.Commands.{greatest_step, greatest_steps, greatest_turns, most_sources, registers_rule, step_rule}
 use Rattle.cc_words.specs.Commands.{steps_rule, turns_rule}
 use Rattle.cc_words.specs.declared.name.Name.{Name}
 use Rattle.cc_words.specs.declared.name.Name.TheVariants as name
@@ -32,6 +32,9 @@ program = record {
   greatest = greatest_program;
 }
 
+abbrev pub sources : Several
+sources = record { id = codes "sources"; most = most_sources }
+
 -- a command of two names and at most a number
 abbrev pub two_names : Text → Text → Text → Option Quantity → Options
 two_names word first second number = record {
@@ -42,6 +45,7 @@ two_names word first second number = record {
   one = number;
   two = None;
   three = None;
+  rest = None;
 }
 
 -- what each command has
@@ -61,6 +65,7 @@ options_of_name name.Layout = record {
   one = Some registers;
   two = Some budget;
   three = None;
+  rest = None;
 }
 options_of_name name.Check = two_names (codes "check") (codes "image") (codes "certificate") None
 options_of_name name.Asm = two_names (codes "asm") (codes "text") (codes "image") None
@@ -72,6 +77,7 @@ options_of_name name.Dis = record {
   one = None;
   two = None;
   three = None;
+  rest = None;
 }
 options_of_name name.Gen = record {
   word = codes "gen";
@@ -81,9 +87,20 @@ options_of_name name.Gen = record {
   one = Some program;
   two = None;
   three = None;
+  rest = None;
 }
 options_of_name name.Debug = record (two_names (codes "debug") (codes "image") (codes "ports") None) { third = Some (codes "script") }
 options_of_name name.Pre = two_names (codes "pre") (codes "source") (codes "output") None
+options_of_name name.Join = record {
+  word = codes "join";
+  first = Some (codes "output");
+  second = None;
+  third = None;
+  one = None;
+  two = None;
+  three = None;
+  rest = Some sources;
+}
 
 -- a number that a byte holds
 abbrev pub byte_of : Option ℕ → Option ℕ
@@ -102,3 +119,4 @@ values_ask name.Dis v = option_map ToList v.first
 values_ask name.Gen v = option_map ToGenerate v.one
 values_ask name.Debug v = debug_by v.first v.second v.third
 values_ask name.Pre v = both_by ToExpand v.first v.second
+values_ask name.Join v = join_by v.first v.rest

@@ -9,6 +9,7 @@ use crate::debug::Debug;
 use crate::dis::Dis;
 use crate::exec::Exec;
 use crate::generated::Gen;
+use crate::join::Join;
 use crate::layout::Layout;
 use crate::means::Means;
 use crate::name::Name;
@@ -19,7 +20,7 @@ use std::alloc::Global;
 use word_base::NoMemory;
 
 /// What is asked for, by command.
-#[derive(Clone, Copy)]
+#[derive(Drop)]
 pub enum Request<'a> {
     Build(Build<'a>),
     Run(Run<'a>),
@@ -32,6 +33,7 @@ pub enum Request<'a> {
     Gen(Gen),
     Debug(Debug<'a>),
     Pre(Pre<'a>),
+    Join(Join<'a>),
 }
 
 // What the words of a command ask for, of which the first is its name.
@@ -43,7 +45,7 @@ fn asked_by<'a>(
     ensures { IfOk result (λ r. option_map told r ≡ asked_to (app_of_name name) (rows_ask name) (texts_of words.entry.now)) }
 {
     match read(alloc, &name.table(), words)? {
-        Some(given) => Ok(name.found(&given)),
+        Some(given) => Ok(name.found(given)),
         None => Ok(None),
     }
 }

@@ -7,8 +7,8 @@ ghost use Rattle.cc_words.specs.Tables as tables;
 ghost use Rattle.cc_words.specs.Tables.{options_of_name, values_ask};
 
 use crate::asked::Request;
-use crate::options::{budget, program, registers, step, steps, turns};
-use crate::{asm, build, check, debug, dis, exec, generated, layout, means, pre, run};
+use crate::options::{budget, program, registers, sources, step, steps, turns};
+use crate::{asm, build, check, debug, dis, exec, generated, join, layout, means, pre, run};
 use cc_options::{Given, Number, Table};
 
 /// A command.
@@ -25,6 +25,7 @@ pub(crate) enum Name {
     Gen,
     Debug,
     Pre,
+    Join,
 }
 
 impl Name {
@@ -44,6 +45,7 @@ impl Name {
             "gen" => Some(Name::Gen),
             "debug" => Some(Name::Debug),
             "pre" => Some(Name::Pre),
+            "join" => Some(Name::Join),
             _ => None,
         }
     }
@@ -82,25 +84,31 @@ impl Name {
                 ..two_names("debug", "image", "ports", None)
             },
             Name::Pre => two_names("pre", "source", "output", None),
+            Name::Join => Table {
+                second: None,
+                rest: Some(sources()),
+                ..two_names("join", "output", "", None)
+            },
         }
     }
 
     /// What its values ask for.
-    pub(crate) fn found<'a>(self, given: &Given<'a>) -> Option<Request<'a>>
-        ensures { option_map told result ≡ values_ask self (values_of_given given.now) }
+    pub(crate) fn found<'a>(self, given: Given<'a>) -> Option<Request<'a>>
+        ensures { option_map told result ≡ values_ask self (values_of_given given.entry) }
     {
         match self {
-            Name::Build => build::found(given),
-            Name::Run => run::found(given),
-            Name::Means => means::found(given),
-            Name::Exec => exec::found(given),
-            Name::Layout => layout::found(given),
-            Name::Check => check::found(given),
-            Name::Asm => asm::found(given),
-            Name::Dis => dis::found(given),
-            Name::Gen => generated::found(given),
-            Name::Debug => debug::found(given),
-            Name::Pre => pre::found(given),
+            Name::Build => build::found(&given),
+            Name::Run => run::found(&given),
+            Name::Means => means::found(&given),
+            Name::Exec => exec::found(&given),
+            Name::Layout => layout::found(&given),
+            Name::Check => check::found(&given),
+            Name::Asm => asm::found(&given),
+            Name::Dis => dis::found(&given),
+            Name::Gen => generated::found(&given),
+            Name::Debug => debug::found(&given),
+            Name::Pre => pre::found(&given),
+            Name::Join => join::found(given),
         }
     }
 }
@@ -122,5 +130,6 @@ fn two_names<'a>(
         one: number,
         two: None,
         three: None,
+        rest: None,
     }
 }

@@ -1,10 +1,10 @@
-//! The numbers of commands.
+//! The numbers of commands, and their further names.
 ghost use Rattle.std.specs.Prelude.{◌≡◌};
-ghost use Rattle.cc_options.specs.Options.{quantity_of};
+ghost use Rattle.cc_options.specs.Options.{quantity_of, several_of};
 ghost use Rattle.cc_words.specs.Tables as tables;
 ghost use Rattle.cc_words.specs.Tables.{byte_of};
 
-use cc_options::{Form, Number};
+use cc_options::{Form, Names, Number};
 
 /// `--steps M`.
 pub(crate) fn steps<'a>() -> Number<'a>
@@ -69,6 +69,16 @@ pub(crate) fn program<'a>() -> Number<'a>
         id: "number",
         form: Form::Word,
         greatest: 200,
+    }
+}
+
+/// `SRC..` of `join`.
+pub(crate) fn sources<'a>() -> Names<'a>
+    ensures { several_of result ≡ tables.sources }
+{
+    Names {
+        id: "sources",
+        most: 16,
     }
 }
 

@@ -1,5 +1,6 @@
 pub mod DebugLemmas
 pub mod PreLemmas
+pub mod JoinLemmas
 pub mod PlainLemmas
 pub mod LayoutLemmas
 pub mod BuildLemmas

@@ -1,11 +1,11 @@
 -- What the usual words ask for: what `clap`'s function of the words comes to there.
-use Rattle.std.specs.Prelude.{◌≡◌, ◌≢◌, ◌++◌, ℕ, true, false, List, [], ◌∷◌, codes}
+use Rattle.std.specs.Prelude.{◌≡◌, ◌≢◌, ◌≤◌, ◌<◌, ◌++◌, ℕ, true, false, List, [], ◌∷◌, length, All, codes}
 use Rattle.std.specs.Str.Parse.{digits_value, without_leading_plus}
 use Rattle.clap.specs.Words.{Text}
-use Rattle.cc_words.specs.Asked.{Asked, ToBuild, ToRun, ToEvaluate, ToExecute, ToLayOut, ToCheck, ToAssemble, ToList, ToGenerate, ToDebug, ToExpand}
+use Rattle.cc_words.specs.Asked.{Asked, ToBuild, ToRun, ToEvaluate, ToExecute, ToLayOut, ToCheck, ToAssemble, ToList, ToGenerate, ToDebug, ToExpand, ToJoin}
 use Rattle.cc_words.specs.Asked.{Asks, AsksNothing, is_number_to, is_plain_word}
 use Rattle.cc_words.specs.Commands.{greatest_budget, greatest_program, greatest_registers, greatest_step}
-use Rattle.cc_words.specs.Commands.{greatest_steps, greatest_turns}
+use Rattle.cc_words.specs.Commands.{greatest_steps, greatest_turns, most_sources}
 
 -- a fact of any two words that look like no option
 abbrev pub OnPlain : (Text → Text → Type 0) → Type 0
@@ -277,3 +277,18 @@ ExpandsNoOtherNames = AsksNothing (codes "pre" ∷ [])
     × ((a : Text) → is_plain_word a ≡ true → AsksNothing (codes "pre" ∷ a ∷ []))
     × OnPlain (λ a b. (c : Text) (rest : List Text) → is_plain_word c ≡ true
     → AsksNothing (codes "pre" ∷ a ∷ b ∷ c ∷ rest))
+
+-- a fact of any word and words that look like no options
+abbrev pub OnAllPlain : (Text → List Text → Type 0) → Type 0
+OnAllPlain P = (a : Text) (words : List Text) → is_plain_word a ≡ true → All (λ word. is_plain_word word ≡ true) words → P a words
+
+-- `join OUT SRC..`, with one to sixteen sources
+abbrev pub JoinsNames : Type 0
+JoinsNames = OnAllPlain (λ a sources. 1 ≤ length sources → length sources ≤ most_sources
+    → Asks (codes "join" ∷ a ∷ sources) (ToJoin a sources))
+
+-- `join` with fewer names, or with more, whatever follows
+abbrev pub JoinsNoOtherNames : Type 0
+JoinsNoOtherNames = AsksNothing (codes "join" ∷ [])
+    × ((a : Text) → is_plain_word a ≡ true → AsksNothing (codes "join" ∷ a ∷ []))
+    × OnAllPlain (λ a sources. (rest : List Text) → most_sources < length sources → AsksNothing (codes "join" ∷ a ∷ (sources ++ rest)))

@@ -4,6 +4,7 @@ ghost use Rattle.cc_words_proof.specs.Plain.{BuildsNoOtherNames, BuildsTwoNames,
 ghost use Rattle.cc_words_proof.specs.Plain.{BuildsWithRegisters, BuildsWithBudget, BuildsWithStep, BuildsWithStepAttached, BuildsWithAll};
 ghost use Rattle.cc_words_proof.specs.Plain.{ChecksTwoNames, ChecksNoOtherNames, AssemblesTwoNames, AssemblesNoOtherNames};
 ghost use Rattle.cc_words_proof.specs.Plain.{DebugsThreeNames, DebugsNoOtherNames, ExpandsTwoNames, ExpandsNoOtherNames};
+ghost use Rattle.cc_words_proof.specs.Plain.{JoinsNames, JoinsNoOtherNames};
 ghost use Rattle.cc_words_proof.specs.Plain.{ListsOneName, ListsNoOtherNames, GeneratesOneNumber, GeneratesNoOtherWords};
 ghost use Rattle.cc_words_proof.specs.Plain.{RunsWithSteps, RunsWithStepsAttached, RunsWithStepsFirst};
 ghost use Rattle.cc_words_proof.specs.Plain.{ExecutesTwoNames, ExecutesWithSteps, ExecutesWithStepsAttached, ExecutesWithStepsFirst};
@@ -15,8 +16,8 @@ ghost use Rattle.cc_words_proof.specs.Plain.{LaysOutWithBudgetAttached, LaysOutW
 /// The words that hold no option but those of their command ask for what one would say, and no words
 /// ask for a run of other than 1 to 100,000,000 steps, for an evaluation of other than 1 to 1,000,000
 /// turns, for a layout or an image for other than 1 to 4 registers or within a budget of other than 1 to
-/// 1,000,000 nodes, for an image at a step of other than 1 to 8, or for a program from a number other than
-/// 1 to 200. It does nothing: its clauses are what callers cite.
+/// 1,000,000 nodes, for an image at a step of other than 1 to 8, for a program from a number other than
+/// 1 to 200, or to join other than 1 to 16 sources. It does nothing: its clauses are what callers cite.
 pub fn plain_words()
     ensures build { BuildsTwoNames }
     ensures build_other { BuildsNoOtherNames }
@@ -60,5 +61,7 @@ pub fn plain_words()
     ensures debug_other { DebugsNoOtherNames }
     ensures pre { ExpandsTwoNames }
     ensures pre_other { ExpandsNoOtherNames }
+    ensures join { JoinsNames }
+    ensures join_other { JoinsNoOtherNames }
     ensures range { AsksWithin }
 {}

@@ -1,3 +1,4 @@
 -- The frames of functions, as they are laid out.
+pub use Rattle.lay_cert.specs as lay_cert
 pub mod Frames
 pub mod Rows

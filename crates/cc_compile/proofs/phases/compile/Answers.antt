@@ -4,7 +4,7 @@ use Rattle.c_tree.specs.ProgramView.{program_of}
 use Rattle.c_tree.specs.SourceRun.{source_run}
 use Rattle.c25_isa.specs.Agrees.{Agrees}
 use Rattle.c25_isa.specs.Image.{Contents}
-use Rattle.lay_cert.specs.Frames.{Frame}
+use Rattle.cc_image.specs.lay_cert.Frames.{Frame}
 use Rattle.cc_image.specs.frame_layouts.Frames.{ClaimsHold}
 use Rattle.cc_image.specs.Images.{AccessAs, AreWalked, EndsWithin, HasFrames, HasImage, IsDirect}
 use Rattle.cc_compile.specs.PartFaults.{of_translation_fault}

@@ -1,7 +1,7 @@
 use Rattle.std.proofs.Common.{◌≡◌, ◌∙◌, ap, sym, subst}
 use Rattle.std.specs.Prelude.{All, List}
 use Rattle.acc_select.specs.Selected.{selected}
-use Rattle.lay_cert.specs.Frames.{Frame, IsFrame}
+use Rattle.frame_layouts.specs.lay_cert.Frames.{Frame, IsFrame}
 use Rattle.mem_plan.specs.declared.data_plan.FramePlan.{FramePlan}
 use Rattle.tree_code.specs.ProgramView.{tree_of}
 use Rattle.frame_layouts.specs.Frames.{AreBased, frames_with}

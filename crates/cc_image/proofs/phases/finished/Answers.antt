@@ -3,7 +3,7 @@ use Rattle.std.specs.Prelude.{All, map}
 use Rattle.acc_select.specs.Selected.{selected}
 use Rattle.c25_isa.specs.Pieces.{Linked, PiecesFit}
 use Rattle.c25_link.specs.Linking.{linked_image, pieces_words}
-use Rattle.lay_cert.specs.Frames.{Frame}
+use Rattle.frame_layouts.specs.lay_cert.Frames.{Frame}
 use Rattle.mem_plan.specs.Plan.{IsPlan}
 use Rattle.tree_code.specs.ProgramView.{tree_of}
 use Rattle.tree_code.specs.WordTree.{ProgramCode}

@@ -3,7 +3,7 @@ use Rattle.std.specs.Prelude.{IfOk}
 use Rattle.image_proof.specs.acc_select_proof.SourceSequences.{source_sequence}
 use Rattle.acc_code.specs.AccView.{functions_of}
 use Rattle.acc_select.specs.Selected.{selected}
-use Rattle.lay_cert.specs.Frames.{Frame}
+use Rattle.frame_layouts.specs.lay_cert.Frames.{Frame}
 use Rattle.lay_model.specs.Sequences.{Sequence}
 use Rattle.tree_code.specs.Lowered.{lowered_program}
 use Rattle.tree_code.specs.ProgramView.{tree_of}
