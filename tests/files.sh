@@ -1,7 +1,7 @@
 #!/usr/bin/env bash
 # The built program's programs of several files: the cases of files.txt, each limit and one above it, large files with their times, files
-# that can't be read or written, and the programs in joined/ and examples/files. Expected values of joined/ come from another C compiler,
-# those of the rest stand there and here, by hand from docs/.
+# that can't be read or written, and the programs in joined/ and examples/files. Expected values of these programs come from another C
+# compiler (joined/expected.sh), those of the rest from docs/ by hand.
 script=files
 . "$(dirname "${BASH_SOURCE[0]}")/common.sh"
 
@@ -141,26 +141,28 @@ functions functions 258
 scalars scalars 66
 cases cases 257
 ROWS
-head -n 384 functions > wanted
 for i in 0 1 2 3 4 5 6 7 8 9 10 11 12 13 14; do sed -n "$((i * 51 + 1)),$((i * 51 + 51))p" functions > part$i; done
 cat part? part1? main > wanted
 joins stored '255 functions in fifteen files' part? part1? main
 gives 'returned 0001' none o
-nested() { awk -v n="$1" 'BEGIN { printf "extern int f(void){return "; for (i = 0; i < n; i++) printf "1-("; printf "1"; while (n-- > 0) printf ")"; print ";}" }'; }
-nested 195 > high
-nested 196 > higher
-sed 's/extern //; s/[^ a-z0-9]/& /g; s/\([1f(]\)\([^ ]\)/\1 \2/g; s/1)/1 )/; s/(void/( void/; s/{return/{\nreturn/; s/{ return/{\nreturn/; s/; }/;\n}/; s/ *$//' high > wanted
+nested() {
+    awk -v n="$1" 'BEGIN { printf "int f ( void ) {\nreturn "; for (i = 0; i < n; i++) printf "1 - ( "
+        printf "1 "; while (n-- > 0) printf ") "; print ";\n}" }'
+}
+nested 195 > wanted
+{ printf 'extern '; cat wanted; } > high
+{ printf 'extern '; nested 196; } > higher
 joins stored 'a tree 200 high' high
-joins 'file 2: syntax at byte 612' 'a tree 201 high' main higher
+joins 'file 2: syntax at byte 1203' 'a tree 201 high' main higher
 
 # Large files: sixteen of 1 MiB and 12,500 tokens each, so together 200,000. They have the same names, or other ones in each file, of 120
-# characters; 6,243 uses of one static; 1,000 statics and 4,247 uses; and 1,785 objects of which the next file declares each with `extern`.
+# characters; or each file uses one static 6,243 times, or 1,000 statics 4,245 times, or has 1,785 objects that another one has with `extern`.
 all=(m1 m2 m3 m4 m5 m6 m7 m8 m9 m10 m11 m12 m13 m14 m15 m16)
-# large WHAT: the files of awk's program on standard input, which writes file `i` as it is to `m`i, and as it is stored to `wanted`.
+# large WHAT STATEMENTS: sixteen files by awk. For file i the statements write tokens as they are in it, and as they are stored for it.
 large() {
     rm -f m? m1?
-    awk -v seed="$(printf '%0110d' 0)" 'function both(text) { print text > ("m" i); print text > "wanted" }
-        function split_(front, name, back) { print front name back > ("m" i); print front name "__" i back > "wanted" }
+    awk -v seed="$(printf '%0111d' 0)" 'function both(text) { print text > ("m" i); print text > "wanted" }
+        function renamed(front, name, back) { print front name back > ("m" i); print front name "__" i back > "wanted" }
         function declare(name) { print "extern int " name " ;" > ("m" i); print "int " name " ;" > "wanted" }
         function id(number) { return sprintf("n%s%08d", seed, number) }
         BEGIN { for (i = 1; i <= 16; i++) { '"$2"' } }'
@@ -168,11 +170,11 @@ large() {
     within 1500 stored "$1" "${all[@]}"
 }
 large 'sixteen files of 1 MiB' 'both("int a , b ;"); for (k = 0; k < 4165; k++) both("int a ;")'
-large '66,656 names' 'both("int a , b ;"); for (k = 0; k < 4165; k++) both("int " id(5000 * i + k) " ;")'
-large '99,888 uses of sixteen statics' 'split_("static int ", id(0), " ;"); both("int f ( void ) {")
-    for (k = 0; k < 6243; k++) split_("", id(0), " ;"); both("return 0x0 ;\n}")'
-large '67,952 uses of 16,000 statics' 'for (k = 0; k < 1000; k++) split_("static int ", id(k), " ;"); both("int f ( void ) {")
-    for (k = 0; k < 4245; k++) split_("", id(k * 7 % 1000), " ;"); both("return 0x0 ;\n}")'
+large '66,640 long names' 'both("int a , b ;"); for (k = 0; k < 4165; k++) both("int " id(5000 * i + k) " ;")'
+large '99,888 uses of sixteen statics' 'renamed("static int ", id(0), " ;"); both("int f ( void ) {")
+    for (k = 0; k < 6243; k++) renamed("", id(0), " ;"); both("return 0x0 ;\n}")'
+large '67,920 uses of 16,000 statics' 'for (k = 0; k < 1000; k++) renamed("static int ", id(k), " ;"); both("int f ( void ) {")
+    for (k = 0; k < 4245; k++) renamed("", id(k * 7 % 1000), " ;"); both("return 0x0 ;\n}")'
 large '28,560 externs' 'for (k = 0; k < 1785; k++) { both("int " id(2000 * i + k) " ;"); declare(id(2000 * (i % 16 + 1) + 1784 - k)) }
     both("int a , b ;")'
 rm -f m? m1?
@@ -264,9 +266,9 @@ does() {
 programs=0
 for folder in "$top"/tests/joined/*/; do
     programs=$((programs + 1))
-    does "$folder/input" "$folder/expected" "$folder"*.c
+    does "${folder}input" "${folder}expected" "$folder"*.c
 done
 modem=$top/examples/files/modem
 does "$modem/modem.in" "$modem/modem.out" "$modem"/{modem,transmit,receive}.c
-[ "$rows" -ge 387 ] && [ "$programs" -ge 20 ] || fail "files.txt has $rows cases, and joined/ has $programs programs"
+[ "$rows" -ge 390 ] && [ "$programs" -ge 20 ] || fail "files.txt has $rows cases, and joined/ has $programs programs"
 exit "$failed"
