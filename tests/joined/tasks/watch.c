@@ -1,6 +1,6 @@
 extern int pressed;
 static int state;
-static unsigned due[2] = {65535u, 8};
+static unsigned due[2] = {65535u, 11};
 
 void watch(unsigned now)
 {
