@@ -1,12 +1,11 @@
 -- The tokens of a file are few, its tree is one whose types can be checked, and its faults are its own.
-use Rattle.std.proofs.Common.{◌≡◌, ◌≢◌, ◌≤◌, ◌∙◌, ◌++◌, ◌+◌, ◌<◌, ℕ, Bool, true, false, if◌then◌else◌, List, [], ◌∷◌, length, map, take, drop, get_or, Option, Some, None, Ok, Err, refl, sym, ap, subst, arith}
+use Rattle.std.proofs.Common.{◌≡◌, ◌≢◌, ◌≤◌, ◌∙◌, ◌++◌, ◌+◌, ◌<◌, ℕ, Bool, true, false, if◌then◌else◌, List, [], ◌∷◌, length, map, take, drop, get_or, Some, None, Ok, Err, refl, sym, ap, subst, arith}
 use Rattle.std.specs.Prelude.{⊤, All, Result, IfErr, IsErrAnd}
 use Rattle.std.proofs.lemmas.List.{take_more, take-append-drop, map-append, length-map, length-take-le}
 use Rattle.c_rules.proofs.Turns.{first_left}
 use Rattle.std.proofs.lemmas.List.Elements.{All-cons, All-nil}
 use Rattle.word_base.specs.Name.{IsName}
 use Rattle.c_tree.specs.c_syntax.declared.token.Token.{Token}
-use Rattle.c_tree.specs.c_syntax.declared.token.TokenKind.TheVariants.{Name}
 use Rattle.c_tree.specs.c_syntax.SyntaxTree.{UnitTree, Defined, Declared}
 use Rattle.c_tree.specs.c_syntax.Derives.{DerivesUnit, LastExternal, MoreExternals}
 use Rattle.c_tree.specs.c_syntax.FunctionNames.{function_names}

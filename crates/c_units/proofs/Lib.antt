@@ -2,6 +2,7 @@ pub mod TableLemmas
 pub mod ObjectLemmas
 pub mod FileLemmas
 pub mod CountLemmas
+pub mod JoinedLemmas
 pub mod OneOutcome
 pub mod ListLemmas
 pub mod NumberLemmas

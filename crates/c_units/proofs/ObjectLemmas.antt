@@ -1,5 +1,5 @@
 -- Objects, one of which is left.
-use Rattle.std.proofs.Common.{◌≡◌, ◌∙◌, ℕ, ◌+◌, ◌<◌, Bool, true, false, cond, not, suc, arith, List, [], ◌∷◌, ◌++◌, map, drop, get_or, length, Option, Some, None, option_map, refl, sym, ap, append_assoc}
+use Rattle.std.proofs.Common.{◌≡◌, ◌∙◌, ℕ, ◌+◌, ◌<◌, Bool, true, false, cond, not, suc, arith, List, [], ◌∷◌, ◌++◌, map, drop, get_or, length, Option, Some, refl, sym, ap, append_assoc}
 use Rattle.std.specs.Prelude.{find}
 use Rattle.c_tree.specs.c_syntax.SyntaxTree.{ItemTree}
 use Rattle.c_rules.specs.Units.{is_name_among}

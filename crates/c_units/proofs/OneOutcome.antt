@@ -1,6 +1,6 @@
 -- Files are joined to one list of tokens or have one fault, but for the place that one of syntax names.
-use Rattle.std.proofs.Common.{arith, ◌≡◌, ◌∙◌, ℕ, ◌+◌, List, [], ◌∷◌, ◌++◌, length, Option, Some, None, refl, sym, ap, subst, inl, inr}
-use Rattle.std.specs.Prelude.{unwrap_or}
+use Rattle.std.proofs.Common.{arith, Vec, Global, Ok, Err, IfOk, ◌≢◌, ◌≡◌, ◌∙◌, ℕ, ◌+◌, List, [], ◌∷◌, ◌++◌, length, Option, Some, None, refl, sym, ap, subst, inl, inr}
+use Rattle.std.specs.Prelude.{unwrap_or, Result, IfErr, MatchResult}
 use Rattle.c_tree.specs.c_syntax.declared.token.Token.{Token}
 use Rattle.c_tree.specs.c_syntax.SyntaxTree.{UnitTree}
 use Rattle.c_tree.specs.c_syntax.Source.{IsSource}
@@ -165,3 +165,24 @@ one_joined sources ts us j k =
     let files = one_list sources j.files k.files j.are k.are in
     let also = subst (λ fs. Joined static_name fs ts) files j.joined in
     also.placed ∙ placed_by_kinds 0 ts us (also.kinds ∙ sym k.joined.kinds) ∙ sym k.joined.placed
+
+-- ---- what is answered
+
+memory_only : (fault : UnitFault) → (fault ≢ NoMemory → ⊥) → fault ≡ NoMemory
+memory_only (Lex n why) no_other = absurd (no_other (λ e. cc))
+memory_only (Parse n why) no_other = absurd (no_other (λ e. cc))
+memory_only (Types n why) no_other = absurd (no_other (λ e. cc))
+memory_only (Reserved n at) no_other = absurd (no_other (λ e. cc))
+memory_only (Undefined name) no_other = absurd (no_other (λ e. cc))
+memory_only (TooManyTokens count) no_other = absurd (no_other (λ e. cc))
+memory_only NoMemory no_other = refl
+
+pub joined_answered : (sources : List (List ℕ)) (result : Result (Vec Token Global) UnitFault) (tokens : List Token) → IfOk result (λ found. Joins sources found.items)
+    → IfErr result (λ fault. fault ≢ NoMemory → HasFault sources fault) → Joins sources tokens → MatchResult result (λ found. found.items ≡ tokens) (λ fault. fault ≡ NoMemory)
+joined_answered sources (Ok found) tokens ok err joins = one_joined sources found.items tokens ok joins
+joined_answered sources (Err fault) tokens ok err joins = memory_only fault (λ some. joined_not sources tokens fault joins (err some))
+
+pub fault_answered : (sources : List (List ℕ)) (result : Result (Vec Token Global) UnitFault) (cause : UnitFault) → IfOk result (λ found. Joins sources found.items)
+    → IfErr result (λ fault. fault ≢ NoMemory → HasFault sources fault) → HasFault sources cause → MatchResult result (λ found. ⊥) (λ fault. fault ≢ NoMemory → IsSameFault cause fault)
+fault_answered sources (Ok found) cause ok err has = joined_not sources found.items cause ok has
+fault_answered sources (Err fault) cause ok err has = λ some. one_fault sources cause fault has (err some)

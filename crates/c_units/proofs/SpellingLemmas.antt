@@ -219,7 +219,7 @@ joined_count choice number (file ∷ files) =
     ∙ (λ i. length-map file.tokens (λ t. renamed_kind (renaming_of choice number file) t.kind) i + joined_count choice (suc number) files i)
     ∙ sym (sum_by-cons (λ f. length f.tokens) file files)
 
-few_tokens : (count : ℕ) → (if nat_lt most_tokens count then Some (TooManyTokens count) else None) ≡ None → count ≤ most_tokens
+pub few_tokens : (count : ℕ) → (if nat_lt most_tokens count then Some (TooManyTokens count) else None) ≡ None → count ≤ most_tokens
 few_tokens count none = by (nat_lt most_tokens count) refl none
   where
     by : (b : Bool) → nat_lt most_tokens count ≡ b → (if b then Some (TooManyTokens count) else None) ≡ None → count ≤ most_tokens

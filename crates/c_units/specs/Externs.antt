@@ -1,9 +1,9 @@
 -- The words `extern` that are dropped: those in front of an external of a file (docs/LANGUAGE.md, "Programs of several files";
 -- ISO 9899:1990 6.5.1 and 6.7).
-use Rattle.std.specs.Prelude.{ℕ, zero, suc, ◌&&◌, ◌||◌, not, Bool, true, false, if◌then◌else◌, List, [], ◌∷◌, ◌++◌}
+use Rattle.std.specs.Prelude.{ℕ, zero, suc, ◌&&◌, Bool, true, false, if◌then◌else◌, List, [], ◌∷◌, ◌++◌}
 use Rattle.c_tree.specs.c_syntax.declared.token.Token.{Token}
 use Rattle.c_tree.specs.c_syntax.declared.token.TokenKind.{TokenKind}
-use Rattle.c_tree.specs.c_syntax.declared.token.TokenKind.TheVariants.{Word, Name, Number, Char, Mark}
+use Rattle.c_tree.specs.c_syntax.declared.token.TokenKind.TheVariants.{Word, Mark}
 use Rattle.c_tree.specs.c_syntax.declared.token.Keyword.TheVariants.{Extern}
 use Rattle.c_tree.specs.c_syntax.declared.token.Punct.TheVariants.{OpenBrace, CloseBrace, Semicolon, Assign}
 

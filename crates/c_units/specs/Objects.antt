@@ -1,8 +1,7 @@
 -- The objects that files declare, and the first that none defines (docs/LANGUAGE.md, "Programs of several files"; ISO 9899:1990
 -- 6.1.2.2 and 6.7.2).
-use Rattle.std.specs.Prelude.{ℕ, suc, ◌==◌, ◌&&◌, ◌||◌, not, is_some, Bool, true, false, if◌then◌else◌, List, [], ◌∷◌, ◌++◌, map, filter, flat_map, option_map, find, Option, Some, None}
-use Rattle.std.specs.Str.{bytes_eq}
-use Rattle.c_tree.specs.c_syntax.SyntaxTree.{ItemForm, Plain, Parameters, Array, ItemTree, ExternalTree, Defined, Declared}
+use Rattle.std.specs.Prelude.{ℕ, suc, ◌==◌, ◌||◌, not, is_some, Bool, true, false, if◌then◌else◌, List, [], ◌∷◌, ◌++◌, map, filter, flat_map, option_map, find, Option}
+use Rattle.c_tree.specs.c_syntax.SyntaxTree.{ItemForm, Parameters, ItemTree, ExternalTree, Defined, Declared}
 use Rattle.c_rules.specs.Units.{is_name_among}
 use Rattle.c_units.specs.Statics.{statics_of, static_name}
 use Rattle.c_units.specs.Files.{FileTree}

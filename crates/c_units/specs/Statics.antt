@@ -1,6 +1,6 @@
 -- The statics of a file, the names that they get, and names that are reserved for these (docs/LANGUAGE.md, "Programs of several
 -- files"; ISO 9899:1990 6.1.2.2).
-use Rattle.std.specs.Prelude.{ℕ, ◌==◌, ◌&&◌, ◌||◌, nat_lt, nat_le, Bool, true, false, if◌then◌else◌, List, [], ◌∷◌, ◌++◌, length, map, flat_map, reverse, codes, decimal, Option, Some, None}
+use Rattle.std.specs.Prelude.{ℕ, ◌==◌, ◌&&◌, ◌||◌, nat_lt, nat_le, Bool, false, if◌then◌else◌, List, [], ◌∷◌, ◌++◌, length, map, flat_map, reverse, codes, decimal, Option, Some, None}
 use Rattle.c_tree.specs.c_syntax.declared.token.Token.{Token}
 use Rattle.c_tree.specs.c_syntax.declared.token.TokenKind.{TokenKind}
 use Rattle.c_tree.specs.c_syntax.declared.token.TokenKind.TheVariants.{Name}

@@ -6,7 +6,7 @@ ghost use Rattle.c_lexer.specs.TokenText.{HasSpelling, placed_from};
 ghost use Rattle.c_renaming.specs.RenamedTokens.{renamed_kind};
 ghost use Rattle.c_units.specs.declared.fault.UnitFault.{UnitFault};
 ghost use Rattle.c_units.specs.declared.fault.UnitFault.TheVariants as faults;
-ghost use Rattle.c_units.specs.Joining.{joined_kinds, file_kinds, renaming_of, Joins, HasFault, IsSameFault, token_count, count_fault};
+ghost use Rattle.c_units.specs.Joining.{joined_kinds, file_kinds, renaming_of, Joins, HasFault, IsSameFault, joint_fault, count_fault};
 ghost use Rattle.c_units.specs.Statics.{static_name, statics_of};
 ghost use Rattle.c_units.specs.Files.{FileTree};
 ghost use Rattle.c_units.specs.Views.{file_of, AreNames};
@@ -49,9 +49,11 @@ fn joined_kind(
     ensures { IfOk result (λ joined. (file : FileTree) → AreNames statics.now (statics_of file.unit) → joined ≡ renamed_kind (renaming_of static_name number file) kind) }
 {
     match kind {
-        TokenKind::Name(name) if statics.contains(name.as_str()) => Ok(TokenKind::Name(
-            static_name(alloc, number, name.as_str())?,
-        )),
+        TokenKind::Name(name) if statics.contains(name.as_str()) => Ok(TokenKind::Name(static_name(
+            alloc,
+            number,
+            name.as_str(),
+        )?)),
         kind => Ok(kind),
     }
 }
@@ -87,7 +89,9 @@ fn push_file(
     ensures { OnOk result (map (λ t. t.kind) tokens.new.items ≡ map (λ t. t.kind) tokens.old.items ++ file_kinds static_name number (file_of file)) }
 {
     let SourceFile {
-        tokens: own, unit, ..
+        tokens: own,
+        unit,
+        ..
     } = file;
     let statics = statics_of(alloc, &unit)?;
     push_tokens(alloc, number, &statics, own, tokens)
@@ -120,6 +124,31 @@ fn placed(alloc: Global, tokens: &[Token]) -> Result<Vec<Token>, NoMemory>
     }
 }
 
+// Refuses the first fault of the files that is none of one of them.
+fn check_all(alloc: Global, files: &[SourceFile]) -> Result<(), UnitFault>
+    requires few { length files.now ≤ 16 }
+    requires short { All (λ f. length f.tokens.items ≤ most_tokens) files.now }
+    ensures none { OnOk result (joint_fault (map file_of files.now) ≡ None) }
+    ensures fault { IfErr result (λ fault. fault ≢ faults.NoMemory → joint_fault (map file_of files.now) ≡ Some fault) }
+{
+    check_reserved(alloc, files)?;
+    check_defined(alloc, files)?;
+    check_count(files)
+}
+
+// The tokens of the files, joined, or their first fault.
+fn first_outcome(alloc: Global, sources: &[Vec<u8>]) -> Result<Vec<Token>, UnitFault>
+    requires few { length sources.now ≤ 16 }
+    requires short { All (λ s. length s.items < 2 ^ 32) sources.now }
+    ensures tokens { IfOk result (λ tokens. Joins (map (λ s. s.items) sources.now) tokens.items) }
+    ensures fault { IfErr result (λ fault. fault ≢ faults.NoMemory → HasFault (map (λ s. s.items) sources.now) fault) }
+{
+    let files = read_files(alloc, sources)?;
+    check_all(alloc, &files)?;
+    let tokens = joined(alloc, files)?;
+    Ok(placed(alloc, &tokens)?)
+}
+
 /// The tokens of files, from one to sixteen, of less than 2^32 bytes each, in one list: those of each file in order, without each
 /// `extern` at the start of an external, and with the name of a static followed by `__` and the number of its file. They have the
 /// places and lengths of the text that `token_text` gives of them, in bytes.
@@ -141,10 +170,5 @@ pub fn join_units(alloc: Global, sources: &[Vec<u8>]) -> Result<Vec<Token>, Unit
     ensures faulty { (cause : UnitFault) → HasFault (map (λ s. s.items) sources.now) cause
         → MatchResult result (λ found. ⊥) (λ fault. fault ≢ faults.NoMemory → IsSameFault cause fault) }
 {
-    let files = read_files(alloc, sources)?;
-    check_reserved(alloc, &files)?;
-    check_defined(alloc, &files)?;
-    check_count(&files)?;
-    let tokens = joined(alloc, files)?;
-    Ok(placed(alloc, &tokens)?)
+    first_outcome(alloc, sources)
 }

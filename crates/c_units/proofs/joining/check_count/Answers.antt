@@ -1,5 +1,4 @@
-use Rattle.std.proofs.Common.{◌+◌, ◌≤◌, ◌<◌, ◌≡◌, ◌^◌, ◌∙◌, ℕ, map, drop, length, ap, sym, arith}
-use Rattle.c_units.specs.Joining.{token_count}
+use Rattle.std.proofs.Common.{arith}
 use Rattle.c_units.specs.Views.{file_of}
 use Rattle.c_units.proofs.CountLemmas.{count_left, few_in_all}
 use Rattle.c_units.proofs.joining.check_count.Goals as goal

@@ -1,6 +1,5 @@
-use Rattle.std.proofs.Common.{◌≡◌, ◌++◌, ◌+◌, map, ap, arith}
-use Rattle.c_units.specs.Objects.{file_objects}
-use Rattle.c_units.specs.Views.{file_of, object_of}
+use Rattle.std.proofs.Common.{◌+◌, ap}
+use Rattle.c_units.specs.Views.{file_of}
 use Rattle.c_units.proofs.ObjectLemmas.{file_turn}
 use Rattle.c_units.proofs.objects.declared.Goals as goal
 

@@ -1,4 +1,4 @@
-use Rattle.std.proofs.Common.{◌≡◌, ◌++◌, ◌+◌, ◌≤◌, map, drop}
+use Rattle.std.proofs.Common.{◌≡◌, ◌++◌, ◌+◌, map, drop}
 use Rattle.c_units.specs.Objects.{all_objects}
 use Rattle.c_units.specs.Views.{file_of, object_of}
 use Rattle.c_units.proofs.objects.declared.Given as goal
