@@ -1,5 +1,3 @@
-use Rattle.std.proofs.Common.{◌≤◌, ◌<◌, ◌^◌, length, ap, subst, sym, refl, arith}
-use Rattle.std.specs.Prelude.{All}
 use Rattle.cc_words.specs.Asked.{ToJoin, names_of}
 use Rattle.cc_files.specs.World.{shelves}
 use Rattle.cc_files.specs.Wants.{contents_of}
@@ -9,7 +7,7 @@ use Rattle.cc_driver.specs.Commands.{files_of}
 use Rattle.cc_driver.specs.Work.{WorkRefused}
 use Rattle.cc_driver.proofs.StoreLemmas.{one_stopped, still_stored}
 use Rattle.cc_driver.proofs.WorkLemmas.{files_refuse, still_none_failed, stores_refused}
-use Rattle.cc_files.proofs.FetchLemmas.{fetched_still}
+use Rattle.cc_files.proofs.FetchLemmas.{with_bytes, fetched_still}
 use Rattle.cc_files.proofs.PassedOn.{passed_on}
 use Rattle.cc_driver.proofs.join.answer.Goals as goal
 
@@ -31,3 +29,38 @@ returns-in_err-store-clause-refused g c =
       fetched = fetched_still tells first between last (files_of what) (contents_of c.in_ok-sources.sources.items) c.in_ok-sources.ensures.fetched;
       holds = joined;
     }) (one_stopped tells between last one c.store.ensures.others _ c.in_err-store.ensures.refused))
+
+pub returns-in_err-text-clause-refused : goal.returns-in_err-text-clause-refused
+returns-in_err-text-clause-refused g c =
+    let what = ToJoin c.args.asked.now.output.now (names_of c.args.asked.now.sources) in
+    let shelf = shelves g.F.Shelf.tells (g.F.Shelf.stock c.args.shelf.now) (g.F.Shelf.stock c.fetched.new.shelf) in
+    let contents = contents_of c.in_ok-sources.sources.items in
+    passed_on c.from_residual-in_err-text.result c.in_err-text.field-0.0 (WorkRefused what shelf) c.from_residual-in_err-text.ensures.1
+    (files_refuse what shelf _ c.in_ok-sources.ensures.asked (with_bytes shelf (files_of what) contents c.in_ok-sources.ensures.fetched) c.in_ok-sources.ensures.stored
+    (λ some. record {
+      contents = contents;
+      fetched = c.in_ok-sources.ensures.fetched;
+      holds = rw c.deref.ensures.value at (c.in_err-text.ensures.refused some);
+    }))
+
+pub returns-clause-done : goal.returns-clause-done
+returns-clause-done g c =
+    let what = ToJoin c.args.asked.now.output.now (names_of c.args.asked.now.sources) in
+    let tells = g.F.Shelf.tells in
+    let first = g.F.Shelf.stock c.args.shelf.now in
+    let between = g.F.Shelf.stock c.fetched.new.shelf in
+    let last = g.F.Shelf.stock c.store.new.shelf in
+    let output = c.args.asked.now.output.now in
+    let text = c.in_ok-text.text.items in
+    let contents = contents_of c.in_ok-sources.sources.items in
+    record {
+      fetched = still_none_failed tells first between last (files_of what) c.in_ok-sources.ensures.asked c.store.ensures.asked;
+      texts = one_text output text;
+      comes = record {
+        contents = contents;
+        fetched = fetched_still tells first between last (files_of what) contents c.in_ok-sources.ensures.fetched;
+        holds = rw c.deref.ensures.value at c.in_ok-text.ensures.done;
+      };
+      stored = still_stored tells first between last c.in_ok-sources.ensures.stored (one_text output text)
+          (record { hold = (rw c.deref-2.ensures.value at c.in_ok-store.ensures.held, tt {0}); others = λ n other. c.store.ensures.others n other.0; faults = c.in_ok-store.ensures.faults });
+    }
