@@ -4,7 +4,7 @@
 #
 #     tests/refusals.sh [WHAT..]
 #
-# WHAT: output, filter, pieces, threads, certificate, macros; all of them where none is given.
+# WHAT: output, filter, pieces, threads, certificate, macros, files; all of them where none is given.
 script=refusals
 . "$(dirname "${BASH_SOURCE[0]}")/common.sh"
 
@@ -205,7 +205,20 @@ macros() {
     each 1 pre ../macros.c made.c
 }
 
-[ "$#" -gt 0 ] || set -- output filter pieces threads certificate macros
+# Statics that are renamed and externs that are left out, and files that aren't joined: for a name that no file defines or a reserved one.
+files() {
+    {
+        seq -f 'static int n%.0f;' 40
+        printf 'extern int k;\nextern int next(void){n1 = n1 + k; return n1;}\n'
+    } > next.c
+    printf "int next(void);\nstatic int n1 = 0x1f;\nint k = 'a';\nint main(void){return next() + n1;}\n" > main.c
+    each 0 join made.c ../next.c ../main.c
+    each 1 join made.c ../next.c
+    printf 'int n__1;\n' > reserved.c
+    each 1 join made.c ../main.c ../reserved.c
+}
+
+[ "$#" -gt 0 ] || set -- output filter pieces threads certificate macros files
 for what; do "$what"; done
 [ "$failed" -eq 0 ] && echo "refusals: $runs allocations were refused, $wanting of them ended with status 5, and nothing was stored in part"
 exit "$failed"

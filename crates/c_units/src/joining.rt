@@ -1,8 +1,8 @@
 //! The tokens of several files in one list.
 ghost use Rattle.std.specs.Prelude.{◌≡◌, ◌≢◌, ◌≤◌, ◌<◌, ◌^◌, ◌++◌, Some, None, List, ℕ, length, map, All, IfOk, OnOk, IfErr, MatchResult};
 ghost use Rattle.c_tree.specs.c_syntax.declared.token.Token.{Token};
-ghost use Rattle.c_tree.specs.c_syntax.Lexes.{most_tokens};
-ghost use Rattle.c_lexer.specs.TokenText.{HasSpelling, placed_from};
+ghost use Rattle.c_tree.specs.c_syntax.Lexes.{Lexes, most_tokens};
+ghost use Rattle.c_lexer.specs.TokenText.{HasSpelling, placed_from, tokens_text};
 ghost use Rattle.c_renaming.specs.RenamedTokens.{renamed_kind};
 ghost use Rattle.c_units.specs.declared.fault.UnitFault.{UnitFault};
 ghost use Rattle.c_units.specs.declared.fault.UnitFault.TheVariants as faults;
@@ -161,6 +161,8 @@ pub fn join_units(alloc: Global, sources: &[Vec<u8>]) -> Result<Vec<Token>, Unit
     requires short { All (λ s. length s.items < 2 ^ 32) sources.now }
     // What is answered are the tokens of the files, joined.
     ensures tokens { IfOk result (λ tokens. Joins (map (λ s. s.items) sources.now) tokens.items) }
+    // They are those of their text.
+    ensures lexes { IfOk result (λ tokens. Lexes (tokens_text tokens.items) tokens.items) }
     // Where the files can be joined their tokens are answered, unless memory is wanting.
     ensures joined { (tokens : List Token) → Joins (map (λ s. s.items) sources.now) tokens
         → MatchResult result (λ found. found.items ≡ tokens) (λ fault. fault ≡ faults.NoMemory) }

@@ -1,7 +1,7 @@
 -- The told files come to one thing or are refused for one, for each command.
 use Rattle.std.proofs.Common.{◌≡◌, ◌≢◌, ◌∙◌, ◌++◌, ℕ, List, [], ◌∷◌, length, refl, sym, ap, subst, lit<, IsTrue}
 use Rattle.std.specs.Prelude.{Result, Ok, Err}
-use Rattle.cc_words.specs.Asked.{Asked, ToBuild, ToRun, ToEvaluate, ToExecute, ToLayOut, ToCheck, ToAssemble, ToList, ToGenerate, ToDebug, ToExpand}
+use Rattle.cc_words.specs.Asked.{Asked, ToBuild, ToRun, ToEvaluate, ToExecute, ToLayOut, ToCheck, ToAssemble, ToList, ToGenerate, ToDebug, ToExpand, ToJoin}
 use Rattle.word_base.specs.Ports.{Outputs, input_of}
 use Rattle.c_tree.specs.SourceRun.{source_run}
 use Rattle.c25_isa.specs.Image.{Contents}
@@ -33,8 +33,11 @@ use Rattle.cc_files.specs.cc_compile.SourceFaults.{HasProgram, IsAccepted}
 use Rattle.cc_files.proofs.cc_compile.OneFault.{accepted_no_fault, program_no_fault, same_program}
 use Rattle.cc_files.specs.cc_compile.Compiles.{IsBuilt}
 use Rattle.cc_files.proofs.c_macro.OneOutcome.{outcome_one}
+use Rattle.cc_files.proofs.c_units.OneOutcome.{joined_not}
+use Rattle.cc_files.proofs.FetchLemmas.{with_bytes, same_contents}
 use Rattle.cc_files.specs.c_macro.declared.fault.MacroFault.{MacroFault}
 use Rattle.cc_files.specs.c_syntax.declared.token.Token.{Token}
+use Rattle.cc_files.specs.c_units.Joining.{Joins}
 use Rattle.cc_gen.specs.Generated.{generated}
 use Rattle.cc_answers.specs.Answers.{Answered}
 use Rattle.cc_files.specs.cc_text.Refusals.{Why, refusal_status}
@@ -59,6 +62,7 @@ use Rattle.cc_driver.specs.Gen.{Summarizes, GeneratesTo, GenerateRefused, gen_st
 use Rattle.cc_driver.specs.Debug.{DebugsTo, DebugRefused, session_answer}
 use Rattle.cc_driver.specs.Debug as debug
 use Rattle.cc_driver.specs.Pre.{ExpandsTo, ExpandRefused}
+use Rattle.cc_driver.specs.Join.{JoinsTo, JoinRefused}
 use Rattle.cc_driver.specs.Commands.{files_of, stores_under, Comes, Rejects}
 use Rattle.cc_files.specs.Puts.{IsStatus}
 use Rattle.cc_driver.proofs.StatusLemmas.{of_report, of_stop, of_summary, of_outcome, of_check}
@@ -78,6 +82,7 @@ comes_told (ToList image) shelf answer texts c = ((c.0.bytes, c.0.fetched), tt {
 comes_told (ToGenerate number) shelf answer texts c = tt {0}
 comes_told (ToDebug image ports script) shelf answer texts c = ((c.0.bytes, c.0.fetched), ((c.0.more, c.0.also), ((c.0.last, c.0.too), tt {0})))
 comes_told (ToExpand source output) shelf answer texts c = ((c.bytes, c.fetched), tt {0})
+comes_told (ToJoin output sources) shelf answer texts c = with_bytes shelf (files_of (ToJoin output sources)) c.contents c.fetched
 
 pub refuses_told : (what : Asked) (shelf : Shelves) (why : Why) → Rejects what shelf why → AreFetched shelf (files_of what)
 refuses_told (ToBuild source image registers budget step) shelf why r = ((r.bytes, r.fetched), tt {0})
@@ -91,6 +96,7 @@ refuses_told (ToList image) shelf why r = ((r.bytes, r.fetched), tt {0})
 refuses_told (ToGenerate number) shelf why r = tt {0}
 refuses_told (ToDebug image ports script) shelf why r = ((r.bytes, r.fetched), ((r.more, r.also), ((r.last, r.too), tt {0})))
 refuses_told (ToExpand source output) shelf why r = ((r.bytes, r.fetched), tt {0})
+refuses_told (ToJoin output sources) shelf why r = with_bytes shelf (files_of (ToJoin output sources)) r.contents r.fetched
 
 -- ---- stores
 
@@ -114,6 +120,7 @@ some_store (ToList image) shelf answer texts c h = none_fails (ToList image) she
 some_store (ToGenerate number) shelf answer texts c h = none_fails (ToGenerate number) shelf texts c.1 h
 some_store (ToDebug image ports script) shelf answer texts c h = none_fails (ToDebug image ports script) shelf texts c.1 h
 some_store (ToExpand source output) shelf answer texts c h = λ e. cc
+some_store (ToJoin output sources) shelf answer texts c h = λ e. cc
 
 -- ---- ports
 
@@ -347,6 +354,17 @@ pre_not name bytes a s why c r =
 pre_status_one : (bytes : List ℕ) (why : Why) → ExpandRefused bytes why → refusal_status why ≡ 1
 pre_status_one bytes why r = ap refusal_status r.is
 
+-- ---- join
+
+join_one : (name : List ℕ) (c d : List (List ℕ)) (a b : Answered) (s t : List Stored) → JoinsTo name c a s → JoinsTo name d b t → a ≡ b
+join_one name c d a b s t one other = one.is ∙ sym other.is
+
+join_not : (name : List ℕ) (c d : List (List ℕ)) (a : Answered) (s : List Stored) (why : Why) → c ≡ d → JoinsTo name c a s → JoinRefused d why → ⊥
+join_not name c d a s why same j r = joined_not d j.joined.tokens r.fault (subst (λ contents. Joins contents j.joined.tokens) same j.joined.joins) r.has
+
+join_status_one : (contents : List (List ℕ)) (why : Why) → JoinRefused contents why → refusal_status why ≡ 1
+join_status_one contents why r = ap refusal_status r.is
+
 -- ---- all commands
 
 pub comes_one : (what : Asked) (shelf : Shelves) (tells : IsTrue shelf.tells) (a b : Answered) (s t : List Stored) → Comes what shelf a s → Comes what shelf b t → a ≡ b
@@ -381,6 +399,7 @@ comes_one (ToDebug image ports script) shelf tells a b s t c d =
 comes_one (ToExpand source output) shelf tells a b s t c d =
     let h = one_file shelf tells _ _ _ c d in
     pre_one output h.0 a b s t h.1 h.2
+comes_one (ToJoin output sources) shelf tells a b s t c d = join_one output c.contents d.contents a b s t c.holds d.holds
 
 pub comes_not : (what : Asked) (shelf : Shelves) (tells : IsTrue shelf.tells) (a : Answered) (s : List Stored) (why : Why) → Comes what shelf a s → Rejects what shelf why → ⊥
 comes_not (ToBuild source image registers budget step) shelf tells a s why c r =
@@ -414,6 +433,8 @@ comes_not (ToDebug image ports script) shelf tells a s why c r =
 comes_not (ToExpand source output) shelf tells a s why c r =
     let h = one_file shelf tells _ _ _ c r in
     pre_not output h.0 a s why h.1 h.2
+comes_not (ToJoin output sources) shelf tells a s why c r =
+    join_not output c.contents r.contents a s why (same_contents shelf tells (files_of (ToJoin output sources)) c.contents r.contents c.fetched r.fetched) c.holds r.holds
 
 pub refuses_one : (what : Asked) (shelf : Shelves) (tells : IsTrue shelf.tells) (v w : Why) → Rejects what shelf v → Rejects what shelf w → refusal_status v ≡ refusal_status w
 refuses_one (ToBuild source image registers budget step) shelf tells v w r s =
@@ -447,6 +468,7 @@ refuses_one (ToDebug image ports script) shelf tells v w r s =
 refuses_one (ToExpand source output) shelf tells v w r s =
     let h = one_file shelf tells _ _ _ r s in
     pre_status_one h.0 v h.1 ∙ sym (pre_status_one h.0 w h.2)
+refuses_one (ToJoin output sources) shelf tells v w r s = join_status_one r.contents v r.holds ∙ sym (join_status_one s.contents w s.holds)
 
 image_run_status : (words : List ℕ) (lines : List (ℕ × ℕ)) (steps : ℕ) (answer : Answered) → ImageRuns words lines steps answer → IsStatus answer.status
 image_run_status words lines steps answer r = subst (λ a. IsStatus a.status) (sym r.is) (of_stop r.stands)
@@ -466,3 +488,4 @@ comes_status (ToGenerate number) shelf answer texts c =
     subst (λ a. IsStatus a.status) (sym c.0.summarizes.is) (of_summary number (length c.0.image.functions) gen_steps c.0.summarizes.outs c.0.summarizes.stands)
 comes_status (ToDebug image ports script) shelf answer texts c = subst (λ a. IsStatus a.status) (sym c.0.holds.is) (0, lit< tt, refl)
 comes_status (ToExpand source output) shelf answer texts c = subst (λ a. IsStatus a.status) (sym c.holds.is) (0, lit< tt, refl)
+comes_status (ToJoin output sources) shelf answer texts c = subst (λ a. IsStatus a.status) (sym c.holds.is) (0, lit< tt, refl)

@@ -5,7 +5,7 @@ use Rattle.c25_isa.specs.Image.{Contents}
 use Rattle.cc_check.specs.CheckText.{all_pass}
 use Rattle.cc_files.specs.cc_text.declared.refusal.FileFault.{FileFault}
 use Rattle.cc_files.specs.cc_text.declared.refusal.FileFault.TheVariants.{Read, TooLong, Image, Ports, Sequence, Certificate, Assembly, Script}
-use Rattle.cc_files.specs.cc_text.Refusals.{Why, OfFile, OfSource, OfMacros, OfStore, OfMemory, file_status, refusal_status}
+use Rattle.cc_files.specs.cc_text.Refusals.{Why, OfFile, OfSource, OfMacros, OfUnits, OfStore, OfMemory, file_status, refusal_status}
 use Rattle.c25_isa.specs.declared.event.Stop.{Stop}
 use Rattle.c25_isa.specs.declared.event.Stop.TheVariants as stop
 use Rattle.word_base.specs.declared.outcome.Outcome.{Outcome}
@@ -35,6 +35,7 @@ of_why : (why : Why) → IsStatus (refusal_status why)
 of_why (OfFile name why) = of_file why
 of_why (OfSource why) = (1, lit< tt, refl)
 of_why (OfMacros why) = (1, lit< tt, refl)
+of_why (OfUnits why) = (1, lit< tt, refl)
 of_why OfStore = (4, lit< tt, refl)
 of_why OfMemory = (5, lit< tt, refl)
 

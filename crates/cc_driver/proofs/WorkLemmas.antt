@@ -21,10 +21,12 @@ use Rattle.cc_files.specs.cc_compile.declared.fault.BuildFault.{BuildFault}
 use Rattle.cc_files.specs.cc_compile.declared.fault.BuildFault.TheVariants as build_faults
 use Rattle.cc_files.specs.c_macro.declared.fault.MacroFault.{MacroFault}
 use Rattle.cc_files.specs.c_macro.declared.fault.MacroFault.TheVariants as macro_faults
+use Rattle.cc_files.specs.c_units.declared.fault.UnitFault.{UnitFault}
+use Rattle.cc_files.specs.c_units.declared.fault.UnitFault.TheVariants as unit_faults
 use Rattle.cc_answers.specs.declared.answer.Answer.{Answer}
 use Rattle.cc_files.specs.cc_text.declared.refusal.Refusal.{Refusal}
 use Rattle.cc_answers.specs.Answers.{Answered, answered}
-use Rattle.cc_files.specs.cc_text.Refusals.{Why, OfFile, OfSource, OfMacros, OfStore, OfMemory, why_of, of_build_fault, of_macro_fault, of_image_fault, of_port_fault, of_sequence_fault, of_certificate_fault, of_script_fault}
+use Rattle.cc_files.specs.cc_text.Refusals.{Why, OfFile, OfSource, OfMacros, OfUnits, OfStore, OfMemory, why_of, of_build_fault, of_macro_fault, of_unit_fault, of_image_fault, of_port_fault, of_sequence_fault, of_certificate_fault, of_script_fault}
 use Rattle.cc_files.specs.World.{Shelves, shelves}
 use Rattle.cc_files.specs.Fetches.{Wanted, IsFetched, AreFetched, NoneFailed, ForMemory}
 use Rattle.cc_driver.specs.Run.{IsImageRefused, ArePortsRefused}
@@ -90,6 +92,15 @@ macro_fault_of (macro_faults.Unbalanced at) why e some = (λ f. cc, e)
 macro_fault_of (macro_faults.TooMany what count) why e some = (λ f. cc, e)
 macro_fault_of macro_faults.NoMemory why e some = absurd (some e)
 
+pub unit_fault_of : (fault : UnitFault) (why : Why) → why ≡ of_unit_fault fault → why ≢ OfMemory → (fault ≢ unit_faults.NoMemory) × (why ≡ OfUnits fault)
+unit_fault_of (unit_faults.Lex file l) why e some = (λ f. cc, e)
+unit_fault_of (unit_faults.Parse file p) why e some = (λ f. cc, e)
+unit_fault_of (unit_faults.Types file t) why e some = (λ f. cc, e)
+unit_fault_of (unit_faults.Reserved file at) why e some = (λ f. cc, e)
+unit_fault_of (unit_faults.Undefined name) why e some = (λ f. cc, e)
+unit_fault_of (unit_faults.TooManyTokens count) why e some = (λ f. cc, e)
+unit_fault_of unit_faults.NoMemory why e some = absurd (some e)
+
 -- ---- refused work
 
 -- what the fetched files are refused for, unless memory is wanting
@@ -98,6 +109,7 @@ pub files_refuse : (what : Asked) (shelf : Shelves) (why : Why) → NoneFailed s
 files_refuse what shelf (OfFile name fault) asked fetched kept r = AtFiles asked (r (λ e. cc)) kept
 files_refuse what shelf (OfSource fault) asked fetched kept r = AtFiles asked (r (λ e. cc)) kept
 files_refuse what shelf (OfMacros fault) asked fetched kept r = AtFiles asked (r (λ e. cc)) kept
+files_refuse what shelf (OfUnits fault) asked fetched kept r = AtFiles asked (r (λ e. cc)) kept
 files_refuse what shelf OfStore asked fetched kept r = AtFiles asked (r (λ e. cc)) kept
 files_refuse what shelf OfMemory asked fetched kept r = AtMemory refl asked fetched kept
 

@@ -1,5 +1,5 @@
 -- What `asm` makes of its file (docs/COMMANDS.md, "asm").
-use Rattle.std.specs.Prelude.{◌≡◌, ◌≢◌, ℕ, List, [], ◌∷◌, None, Ok, Err}
+use Rattle.std.specs.Prelude.{◌≡◌, ◌≢◌, ℕ, List, [], Ok, Err}
 use Rattle.c25_isa.specs.Image.{Contents}
 use Rattle.c25_image.specs.ImageText.{image_text}
 use Rattle.c25_image.specs.ImageFaults.{IsWhole}
@@ -11,6 +11,7 @@ use Rattle.cc_answers.specs.Answers.{Answered}
 use Rattle.cc_files.specs.cc_text.Refusals.{Why, OfFile}
 use Rattle.cc_files.specs.Fetches.{Wanted, wanted}
 use Rattle.cc_files.specs.Stores.{Stored}
+use Rattle.cc_driver.specs.Texts.{one_text, silent_answer}
 
 -- an assembler text, of at most 4,194,304 bytes
 abbrev pub text_file : List ℕ → Wanted
@@ -19,14 +20,6 @@ text_file name = wanted name 4194304
 -- an image of these words, in which no function is named
 abbrev pub image_of_words : List ℕ → Contents
 image_of_words words = record { words = words; functions = [] }
-
--- a text is stored under a name
-abbrev pub one_text : List ℕ → List ℕ → List Stored
-one_text name text = record { name = name; text = text } ∷ []
-
--- nothing is put
-abbrev pub silent_answer : Answered
-silent_answer = record { text = None; status = 0 }
 
 -- the bytes are assembled to words, and the text of their image is stored
 pub record AssemblesTo (name bytes : List ℕ) (answer : Answered) (texts : List Stored) : Type 0 where

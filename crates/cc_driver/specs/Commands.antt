@@ -1,11 +1,11 @@
 -- The commands, a row each: which files one fetches, under which names it stores, what it comes to, and for what its files are refused
 -- (docs/COMMANDS.md).
-use Rattle.std.specs.Prelude.{◌≡◌, ℕ, List, [], ◌∷◌}
-use Rattle.cc_words.specs.Asked.{Asked, ToBuild, ToRun, ToEvaluate, ToExecute, ToLayOut, ToCheck, ToAssemble, ToList, ToGenerate, ToDebug, ToExpand}
+use Rattle.std.specs.Prelude.{◌≡◌, ℕ, List, [], ◌∷◌, map}
+use Rattle.cc_words.specs.Asked.{Asked, ToBuild, ToRun, ToEvaluate, ToExecute, ToLayOut, ToCheck, ToAssemble, ToList, ToGenerate, ToDebug, ToExpand, ToJoin}
 use Rattle.cc_answers.specs.Answers.{Answered}
 use Rattle.cc_files.specs.cc_text.Refusals.{Why}
 use Rattle.cc_files.specs.World.{Shelves}
-use Rattle.cc_files.specs.Fetches.{Wanted, IsFetched}
+use Rattle.cc_files.specs.Fetches.{Wanted, IsFetched, AllFetched}
 use Rattle.cc_files.specs.Stores.{Stored}
 use Rattle.cc_driver.specs.Build.{source_file, chosen_options, certificate_name, FileHas, BuildsTo, IsRefusedFor}
 use Rattle.cc_driver.specs.Run.{image_file, ports_file, IsImageRefused, RunsTo, RunRefused}
@@ -18,6 +18,7 @@ use Rattle.cc_driver.specs.Dis.{ListsTo}
 use Rattle.cc_driver.specs.Gen.{GeneratesTo, GenerateRefused}
 use Rattle.cc_driver.specs.Debug.{script_file, DebugsTo, DebugRefused}
 use Rattle.cc_driver.specs.Pre.{ExpandsTo, ExpandRefused}
+use Rattle.cc_driver.specs.Join.{JoinsTo, JoinRefused}
 
 -- the files that a command fetches, in this order
 abbrev pub files_of : Asked → List Wanted
@@ -32,6 +33,7 @@ files_of (ToList image) = image_file image ∷ []
 files_of (ToGenerate number) = []
 files_of (ToDebug image ports script) = image_file image ∷ ports_file ports ∷ script_file script ∷ []
 files_of (ToExpand source output) = source_file source ∷ []
+files_of (ToJoin output sources) = map source_file sources
 
 -- the names under which a command stores, in this order
 abbrev pub stores_under : Asked → List (List ℕ)
@@ -46,6 +48,7 @@ stores_under (ToList image) = []
 stores_under (ToGenerate number) = []
 stores_under (ToDebug image ports script) = []
 stores_under (ToExpand source output) = output ∷ []
+stores_under (ToJoin output sources) = output ∷ []
 
 -- the bytes of two files have a property
 pub record FilesHave (shelf : Shelves) (first second : Wanted) (P : List ℕ → List ℕ → Type 0) : Type 0 where
@@ -64,6 +67,12 @@ pub record ThreeFilesHave (shelf : Shelves) (first second third : Wanted) (P : L
   pub also : IsFetched shelf second more
   pub too : IsFetched shelf third last
   pub holds : P bytes more last
+
+-- the bytes of all files of a list have a property
+pub record AllHave (shelf : Shelves) (files : List Wanted) (P : List (List ℕ) → Type 0) : Type 0 where
+  pub contents : List (List ℕ)
+  pub fetched : AllFetched shelf files contents
+  pub holds : P contents
 
 -- what a command comes to over its files: what it answers, and what it stores
 abbrev pub Comes : Asked → Shelves → Answered → List Stored → Type 0
@@ -85,6 +94,7 @@ Comes (ToGenerate number) shelf answer texts = GeneratesTo number answer × (tex
 Comes (ToDebug image ports script) shelf answer texts =
     ThreeFilesHave shelf (image_file image) (ports_file ports) (script_file script) (λ i p s. DebugsTo i p s answer) × (texts ≡ [])
 Comes (ToExpand source output) shelf answer texts = FileHas shelf (source_file source) (λ s. ExpandsTo output s answer texts)
+Comes (ToJoin output sources) shelf answer texts = AllHave shelf (map source_file sources) (λ ss. JoinsTo output ss answer texts)
 
 -- for what a command refuses its files, which all fit
 abbrev pub Rejects : Asked → Shelves → Why → Type 0
@@ -105,3 +115,4 @@ Rejects (ToGenerate number) shelf why = GenerateRefused number why
 Rejects (ToDebug image ports script) shelf why =
     ThreeFilesHave shelf (image_file image) (ports_file ports) (script_file script) (λ i p s. DebugRefused image ports script i p s why)
 Rejects (ToExpand source output) shelf why = FileHas shelf (source_file source) (λ s. ExpandRefused s why)
+Rejects (ToJoin output sources) shelf why = AllHave shelf (map source_file sources) (λ ss. JoinRefused ss why)

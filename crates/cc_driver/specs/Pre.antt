@@ -9,7 +9,7 @@ use Rattle.cc_files.specs.c_macro.declared.fault.MacroFault.TheVariants as macro
 use Rattle.cc_answers.specs.Answers.{Answered}
 use Rattle.cc_files.specs.cc_text.Refusals.{Why, OfMacros}
 use Rattle.cc_files.specs.Stores.{Stored}
-use Rattle.cc_driver.specs.Asm.{one_text, silent_answer}
+use Rattle.cc_driver.specs.Texts.{one_text, silent_answer}
 
 -- a text is that of the tokens to which a source expands, and it has tokens of the same kinds, one for one
 pub record IsExpansion (bytes text : List ℕ) : Type 0 where

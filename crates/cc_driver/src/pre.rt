@@ -4,7 +4,7 @@ ghost use Rattle.cc_words.specs.Asked.{ToExpand};
 ghost use Rattle.cc_files.specs.cc_text.Refusals.{why_of, OfMemory};
 ghost use Rattle.cc_answers.specs.Answers.{answered};
 ghost use Rattle.cc_files.specs.World.{shelves};
-ghost use Rattle.cc_driver.specs.Asm.{one_text, silent_answer};
+ghost use Rattle.cc_driver.specs.Texts.{one_text, silent_answer};
 ghost use Rattle.cc_driver.specs.Pre.{ExpandsTo, ExpandRefused};
 ghost use Rattle.cc_driver.specs.Commands.{stores_under};
 ghost use Rattle.cc_files.specs.Stores.{OnlyUnder};

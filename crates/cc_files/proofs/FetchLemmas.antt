@@ -53,7 +53,7 @@ stopped_behind shelf ws vs contents so_far = ForMemory refl (record {
 })
 
 module _ (tells : Bool) (first between last : Stock) where
-  fetched_still : (ws : List Wanted) (contents : List (List ℕ)) → AllFetched (shelves tells first between) ws contents → AllFetched (shelves tells first last) ws contents
+  pub fetched_still : (ws : List Wanted) (contents : List (List ℕ)) → AllFetched (shelves tells first between) ws contents → AllFetched (shelves tells first last) ws contents
   fetched_still [] [] all = all
   fetched_still [] (bytes ∷ contents) all = absurd all
   fetched_still (w ∷ ws) [] all = absurd all

@@ -6,8 +6,8 @@ mod output;
 mod shelf;
 
 pub use cc_text::{
-    Built, Options, Refusal, compile, expand, expansions_have_spellings, runs_tell, token_text,
-    typed_program,
+    Built, Options, Refusal, compile, expand, expansions_have_spellings, join_units, runs_tell,
+    token_text, typed_program,
 };
 pub use output::{put, refuse, say};
 pub use shelf::{

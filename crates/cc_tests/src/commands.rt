@@ -6,33 +6,6 @@ use std::process::Abort;
 use std::test::Fail;
 use std::thread::Threads;
 
-/// A command over a shelf that holds the files `i` and `p`.
-#[derive(Clone, Copy)]
-pub(crate) struct Command<'a> {
-    pub(crate) words: &'a [&'a str],
-    /// What `i` holds.
-    pub(crate) file: &'a [u8],
-    /// What `p` holds.
-    pub(crate) ports: &'a [u8],
-    /// The numbers of the calls of the shelf that fail, from 0.
-    pub(crate) shelf_fails_at: &'a [u64],
-    /// The same of the sink.
-    pub(crate) sink_fails_at: &'a [u64],
-}
-
-/// What a command leaves.
-#[derive(Clone, Copy)]
-pub(crate) struct Left<'a> {
-    pub(crate) status: u8,
-    /// All that it put.
-    pub(crate) text: &'a str,
-    /// How many fetches and stores it made.
-    pub(crate) calls: u64,
-    pub(crate) store_faults: u64,
-    /// What other names than `i` and `p` hold then.
-    pub(crate) stored: &'a [(&'a str, &'a [u8])],
-}
-
 /// The words as a list.
 pub(crate) fn list_of(alloc: Global, words: &[&str]) -> Result<Vec<String>, Fail> {
     let mut list = Vec::new(alloc);
@@ -42,32 +15,60 @@ pub(crate) fn list_of(alloc: Global, words: &[&str]) -> Result<Vec<String>, Fail
     Ok(list)
 }
 
-/// Runs a command, and looks at what it leaves.
-pub(crate) fn leaves<R: Threads + Sync + AllocGlobal + Abort>(
+/// Runs a command over a shelf that holds two files, `i` and `p`, and looks at what it leaves. The calls of the shelf
+/// and of the sink that fail are given by number, from 0.
+///
+/// An answer is the status and all that is put, and calls are how many fetches and stores are made and how many stores
+/// failed. What is stored is what other names than `i` and `p` hold then; these two hold what they held.
+pub(crate) fn answers<R: Threads + Sync + AllocGlobal + Abort>(
     rt: &R,
-    command: Command<'_>,
-    left: Left<'_>,
+    words: &[&str],
+    files: (&[u8], &[u8]),
+    fails_at: (&[u64], &[u64]),
+    answer: (u8, &str),
+    calls: (u64, u64),
+    stored: &[(&str, &[u8])],
 ) -> Result<(), Fail> {
     let alloc = rt.alloc();
-    let mut shelf = MemShelf::new(alloc, command.shelf_fails_at.to_vec(alloc)?);
-    shelf.insert(alloc, "i", command.file)?;
-    shelf.insert(alloc, "p", command.ports)?;
-    let mut out = MemSink::new(alloc, command.sink_fails_at.to_vec(alloc)?);
-    let list = list_of(alloc, command.words)?;
+    let mut shelf = MemShelf::new(alloc, fails_at.0.to_vec(alloc)?);
+    shelf.insert(alloc, "i", files.0)?;
+    shelf.insert(alloc, "p", files.1)?;
+    let mut out = MemSink::new(alloc, fails_at.1.to_vec(alloc)?);
+    let list = list_of(alloc, words)?;
     let status = c25cc(rt, alloc, &list, &mut shelf, &mut out);
     assert_eq!(rt;
         (status, out.bytes.as_slice()),
-        (left.status, left.text.as_bytes())
+        (answer.0, answer.1.as_bytes())
     );
-    assert_eq!(rt;
-        (shelf.calls, shelf.store_faults, shelf.files.len()),
-        (left.calls, left.store_faults, left.stored.len() + 2)
-    );
-    assert_eq!(rt; held(&shelf, "i"), Some(command.file));
-    assert_eq!(rt; held(&shelf, "p"), Some(command.ports));
-    for (name, bytes) in left.stored {
+    assert_eq!(rt; (shelf.calls, shelf.store_faults), calls);
+    assert_eq!(rt; shelf.files.len(), stored.len() + 2);
+    assert_eq!(rt; held(&shelf, "i"), Some(files.0));
+    assert_eq!(rt; held(&shelf, "p"), Some(files.1));
+    for (name, bytes) in stored {
         assert_eq!(rt; held(&shelf, name), Some(*bytes));
     }
+    Ok(())
+}
+
+/// Runs a command that stores a source under a name and puts nothing, and looks at the source and at what its run on no
+/// input puts.
+pub(crate) fn stores_source<R: Threads + Sync + AllocGlobal + Abort>(
+    rt: &R,
+    shelf: &mut MemShelf,
+    words: &[&str],
+    stored: (&str, &[u8]),
+    puts: &str,
+) -> Result<(), Fail> {
+    let alloc = rt.alloc();
+    let (name, source) = stored;
+    let mut out = MemSink::new(alloc, Vec::new(alloc));
+    let list = list_of(alloc, words)?;
+    assert_eq!(rt; c25cc(rt, alloc, &list, shelf, &mut out), 0);
+    assert_eq!(rt; held(shelf, name), Some(source));
+    shelf.insert(alloc, "none", b"")?;
+    let run = list_of(alloc, &["exec", name, "none"])?;
+    assert_eq!(rt; c25cc(rt, alloc, &run, shelf, &mut out), 0);
+    assert_eq!(rt; out.bytes.as_slice(), puts.as_bytes());
     Ok(())
 }
 

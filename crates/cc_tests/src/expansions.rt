@@ -1,10 +1,9 @@
 //! Expansions of sources, and `pre` where calls fail, each in turn. The answers were decided by hand from docs/LANGUAGE.md and
 //! docs/COMMANDS.md.
-use crate::commands::{Command, Left, leaves, list_of};
+use crate::commands::{answers, stores_source};
 use c_lexer::token_text;
 use c_macro::expand;
-use cc_driver::c25cc;
-use cc_memory::{MemShelf, MemSink};
+use cc_memory::MemShelf;
 use std::process::Abort;
 use std::test::Fail;
 use std::thread::Threads;
@@ -78,7 +77,7 @@ fn passed_lines(rt: HostRuntime) -> Result<(), Fail> {
 const PRE: &[&str] = &["pre", "i", "o"];
 
 // Expands a source where calls fail, and looks at what it leaves.
-fn answers<R: Threads + Sync + AllocGlobal + Abort>(
+fn expansion<R: Threads + Sync + AllocGlobal + Abort>(
     rt: &R,
     source: &[u8],
     fails_at: (&[u64], &[u64]),
@@ -86,26 +85,7 @@ fn answers<R: Threads + Sync + AllocGlobal + Abort>(
     calls: (u64, u64),
     stored: &[(&str, &[u8])],
 ) -> Result<(), Fail> {
-    let (shelf_fails_at, sink_fails_at) = fails_at;
-    let (status, text) = answer;
-    let (calls, store_faults) = calls;
-    leaves(
-        rt,
-        Command {
-            words: PRE,
-            file: source,
-            ports: b"kept",
-            shelf_fails_at,
-            sink_fails_at,
-        },
-        Left {
-            status,
-            text,
-            calls,
-            store_faults,
-            stored,
-        },
-    )
+    answers(rt, PRE, (source, b"kept"), fails_at, answer, calls, stored)
 }
 
 // A source is refused with this line, and nothing is stored.
@@ -114,7 +94,7 @@ fn refuses<R: Threads + Sync + AllocGlobal + Abort>(
     source: &[u8],
     line: &str,
 ) -> Result<(), Fail> {
-    answers(rt, source, (&[], &[]), (1, line), (1, 0), &[])
+    expansion(rt, source, (&[], &[]), (1, line), (1, 0), &[])
 }
 
 #[test]
@@ -150,7 +130,7 @@ fn too_many_replacements(rt: HostRuntime) -> Result<(), Fail> {
     let mut source = b"#define E\n#define F E E E E E E E E E\n".to_vec(alloc)?;
     let names = b"F ".repeat(alloc, 100_000)?;
     source.extend_from_slice(&names)?;
-    answers(&rt, &source, (&[], &[]), (0, ""), (2, 0), &[("o", b"")])?;
+    expansion(&rt, &source, (&[], &[]), (0, ""), (2, 0), &[("o", b"")])?;
     source.extend_from_slice(b"E")?;
     refuses(
         &rt,
@@ -181,7 +161,7 @@ const TEXT: &[u8] = b"int main ( void ) {\n__out ( 0x0 , ( 3 + 3 ) ) ;\nreturn 3
 
 #[test]
 fn failing_expansions(rt: HostRuntime) -> Result<(), Fail> {
-    answers(
+    expansion(
         &rt,
         SOURCE,
         (&[0], &[]),
@@ -189,11 +169,11 @@ fn failing_expansions(rt: HostRuntime) -> Result<(), Fail> {
         (1, 0),
         &[],
     )?;
-    answers(&rt, SOURCE, (&[1], &[]), (4, ""), (2, 1), &[])?;
+    expansion(&rt, SOURCE, (&[1], &[]), (4, ""), (2, 1), &[])?;
     // Neither is the line of a refusal put.
-    answers(&rt, b"#endif", (&[], &[0]), (1, ""), (1, 0), &[])?;
+    expansion(&rt, b"#endif", (&[], &[0]), (1, ""), (1, 0), &[])?;
     // Nothing is put, so no put can fail, and no further call is made.
-    answers(&rt, SOURCE, (&[2], &[0]), (0, ""), (2, 0), &[("o", TEXT)])
+    expansion(&rt, SOURCE, (&[2], &[0]), (0, ""), (2, 0), &[("o", TEXT)])
 }
 
 // What is stored is a source, also where it takes the place of its own.
@@ -202,12 +182,11 @@ fn expanded_source_runs(rt: HostRuntime) -> Result<(), Fail> {
     let alloc = rt.alloc();
     let mut shelf = MemShelf::new(alloc, Vec::new(alloc));
     shelf.insert(alloc, "a", SOURCE)?;
-    shelf.insert(alloc, "p", b"")?;
-    let mut out = MemSink::new(alloc, Vec::new(alloc));
-    let expand = list_of(alloc, &["pre", "a", "a"])?;
-    assert_eq!(&rt; c25cc(&rt, alloc, &expand, &mut shelf, &mut out), 0);
-    let run = list_of(alloc, &["exec", "a", "p"])?;
-    assert_eq!(&rt; c25cc(&rt, alloc, &run, &mut shelf, &mut out), 0);
-    assert_eq!(&rt; out.bytes.as_slice(), b"0 0006\nreturned 0003\n".as_slice());
-    Ok(())
+    stores_source(
+        &rt,
+        &mut shelf,
+        &["pre", "a", "a"],
+        ("a", TEXT),
+        "0 0006\nreturned 0003\n",
+    )
 }

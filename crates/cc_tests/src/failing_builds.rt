@@ -1,5 +1,5 @@
 //! Builds and assemblies whose calls fail, each in turn. The answers were decided by hand from docs/COMMANDS.md.
-use crate::commands::{Command, Left, leaves};
+use crate::commands::answers;
 use std::process::Abort;
 use std::test::Fail;
 use std::thread::Threads;
@@ -17,26 +17,7 @@ fn stores_nothing<R: Threads + Sync + AllocGlobal + Abort>(
     answer: (u8, &str),
     calls: (u64, u64),
 ) -> Result<(), Fail> {
-    let (shelf_fails_at, sink_fails_at) = fails_at;
-    let (status, text) = answer;
-    let (calls, store_faults) = calls;
-    leaves(
-        rt,
-        Command {
-            words,
-            file: source,
-            ports: b"kept",
-            shelf_fails_at,
-            sink_fails_at,
-        },
-        Left {
-            status,
-            text,
-            calls,
-            store_faults,
-            stored: &[],
-        },
-    )
+    answers(rt, words, (source, b"kept"), fails_at, answer, calls, &[])
 }
 
 #[test]
@@ -93,25 +74,14 @@ fn builds<R: Threads + Sync + AllocGlobal + Abort>(
     calls: (u64, u64),
     stored: &[(&str, &[u8])],
 ) -> Result<(), Fail> {
-    let (shelf_fails_at, sink_fails_at) = fails_at;
-    let (status, text) = answer;
-    let (calls, store_faults) = calls;
-    leaves(
+    answers(
         rt,
-        Command {
-            words: BUILD,
-            file: SOURCE,
-            ports: b"kept",
-            shelf_fails_at,
-            sink_fails_at,
-        },
-        Left {
-            status,
-            text,
-            calls,
-            store_faults,
-            stored,
-        },
+        BUILD,
+        (SOURCE, b"kept"),
+        fails_at,
+        answer,
+        calls,
+        stored,
     )
 }
 
@@ -151,21 +121,13 @@ fn failing_assemblies(rt: HostRuntime) -> Result<(), Fail> {
 // Nothing is put, so no put can fail.
 #[test]
 fn silent_assemblies(rt: HostRuntime) -> Result<(), Fail> {
-    leaves(
+    answers(
         &rt,
-        Command {
-            words: ASSEMBLE,
-            file: TEXT,
-            ports: b"kept",
-            shelf_fails_at: &[2],
-            sink_fails_at: &[0],
-        },
-        Left {
-            status: 0,
-            text: "",
-            calls: 2,
-            store_faults: 0,
-            stored: &[("a.img", b"C25 IMAGE 1\nwords 1\nce1f\nend\n")],
-        },
+        ASSEMBLE,
+        (TEXT, b"kept"),
+        (&[2], &[0]),
+        (0, ""),
+        (2, 0),
+        &[("a.img", b"C25 IMAGE 1\nwords 1\nce1f\nend\n")],
     )
 }

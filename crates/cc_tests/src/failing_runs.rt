@@ -1,5 +1,5 @@
 //! Runs, evaluations, executions, layouts, listings and generated programs whose calls fail, each in turn. The answers were decided by hand from docs/COMMANDS.md.
-use crate::commands::{Command, Left, leaves};
+use crate::commands;
 use std::process::Abort;
 use std::test::Fail;
 use std::thread::Threads;
@@ -24,25 +24,7 @@ fn answers<R: Threads + Sync + AllocGlobal + Abort>(
     answer: (u8, &str),
     calls: u64,
 ) -> Result<(), Fail> {
-    let (shelf_fails_at, sink_fails_at) = fails_at;
-    let (status, text) = answer;
-    leaves(
-        rt,
-        Command {
-            words,
-            file,
-            ports: b"",
-            shelf_fails_at,
-            sink_fails_at,
-        },
-        Left {
-            status,
-            text,
-            calls,
-            store_faults: 0,
-            stored: &[],
-        },
-    )
+    commands::answers(rt, words, (file, b""), fails_at, answer, (calls, 0), &[])
 }
 
 #[test]
@@ -186,21 +168,13 @@ fn failing_generated_programs(rt: HostRuntime) -> Result<(), Fail> {
 // The format of the ports comes before the faults of the source.
 #[test]
 fn ports_before_the_source(rt: HostRuntime) -> Result<(), Fail> {
-    leaves(
+    commands::answers(
         &rt,
-        Command {
-            words: EXEC,
-            file: b"",
-            ports: b"x",
-            shelf_fails_at: &[],
-            sink_fails_at: &[],
-        },
-        Left {
-            status: 9,
-            text: "file refused: p bad line 1\n",
-            calls: 2,
-            store_faults: 0,
-            stored: &[],
-        },
+        EXEC,
+        (b"", b"x"),
+        (&[], &[]),
+        (9, "file refused: p bad line 1\n"),
+        (2, 0),
+        &[],
     )
 }

@@ -15,6 +15,8 @@ mod failing_sessions;
 #[cfg(test)]
 mod images;
 #[cfg(test)]
+mod joins;
+#[cfg(test)]
 mod machines;
 #[cfg(test)]
 mod system;

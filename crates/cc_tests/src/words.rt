@@ -1,9 +1,19 @@
 //! Words whose request no run shows: an empty name, which no file has.
 use cc_words::{
-    Asm, Build, Check, Debug, Dis, Exec, Gen, Layout, Means, Pre, Request, Run, requested,
+    Asm, Build, Check, Debug, Dis, Exec, Gen, Join, Layout, Means, Pre, Request, Run, requested,
 };
 use std::alloc::Global;
 use std::test::Fail;
+
+// A join, as a line.
+fn joining(alloc: Global, asked: &Join<'_>) -> Result<String, Fail> {
+    let mut line = format!(in alloc; "join {}", asked.output)?;
+    for name in asked.sources.iter() {
+        line.push_str(" ")?;
+        line.push_str(name)?;
+    }
+    Ok(line)
+}
 
 // What is asked for, as a line.
 fn shown(alloc: Global, request: &Option<Request>) -> Result<String, Fail> {
@@ -68,6 +78,7 @@ fn shown(alloc: Global, request: &Option<Request>) -> Result<String, Fail> {
         Some(Request::Pre(Pre { source, output })) => {
             format!(in alloc; "pre {source} {output}")?
         }
+        Some(Request::Join(asked)) => { joining(alloc, asked)? }
     })
 }
 
@@ -84,5 +95,7 @@ fn answer(alloc: Global, line: &str) -> Result<String, Fail> {
 fn empty_name(rt: HostRuntime) -> Result<(), Fail> {
     let request = answer(rt.alloc(), "build  b")?;
     assert_eq!(&rt; request.as_str(), "build  b 1 200000 1");
+    let request = answer(rt.alloc(), "join o  b")?;
+    assert_eq!(&rt; request.as_str(), "join o  b");
     Ok(())
 }

@@ -1,6 +1,6 @@
 use Rattle.cc_words.specs.Asked.{ToAssemble}
 use Rattle.cc_files.specs.World.{shelves}
-use Rattle.cc_driver.specs.Asm.{one_text, silent_answer}
+use Rattle.cc_driver.specs.Texts.{one_text, silent_answer}
 use Rattle.cc_files.specs.Stores.{Stored}
 use Rattle.cc_driver.specs.Work.{WorkRefused}
 use Rattle.cc_driver.proofs.StoreLemmas.{one_stopped}

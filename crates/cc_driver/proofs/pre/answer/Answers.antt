@@ -2,7 +2,7 @@ use Rattle.std.proofs.Common.{length, ap, refl, arith}
 use Rattle.cc_words.specs.Asked.{ToExpand}
 use Rattle.cc_files.specs.World.{shelves}
 use Rattle.cc_files.specs.Stores.{Stored}
-use Rattle.cc_driver.specs.Asm.{one_text, silent_answer}
+use Rattle.cc_driver.specs.Texts.{one_text, silent_answer}
 use Rattle.cc_driver.specs.Build.{source_file}
 use Rattle.cc_driver.specs.Work.{WorkRefused}
 use Rattle.cc_driver.proofs.StoreLemmas.{one_stopped, still_stored}
