@@ -14,7 +14,7 @@ use word_base::NoMemory;
 pub(crate) enum Position {
     /// At the start of an external.
     AtStart,
-    /// Within one, outside braces; an `=` may be the last token.
+    /// Within one, outside braces; whether `=` is the last token.
     Within { assigned: bool },
     /// Within so many braces more than one, which are those of a list or of a body.
     Braced { list: bool, depth: usize },
