@@ -76,13 +76,13 @@ last_stays : left (Word Int ∷ a ∷ Mark Semicolon ∷ Word Extern ∷ []) ≡
 last_stays = refl
 
 -- `int a[] = {a} extern ;`
-behind_list : left (Word Int ∷ a ∷ Mark OpenBracket ∷ Mark CloseBracket ∷ Mark Assign ∷ Mark OpenBrace ∷ a ∷ Mark CloseBrace ∷ Word Extern ∷ Mark Semicolon ∷ [])
+after_list : left (Word Int ∷ a ∷ Mark OpenBracket ∷ Mark CloseBracket ∷ Mark Assign ∷ Mark OpenBrace ∷ a ∷ Mark CloseBrace ∷ Word Extern ∷ Mark Semicolon ∷ [])
     ≡ Word Int ∷ a ∷ Mark OpenBracket ∷ Mark CloseBracket ∷ Mark Assign ∷ Mark OpenBrace ∷ a ∷ Mark CloseBrace ∷ Word Extern ∷ Mark Semicolon ∷ []
-behind_list = refl
+after_list = refl
 
 -- `int a() {{a;} extern a;} extern int a;`
-behind_body : left (Word Int ∷ a ∷ Mark OpenParen ∷ Mark CloseParen ∷ Mark OpenBrace ∷ Mark OpenBrace ∷ a ∷ Mark Semicolon ∷ Mark CloseBrace ∷ Word Extern ∷ a ∷ Mark Semicolon ∷ Mark CloseBrace
+after_body : left (Word Int ∷ a ∷ Mark OpenParen ∷ Mark CloseParen ∷ Mark OpenBrace ∷ Mark OpenBrace ∷ a ∷ Mark Semicolon ∷ Mark CloseBrace ∷ Word Extern ∷ a ∷ Mark Semicolon ∷ Mark CloseBrace
     ∷ Word Extern ∷ Word Int ∷ a ∷ Mark Semicolon ∷ [])
     ≡ Word Int ∷ a ∷ Mark OpenParen ∷ Mark CloseParen ∷ Mark OpenBrace ∷ Mark OpenBrace ∷ a ∷ Mark Semicolon ∷ Mark CloseBrace ∷ Word Extern ∷ a ∷ Mark Semicolon ∷ Mark CloseBrace
     ∷ Word Int ∷ a ∷ Mark Semicolon ∷ []
-behind_body = refl
+after_body = refl

@@ -10,12 +10,12 @@ use Rattle.word_base.specs.Name.{IsNameStart, IsNamePart, IsName}
 use Rattle.c_tree.specs.c_syntax.declared.token.Keyword.{Keyword}
 use Rattle.c_tree.specs.c_syntax.declared.token.Keyword.TheVariants as keyword
 use Rattle.c_tree.specs.c_syntax.FixedTexts.{keyword_text}
-use Rattle.c_units.specs.Statics.{is_digit, is_marked, marked_behind, ends_in_number, static_name}
+use Rattle.c_units.specs.Statics.{is_digit, ends_in_underscores, marked_before_digits, ends_in_number, static_name}
 
 -- a text that is read from its end
 abbrev from_end : List ℕ → Bool
 from_end [] = false
-from_end (code ∷ front) = is_digit code && marked_behind front
+from_end (code ∷ front) = is_digit code && marked_before_digits front
 
 ends_from : (name : List ℕ) → ends_in_number name ≡ from_end (reverse name)
 ends_from name = refl
@@ -46,14 +46,14 @@ digits_reversed =
     (λ m text ten before. subst AreDigitCodes (sym (reverse-append text ((48 + m % 10) ∷ []))) ((omega arith, omega arith), before))
 
 -- what is in front of digits says whether a text ends in a number
-marked_digits : (digits rest : List ℕ) → AreDigitCodes digits → marked_behind rest ≡ true → marked_behind (digits ++ rest) ≡ true
+marked_digits : (digits rest : List ℕ) → AreDigitCodes digits → marked_before_digits rest ≡ true → marked_before_digits (digits ++ rest) ≡ true
 marked_digits [] rest are marked = marked
 marked_digits (c ∷ digits) rest are marked =
-    ap (λ b. if b then marked_behind (digits ++ rest) else is_marked (c ∷ digits ++ rest)) (digit_true c are.0) ∙ marked_digits digits rest are.1 marked
+    ap (λ b. if b then marked_before_digits (digits ++ rest) else ends_in_underscores (c ∷ digits ++ rest)) (digit_true c are.0) ∙ marked_digits digits rest are.1 marked
 
-from_digits : (digits rest : List ℕ) → 0 < length digits → AreDigitCodes digits → marked_behind rest ≡ true → from_end (digits ++ rest) ≡ true
+from_digits : (digits rest : List ℕ) → 0 < length digits → AreDigitCodes digits → marked_before_digits rest ≡ true → from_end (digits ++ rest) ≡ true
 from_digits [] rest some are marked = absurd (omega arith)
-from_digits (c ∷ digits) rest some are marked = ap (λ b. b && marked_behind (digits ++ rest)) (digit_true c are.0) ∙ marked_digits digits rest are.1 marked
+from_digits (c ∷ digits) rest some are marked = ap (λ b. b && marked_before_digits (digits ++ rest)) (digit_true c are.0) ∙ marked_digits digits rest are.1 marked
 
 -- a static's new name, from its end
 from_its_end : (n : ℕ) (name : List ℕ) → reverse (static_name n name) ≡ reverse (decimal n) ++ 95 ∷ 95 ∷ reverse name
@@ -94,8 +94,8 @@ pub one_static : (m n : ℕ) (a b : List ℕ) → m < 2 ^ 64 → n < 2 ^ 64 → 
 one_static m n a b low high e =
     let split = digits_split (reverse (decimal m)) (reverse (decimal n)) (95 ∷ reverse a) (95 ∷ reverse b) (digits_reversed m low) (digits_reversed n high)
     (sym (from_its_end m a) ∙ ap reverse e ∙ from_its_end n b) in
-    let behind : reverse a ≡ reverse b = cc (split.1) in
-    (decimal_injective m n low high (reverse_one (decimal m) (decimal n) split.0), reverse_one a b behind)
+    let fronts : reverse a ≡ reverse b = cc (split.1) in
+    (decimal_injective m n low high (reverse_one (decimal m) (decimal n) split.0), reverse_one a b fronts)
 
 -- ---- it is a name
 

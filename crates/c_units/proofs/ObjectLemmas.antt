@@ -27,24 +27,24 @@ item_turn f number statics extern whole made new list i x is below so_far h =
     ∙ so_far
 
 -- an object that is no definition among these
-abbrev pub is_other : List (List ℕ) → ObjectTree → Bool
-is_other names o = not (is_name_among o.joined names)
+abbrev pub is_undefined : List (List ℕ) → ObjectTree → Bool
+is_undefined names o = not (is_name_among o.joined names)
 
-find_first : (names : List (List ℕ)) (o : ObjectTree) (rest : List ObjectTree) → is_name_among o.joined names ≡ false → find (is_other names) (o ∷ rest) ≡ Some o
+find_first : (names : List (List ℕ)) (o : ObjectTree) (rest : List ObjectTree) → is_name_among o.joined names ≡ false → find (is_undefined names) (o ∷ rest) ≡ Some o
 find_first names o rest e = rw e refl
 
-find_later : (names : List (List ℕ)) (o : ObjectTree) (rest : List ObjectTree) → is_name_among o.joined names ≡ true → find (is_other names) (o ∷ rest) ≡ find (is_other names) rest
+find_later : (names : List (List ℕ)) (o : ObjectTree) (rest : List ObjectTree) → is_name_among o.joined names ≡ true → find (is_undefined names) (o ∷ rest) ≡ find (is_undefined names) rest
 find_later names o rest e = rw e refl
 
-pub other_found : {A : Type 0} (f : A → ObjectTree) (names : List (List ℕ)) (whole : Option ObjectTree) (list : List A) (i : ℕ) (x : A) → x ≡ get_or list i x → i < length list
-    → find (is_other names) (map f (drop i list)) ≡ whole → is_name_among (f x).joined names ≡ false → whole ≡ Some (f x)
-other_found f names whole list i x is below so_far other =
-    sym so_far ∙ ap (λ l. find (is_other names) (map f l)) (first_left list i x is below) ∙ find_first names (f x) (map f (drop (i + 1) list)) other
+pub undefined_found : {A : Type 0} (f : A → ObjectTree) (names : List (List ℕ)) (whole : Option ObjectTree) (list : List A) (i : ℕ) (x : A) → x ≡ get_or list i x → i < length list
+    → find (is_undefined names) (map f (drop i list)) ≡ whole → is_name_among (f x).joined names ≡ false → whole ≡ Some (f x)
+undefined_found f names whole list i x is below so_far other =
+    sym so_far ∙ ap (λ l. find (is_undefined names) (map f l)) (first_left list i x is below) ∙ find_first names (f x) (map f (drop (i + 1) list)) other
 
-pub other_later : {A : Type 0} (f : A → ObjectTree) (names : List (List ℕ)) (whole : Option ObjectTree) (list : List A) (i : ℕ) (x : A) → x ≡ get_or list i x → i < length list
-    → find (is_other names) (map f (drop i list)) ≡ whole → is_name_among (f x).joined names ≡ true → find (is_other names) (map f (drop (i + 1) list)) ≡ whole
-other_later f names whole list i x is below so_far defined =
-    sym (find_later names (f x) (map f (drop (i + 1) list)) defined) ∙ ap (λ l. find (is_other names) (map f l)) (sym (first_left list i x is below)) ∙ so_far
+pub undefined_later : {A : Type 0} (f : A → ObjectTree) (names : List (List ℕ)) (whole : Option ObjectTree) (list : List A) (i : ℕ) (x : A) → x ≡ get_or list i x → i < length list
+    → find (is_undefined names) (map f (drop i list)) ≡ whole → is_name_among (f x).joined names ≡ true → find (is_undefined names) (map f (drop (i + 1) list)) ≡ whole
+undefined_later f names whole list i x is below so_far defined =
+    sym (find_later names (f x) (map f (drop (i + 1) list)) defined) ∙ ap (λ l. find (is_undefined names) (map f l)) (sym (first_left list i x is below)) ∙ so_far
 
 -- a file of a turn, of this number
 pub file_turn : {A : Type 0} (f : A → FileTree) (n : ℕ) (whole made new : List ObjectTree) (list : List A) (i : ℕ) (x : A) → x ≡ get_or list i x → i < length list

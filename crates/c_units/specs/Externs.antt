@@ -7,8 +7,8 @@ use Rattle.c_tree.specs.c_syntax.declared.token.TokenKind.TheVariants.{Word, Mar
 use Rattle.c_tree.specs.c_syntax.declared.token.Keyword.TheVariants.{Extern}
 use Rattle.c_tree.specs.c_syntax.declared.token.Punct.TheVariants.{OpenBrace, CloseBrace, Semicolon, Assign}
 
--- where the tokens before a token leave off: at the start of an external; within one, outside braces, where an `=` may be the
--- last token; or within so many braces more than one, which are those of a list or of a body
+-- where the tokens before a token leave off: at the start of an external; within one, outside braces, and whether `=` is the last
+-- token; or within so many braces more than one, which are those of a list or of a body
 pub data Position : Type 0 where
   AtStart : Position
   Within : Bool → Position

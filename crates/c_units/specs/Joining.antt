@@ -59,7 +59,7 @@ count_fault files = if nat_lt most_tokens (token_count files) then Some (TooMany
 abbrev pub joint_fault : List FileTree → Option UnitFault
 joint_fault files = option_or (reserved_fault 1 files) (option_or (undefined_fault files) (count_fault files))
 
--- the files with a fault of them all
+-- files without faults of their own, and why they aren't joined
 pub record HasJointFault (sources : List (List ℕ)) (fault : UnitFault) : Type 0 where
   pub files : List FileTree
   pub are : AreFiles sources files

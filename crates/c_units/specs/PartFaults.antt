@@ -1,4 +1,4 @@
--- The faults of a file that faults of its parts are.
+-- The fault of a file for a fault of the lexer, parser or checker.
 use Rattle.std.specs.Prelude.{ℕ, Option, Some, None}
 use Rattle.c_lexer.specs.declared.fault.LexFault.{LexFault}
 use Rattle.c_lexer.specs.declared.fault.LexFault.TheVariants as lex_faults

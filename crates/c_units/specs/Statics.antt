@@ -21,24 +21,25 @@ statics_of unit = flat_map statics_in unit
 abbrev pub static_name : ℕ → List ℕ → List ℕ
 static_name number name = name ++ (codes "__" ++ decimal number)
 
--- a text that is read from its end: digits, at least one, and then `__`
 abbrev pub is_digit : ℕ → Bool
 is_digit code = nat_le 48 code && nat_le code 57
 
-abbrev pub is_marked : List ℕ → Bool
-is_marked (last ∷ before ∷ front) = last == 95 && before == 95
-is_marked front = false
+-- this text and the next are read from their end
+abbrev pub ends_in_underscores : List ℕ → Bool
+ends_in_underscores (last ∷ before ∷ front) = last == 95 && before == 95
+ends_in_underscores front = false
 
-abbrev pub marked_behind : List ℕ → Bool
-marked_behind [] = false
-marked_behind (code ∷ front) = if is_digit code then marked_behind front else is_marked (code ∷ front)
+abbrev pub marked_before_digits : List ℕ → Bool
+marked_before_digits [] = false
+marked_before_digits (code ∷ front) = if is_digit code then marked_before_digits front else ends_in_underscores (code ∷ front)
 
 abbrev pub ends_in_number : List ℕ → Bool
 ends_in_number name = from_end (reverse name)
   where
+    -- a text that is read from its end: digits, at least one, and then `__`
     from_end : List ℕ → Bool
     from_end [] = false
-    from_end (code ∷ front) = is_digit code && marked_behind front
+    from_end (code ∷ front) = is_digit code && marked_before_digits front
 
 -- a name that none may have in a file with these statics: it ends in `__` and digits, or is that of a static and is too long to get
 -- another

@@ -1,5 +1,5 @@
 //! The words `extern` that are dropped.
-ghost use Rattle.std.specs.Prelude.{◌≡◌, ◌+◌, ◌<◌, ◌^◌, ◌&&◌, IfOk};
+ghost use Rattle.std.specs.Prelude.{◌≡◌, ◌+◌, ◌<◌, ◌≤◌, ◌^◌, ◌&&◌, ◌++◌, ◌∷◌, IfOk};
 ghost use Rattle.c_units.specs.Externs as externs;
 ghost use Rattle.c_units.specs.Externs.{AtStart};
 ghost use Rattle.c_units.specs.Views.{position_of, depth_of};
@@ -14,7 +14,7 @@ use word_base::NoMemory;
 pub(crate) enum Position {
     /// At the start of an external.
     AtStart,
-    /// Within one, outside braces; an `=` may be the last token.
+    /// Within one, outside braces; whether `=` is the last token.
     Within { assigned: bool },
     /// Within so many braces more than one, which are those of a list or of a body.
     Braced { list: bool, depth: usize },
@@ -88,6 +88,33 @@ pub(crate) struct Kept {
     pub(crate) externs: Vec<u32>,
 }
 
+// Drops or keeps a token before the rest, and says where the tokens up to it leave off.
+fn read_token(
+    position: Position,
+    token: Token,
+    rest: &VecDeque<Token>,
+    kept: &mut Kept,
+) -> Result<Position, NoMemory>
+    requires { depth_of position + 1 < 2 ^ 63 }
+    ensures tokens { IfOk result (λ following. kept.new.tokens.items ++ externs.kept (position_of following) rest.now.items
+        ≡ kept.old.tokens.items ++ externs.kept (position_of position) (token ∷ rest.now.items)) }
+    ensures places { IfOk result (λ following. kept.new.externs.items ++ externs.extern_places (position_of following) rest.now.items
+        ≡ kept.old.externs.items ++ externs.extern_places (position_of position) (token ∷ rest.now.items)) }
+    ensures depth { IfOk result (λ following. depth_of following ≤ depth_of position + 1) }
+{
+    match rest.front() {
+        Some(next) if drops(position, &token.kind) => {
+            kept.externs.push(next.at)?;
+            Ok(Position::Within { assigned: false })
+        }
+        _ => {
+            let following = after(position, &token.kind);
+            kept.tokens.push(token)?;
+            Ok(following)
+        }
+    }
+}
+
 /// The tokens of a file without each `extern` at the start of an external.
 pub(crate) fn without_externs(alloc: Global, tokens: Vec<Token>) -> Result<Kept, NoMemory>
     ensures tokens { IfOk result (λ kept. kept.tokens.items ≡ externs.without_externs tokens.items) }
@@ -100,16 +127,7 @@ pub(crate) fn without_externs(alloc: Global, tokens: Vec<Token>) -> Result<Kept,
     let mut position = Position::AtStart;
     let mut rest = VecDeque::from(tokens);
     while let Some(token) = rest.pop_front() {
-        match rest.front() {
-            Some(next) if drops(position, &token.kind) => {
-                kept.externs.push(next.at)?;
-                position = Position::Within { assigned: false };
-            }
-            _ => {
-                position = after(position, &token.kind);
-                kept.tokens.push(token)?;
-            }
-        }
+        position = read_token(position, token, &rest, &mut kept)?;
     }
     Ok(kept)
 }

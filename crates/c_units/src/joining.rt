@@ -22,7 +22,7 @@ use c_syntax::{MOST_TOKENS, Token, TokenKind, Unit};
 use std::alloc::Global;
 use word_base::NoMemory;
 
-// Refuses more tokens than a text has.
+// Refuses more tokens than a text may have.
 fn check_count(files: &[SourceFile]) -> Result<(), UnitFault>
     requires few { length files.now ≤ 16 }
     requires short { All (λ f. length f.tokens.items ≤ most_tokens) files.now }
@@ -46,7 +46,8 @@ fn joined_kind(
     statics: &Names<'_>,
     kind: TokenKind,
 ) -> Result<TokenKind, NoMemory>
-    ensures { IfOk result (λ joined. (file : FileTree) → AreNames statics.now (statics_of file.unit) → joined ≡ renamed_kind (renaming_of static_name number file) kind) }
+    ensures { IfOk result (λ joined. (file : FileTree) → AreNames statics.now (statics_of file.unit)
+        → joined ≡ renamed_kind (renaming_of static_name number file) kind) }
 {
     match kind {
         TokenKind::Name(name) if statics.contains(name.as_str()) => Ok(TokenKind::Name(static_name(
@@ -63,13 +64,14 @@ fn push_tokens(
     alloc: Global,
     number: u8,
     statics: &Names<'_>,
-    file: Vec<Token>,
+    own: Vec<Token>,
     tokens: &mut Vec<Token>,
 ) -> Result<(), NoMemory>
-    ensures { OnOk result ((source : FileTree) → AreNames statics.now (statics_of source.unit)
-        → map (λ t. t.kind) tokens.new.items ≡ map (λ t. t.kind) tokens.old.items ++ map (λ t. renamed_kind (renaming_of static_name number source) t.kind) file.items) }
+    ensures { OnOk result ((file : FileTree) → AreNames statics.now (statics_of file.unit)
+        → map (λ t. t.kind) tokens.new.items
+        ≡ map (λ t. t.kind) tokens.old.items ++ map (λ t. renamed_kind (renaming_of static_name number file) t.kind) own.items) }
 {
-    for token in file {
+    for token in own {
         tokens.push(Token {
             kind: joined_kind(alloc, number, statics, token.kind)?,
             at: token.at,
@@ -120,11 +122,12 @@ fn placed(alloc: Global, tokens: &[Token]) -> Result<Vec<Token>, NoMemory>
     let text = token_text(alloc, tokens)?;
     match lex(alloc, &text) {
         Ok(placed) => Ok(placed),
+        // The text has tokens, so only memory can be wanting.
         Err(_) => Err(NoMemory),
     }
 }
 
-// Refuses the first fault of the files that is none of one of them.
+// Refuses the first fault that no file has by itself.
 fn check_all(alloc: Global, files: &[SourceFile]) -> Result<(), UnitFault>
     requires few { length files.now ≤ 16 }
     requires short { All (λ f. length f.tokens.items ≤ most_tokens) files.now }
@@ -149,12 +152,12 @@ fn first_outcome(alloc: Global, sources: &[Vec<u8>]) -> Result<Vec<Token>, UnitF
     Ok(placed(alloc, &tokens)?)
 }
 
-/// The tokens of files, from one to sixteen, of less than 2^32 bytes each, in one list: those of each file in order, without each
-/// `extern` at the start of an external, and with the name of a static followed by `__` and the number of its file. They have the
-/// places and lengths of the text that `token_text` gives of them, in bytes.
+/// The tokens of files, from one to sixteen, of less than 2^32 bytes each, in one list: those of each file in order,
+/// without each `extern` at the start of an external, and with the name of a static followed by `__` and the number of
+/// its file. They have the places and lengths of the text that `token_text` gives of them, in bytes.
 ///
-/// A refusal names the first fault, in the order of `UnitFault`'s kinds but for the first three, of which each file is tried for all before
-/// the next file is (docs/LANGUAGE.md, "Programs of several files"; ISO 9899:1990 6.1.2.2).
+/// A refusal names the first fault, in the order of `UnitFault`'s kinds but for the first three, of which each file is
+/// tried for all before the next file is (docs/LANGUAGE.md, "Programs of several files"; ISO 9899:1990 6.1.2.2).
 pub fn join_units(alloc: Global, sources: &[Vec<u8>]) -> Result<Vec<Token>, UnitFault>
     requires some { 1 ≤ length sources.now }
     requires few { length sources.now ≤ 16 }

@@ -6,11 +6,12 @@ ghost use Rattle.c_tree.specs.TypedTree.{ProgramTree};
 ghost use Rattle.c_renaming.specs.RenamedTokens.{renamed_kind};
 ghost use Rattle.c_units.specs.Statics.{static_name};
 ghost use Rattle.c_units.specs.Files.{FileTree, AreFiles};
-ghost use Rattle.c_units.specs.Joining.{Choice, renaming_of, Joined, reserved_fault};
+ghost use Rattle.c_units.specs.declared.fault.UnitFault.{UnitFault};
+ghost use Rattle.c_units.specs.Joining.{Choice, renaming_of, Joined, reserved_fault, Joins, HasFault, IsSameFault};
 ghost use Rattle.c_units.specs.Choices.{StaticOf, all_statics, IsOfStatic, IsFresh, HasProgram, HasRenamed};
 
-/// The names that the statics of up to sixteen files get are fresh: no file has one of them, no two statics get one, and
-/// the language gives none a meaning.
+/// The names that the statics of up to sixteen files get are fresh: no file has one of them, no two statics get one,
+/// and the language gives none a meaning.
 pub fn static_names_are_fresh()
     ensures { (sources : List (List ℕ)) (files : List FileTree)
         → length sources ≤ 16 → AreFiles sources files → reserved_fault 1 files ≡ None → IsFresh static_name files }
@@ -28,4 +29,21 @@ pub fn fresh_choices_agree()
     ensures { (files : List FileTree) (from to : Choice) (tokens others : List Token) (program : ProgramTree)
         → IsFresh from files → IsFresh to files → Joined from files tokens → Joined to files others
         → HasProgram tokens program → HasRenamed files from to others program }
+{}
+
+/// Whichever fresh names the statics get, the joined tokens have a typed program exactly where those that `join_units`
+/// answers have one, and it is the same but for names and places.
+pub fn answers_are_typed_with_any_names()
+    ensures { (sources : List (List ℕ)) (tokens others : List Token) (choice : Choice) (joins : Joins sources tokens)
+        → length sources ≤ 16 → IsFresh choice joins.files → Joined choice joins.files others
+        → ((program : ProgramTree) → HasProgram tokens program → HasRenamed joins.files static_name choice others program)
+        × ((program : ProgramTree) → HasProgram others program → HasRenamed joins.files choice static_name tokens program) }
+{}
+
+/// Files have at most one list of joined tokens, at most one fault but for the place that one of syntax names, and not
+/// both.
+pub fn one_outcome()
+    ensures one_joined { (sources : List (List ℕ)) (a b : List Token) → Joins sources a → Joins sources b → a ≡ b }
+    ensures one_fault { (sources : List (List ℕ)) (a b : UnitFault) → HasFault sources a → HasFault sources b → IsSameFault a b }
+    ensures not_both { (sources : List (List ℕ)) (tokens : List Token) (fault : UnitFault) → Joins sources tokens → HasFault sources fault → ⊥ }
 {}

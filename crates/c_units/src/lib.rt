@@ -16,4 +16,7 @@ pub use c_parser::ParseFault;
 pub use c_rules::{LimitName, TypeFault};
 pub use fault::UnitFault;
 pub use joining::join_units;
-pub use laws::{fresh_choices_agree, static_names_are_fresh, statics_keep_to_their_files};
+pub use laws::{
+    answers_are_typed_with_any_names, fresh_choices_agree, one_outcome, static_names_are_fresh,
+    statics_keep_to_their_files,
+};

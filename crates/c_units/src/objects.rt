@@ -49,7 +49,8 @@ fn places_of(alloc: Global, places: &[u32]) -> Result<IndexSet<u32>, NoMemory>
 
 // The name in the joined text of one that a file has.
 fn joined_name(alloc: Global, file: &Declaring<'_>, name: &str) -> Result<Text, NoMemory>
-    ensures { IfOk result (λ text. (list : List (List ℕ)) → AreNames file.now.statics list → text ≡ definitions.joined_name file.now.number list name.now) }
+    ensures { IfOk result (λ text. (list : List (List ℕ)) → AreNames file.now.statics list
+        → text ≡ definitions.joined_name file.now.number list name.now) }
 {
     if file.statics.contains(name) {
         static_name(alloc, file.number, name)
@@ -163,7 +164,7 @@ fn defined<'a>(alloc: Global, objects: &'a [DeclaredObject<'_>]) -> Result<Names
 }
 
 // The name of the first that isn't among them.
-fn first_other<'a>(names: &Names<'_>, objects: &[DeclaredObject<'a>]) -> Option<&'a str>
+fn first_undefined<'a>(names: &Names<'_>, objects: &[DeclaredObject<'a>]) -> Option<&'a str>
     ensures { AreNames names.now (definitions.defined_names (map object_of objects.now))
         → option_map (λ name. name.now) result ≡ undefined_name (map object_of objects.now) }
 {
@@ -183,7 +184,7 @@ pub(crate) fn check_defined(alloc: Global, files: &[SourceFile]) -> Result<(), U
 {
     let objects = declared(alloc, files)?;
     let names = defined(alloc, &objects)?;
-    match first_other(&names, &objects) {
+    match first_undefined(&names, &objects) {
         Some(name) => Err(UnitFault::Undefined {
             name: Text::copy_of(alloc, name)?,
         }),

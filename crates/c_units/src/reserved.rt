@@ -18,8 +18,8 @@ use word_base::NoMemory;
 const LONGEST_STATIC: usize = 120;
 
 // Whether a text ends in `__`.
-fn is_marked(text: &[u8]) -> bool
-    ensures { result ≡ names.is_marked (reverse text.now) }
+fn ends_in_underscores(text: &[u8]) -> bool
+    ensures { result ≡ names.ends_in_underscores (reverse text.now) }
 {
     let Some((last, rest)) = text.split_last() else {
         return false;
@@ -32,12 +32,12 @@ fn is_marked(text: &[u8]) -> bool
 
 // Whether a text ends in `__` and digits, if any.
 fn is_numbered(text: &[u8]) -> bool
-    ensures { result ≡ names.marked_behind (reverse text.now) }
+    ensures { result ≡ names.marked_before_digits (reverse text.now) }
 {
     let mut front = text;
     while let Some((last, rest)) = front.split_last() {
         if !last.is_ascii_digit() {
-            return is_marked(front);
+            return ends_in_underscores(front);
         }
         front = rest;
     }

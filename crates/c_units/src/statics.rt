@@ -23,7 +23,8 @@ fn is_static(specs: &Specs) -> bool
 
 // Adds the names of items.
 fn add_items<'a>(names: &mut Names<'a>, items: &'a [Item]) -> Result<(), NoMemory>
-    ensures { OnOk result ((name : List ℕ) → has_name names.new name ≡ has_name names.old name || is_name_among name (map (λ item. item.name) (map item_of items.now))) }
+    ensures { OnOk result ((name : List ℕ)
+        → has_name names.new name ≡ has_name names.old name || is_name_among name (map (λ item. item.name) (map item_of items.now))) }
 {
     for item in items {
         names.insert(item.name.as_str())?;
@@ -33,7 +34,8 @@ fn add_items<'a>(names: &mut Names<'a>, items: &'a [Item]) -> Result<(), NoMemor
 
 // Adds the names that an external declares with `static`.
 fn add_statics<'a>(names: &mut Names<'a>, external: &'a External) -> Result<(), NoMemory>
-    ensures { OnOk result ((name : List ℕ) → has_name names.new name ≡ has_name names.old name || is_name_among name (statics_in (external_of external.now))) }
+    ensures { OnOk result ((name : List ℕ)
+        → has_name names.new name ≡ has_name names.old name || is_name_among name (statics_in (external_of external.now))) }
 {
     match external {
         External::Function(f) => {

@@ -9,6 +9,6 @@ use Rattle.c_units.proofs.joining.push_tokens.Given as goal
 
 -- the tokens so far and those that are left
 abbrev pub invariant-loop-token : goal.invariant-loop-token
-invariant-loop-token l = (source : FileTree) → AreNames l.statics (statics_of source.unit)
-    → map (λ t. t.kind) l.tokens.items ++ map (λ t. renamed_kind (renaming_of static_name l.number source) t.kind) (into_iter_items l.token-iterator)
-    ≡ map (λ t. t.kind) l.fn.tokens.items ++ map (λ t. renamed_kind (renaming_of static_name l.number source) t.kind) l.fn.file.items
+invariant-loop-token l = (file : FileTree) → AreNames l.statics (statics_of file.unit)
+    → map (λ t. t.kind) l.tokens.items ++ map (λ t. renamed_kind (renaming_of static_name l.number file) t.kind) (into_iter_items l.token-iterator)
+    ≡ map (λ t. t.kind) l.fn.tokens.items ++ map (λ t. renamed_kind (renaming_of static_name l.number file) t.kind) l.fn.own.items
