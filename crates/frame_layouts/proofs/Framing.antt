@@ -15,43 +15,36 @@ use Rattle.lay_par.specs.Jobs.{Job}
 use Rattle.lay_cert.specs.declared.certificate.Claim.TheVariants.{Optimal}
 use Rattle.lay_cert.specs.Frames.{Frame, IsFrame}
 use Rattle.mem_plan.specs.declared.data_plan.FramePlan.{FramePlan}
-use Rattle.frame_layouts.specs.declared.options.Options.{Options}
-use Rattle.frame_layouts.specs.declared.layouts.Finding.{Finding}
 use Rattle.frame_layouts.specs.declared.layouts.Layouts.{Layouts}
-use Rattle.frame_layouts.specs.Frames.{AreOptions, AreLayouts, AreBased, ClaimsHold, accesses_of, job_of, answer_for, layout_of, finding_of, claim_of, log_of, lists_with, findings_with, frame_of, frames_of, frames_with}
+use Rattle.frame_layouts.specs.Frames.{AreLayouts, AreBased, ClaimsHold, IsJob, answer_for, layout_of, finding_of, findings_of, claim_of, log_of, lists_with, findings_with, frame_of, frames_of, frames_with}
 
--- what a job's search answers
-abbrev pub answered : Job → Answer
-answered job = search_answer job.registers job.sequence job.budget
+pub lists_found : (fs : List FunctionItems) (jobs : List Job) → length jobs ≡ length fs → lists_with fs jobs (map answer_for jobs) ≡ map layout_of jobs
+lists_found [] [] same = refl
+lists_found [] (job ∷ jobs) same = absurd (omega (arith, same))
+lists_found (f ∷ fs) [] same = refl
+lists_found (f ∷ fs) (job ∷ jobs) same = ap (λ ls. layout_of job ∷ ls) (lists_found fs jobs (omega (arith, same)))
 
-pub lists_found : (o : Options) (fs : List FunctionItems) → lists_with fs (map (job_of o) fs) (map answered (map (job_of o) fs)) ≡ map (layout_of o) fs
-lists_found o [] = refl
-lists_found o (f ∷ fs) = ap (λ ls. layout_of o f ∷ ls) (lists_found o fs)
+pub findings_found : (fs : List FunctionItems) (jobs : List Job) → findings_with fs jobs (map answer_for jobs) ≡ findings_of fs jobs
+findings_found [] jobs = refl
+findings_found (f ∷ fs) [] = refl
+findings_found (f ∷ fs) (job ∷ jobs) = ap (λ xs. finding_of f.name job (answer_for job) ∷ xs) (findings_found fs jobs)
 
-abbrev pub finding_for : Options → FunctionItems → Finding
-finding_for o f = finding_of f.name (job_of o f) (answer_for o f)
-
-pub findings_found : (o : Options) (fs : List FunctionItems) → findings_with fs (map (job_of o) fs) (map answered (map (job_of o) fs)) ≡ map (finding_for o) fs
-findings_found o [] = refl
-findings_found o (f ∷ fs) = ap (λ xs. finding_for o f ∷ xs) (findings_found o fs)
-
-pub laid_out : {E : Type 0} (o : Options) (fs : List FunctionItems) (jobs : List Job) (answers : List Answer) (r : Result Layouts E)
-    → All (λ f. IsSequence (accesses_of o f)) fs → jobs ≡ map (job_of o) fs → answers ≡ map answered jobs
-    → IfOk r (λ l. l.arrangements.items ≡ lists_with fs jobs answers) → IfOk r (λ l. l.findings.items ≡ findings_with fs jobs answers) → IfOk r (AreLayouts o fs)
-laid_out o fs jobs answers (Ok l) are same found lists findings = record {
-  sequences = are;
-  arrangements = lists ∙ (ap₂ (lists_with fs) same (found ∙ ap (map answered) same) ∙ lists_found o fs);
-  findings = findings ∙ (ap₂ (findings_with fs) same (found ∙ ap (map answered) same) ∙ findings_found o fs);
+pub laid_out : {E : Type 0} (fs : List FunctionItems) (jobs : List Job) (answers : List Answer) (r : Result Layouts E) → length jobs ≡ length fs → answers ≡ map answer_for jobs
+    → IfOk r (λ l. l.arrangements.items ≡ lists_with fs jobs answers) → IfOk r (λ l. l.findings.items ≡ findings_with fs jobs answers) → IfOk r (AreLayouts fs jobs)
+laid_out fs jobs answers (Ok l) same found lists findings = record {
+  arrangements = lists ∙ (ap (lists_with fs jobs) found ∙ lists_found fs jobs same);
+  findings = findings ∙ (ap (findings_with fs jobs) found ∙ findings_found fs jobs);
 }
-laid_out o fs jobs answers (Err e) are same found lists findings = tt
+laid_out fs jobs answers (Err e) same found lists findings = tt
 
-frames_found : (o : Options) (fs : List FunctionItems) (plans : List FramePlan) → frames_with o.registers (map (finding_for o) fs) (map (layout_of o) fs) plans ≡ frames_of o fs plans
-frames_found o [] plans = refl
-frames_found o (f ∷ fs) [] = refl
-frames_found o (f ∷ fs) (plan ∷ plans) = ap (λ frames. frame_of o f plan.bases ∷ frames) (frames_found o fs plans)
+frames_found : (fs : List FunctionItems) (jobs : List Job) (plans : List FramePlan) → frames_with (findings_of fs jobs) (map layout_of jobs) plans ≡ frames_of fs jobs plans
+frames_found [] jobs plans = refl
+frames_found (f ∷ fs) [] plans = refl
+frames_found (f ∷ fs) (job ∷ jobs) [] = refl
+frames_found (f ∷ fs) (job ∷ jobs) (plan ∷ plans) = ap (λ frames. frame_of f job plan.bases ∷ frames) (frames_found fs jobs plans)
 
-pub same_frames : (o : Options) (fs : List FunctionItems) (l : Layouts) (plans : List FramePlan) → AreLayouts o fs l → frames_with o.registers l.findings.items l.arrangements.items plans ≡ frames_of o fs plans
-same_frames o fs l plans are = ap₂ (λ xs lists. frames_with o.registers xs lists plans) are.findings are.arrangements ∙ frames_found o fs plans
+pub same_frames : (fs : List FunctionItems) (jobs : List Job) (l : Layouts) (plans : List FramePlan) → AreLayouts fs jobs l → frames_with l.findings.items l.arrangements.items plans ≡ frames_of fs jobs plans
+same_frames fs jobs l plans are = ap₂ (λ xs lists. frames_with xs lists plans) are.findings are.arrangements ∙ frames_found fs jobs plans
 
 -- of the first one, and of the others
 first_of : {A : Type 0} (P : A → Type 0) (x : A) (xs : List A) → All P (x ∷ xs) → P x
@@ -64,16 +57,16 @@ others_of P x xs all = λ k d within. all (suc k) d (omega (arith, within))
 abbrev pub Arranging : Type 0
 Arranging = (k : ℕ) (seq : Sequence) (budget : ℕ) → IsSequence seq → 1 ≤ k → IsArranged seq k (answer_lists (search_answer k seq budget))
 
-pub layout_arranged : (o : Options) (f : FunctionItems) → Arranging → AreOptions o → IsSequence (accesses_of o f) → IsArranged (accesses_of o f) o.registers (layout_of o f)
-layout_arranged o f arranging options is = arranging o.registers (accesses_of o f) o.budget is options.some_registers
+pub layout_arranged : (job : Job) → Arranging → IsJob job → IsArranged job.sequence job.registers (layout_of job)
+layout_arranged job arranging is = arranging job.registers job.sequence job.budget is.sequence is.some_registers
 
-one_frame : (o : Options) (f : FunctionItems) (bases : List ℕ) → Arranging → AreOptions o → IsSequence (accesses_of o f) → IsName f.name → length bases ≡ length (layout_of o f) → IsFrame (frame_of o f bases)
-one_frame o f bases arranging options is name based =
-    let arranged = layout_arranged o f arranging options is in
+one_frame : (f : FunctionItems) (job : Job) (bases : List ℕ) → Arranging → IsJob job → IsName f.name → length bases ≡ length (layout_of job) → IsFrame (frame_of f job bases)
+one_frame f job bases arranging is name based =
+    let arranged = layout_arranged job arranging is in
     record {
       name = name;
-      some = options.some_registers;
-      few = options.few_registers;
+      some = is.some_registers;
+      few = is.few_registers;
       arranged = arranged.arranges;
       lists = arranged.few;
       based = based;
@@ -85,23 +78,27 @@ same_first a b xs ys e = cc
 same_others : (a b : ℕ) (xs ys : List ℕ) → (a ∷ xs) ≡ (b ∷ ys) → xs ≡ ys
 same_others a b xs ys e = cc
 
-pub each_frame : (o : Options) (fs : List FunctionItems) (plans : List FramePlan) → Arranging → AreOptions o → All (λ f. IsSequence (accesses_of o f)) fs → All (λ f. IsName f.name) fs → AreBased o fs plans → All IsFrame (frames_of o fs plans)
-each_frame o [] plans arranging options are names based = All-nil IsFrame
-each_frame o (f ∷ fs) [] arranging options are names based = All-nil IsFrame
-each_frame o (f ∷ fs) (plan ∷ plans) arranging options are names based =
-    All-cons IsFrame (frame_of o f plan.bases) (frames_of o fs plans)
-    (one_frame o f plan.bases arranging options (first_of (λ f. IsSequence (accesses_of o f)) f fs are) (first_of (λ (f : FunctionItems). IsName f.name) f fs names) (same_first _ _ _ _ based))
-    (each_frame o fs plans arranging options (others_of (λ f. IsSequence (accesses_of o f)) f fs are) (others_of (λ (f : FunctionItems). IsName f.name) f fs names) (same_others _ _ _ _ based))
+pub each_frame : (fs : List FunctionItems) (jobs : List Job) (plans : List FramePlan) → Arranging → All IsJob jobs → All (λ f. IsName f.name) fs → AreBased jobs plans → All IsFrame (frames_of fs jobs plans)
+each_frame [] jobs plans arranging are names based = All-nil IsFrame
+each_frame (f ∷ fs) [] plans arranging are names based = All-nil IsFrame
+each_frame (f ∷ fs) (job ∷ jobs) [] arranging are names based = All-nil IsFrame
+each_frame (f ∷ fs) (job ∷ jobs) (plan ∷ plans) arranging are names based =
+    All-cons IsFrame (frame_of f job plan.bases) (frames_of fs jobs plans)
+    (one_frame f job plan.bases arranging (first_of IsJob job jobs are) (first_of (λ (f : FunctionItems). IsName f.name) f fs names) (same_first _ _ _ _ based))
+    (each_frame fs jobs plans arranging (others_of IsJob job jobs are) (others_of (λ (f : FunctionItems). IsName f.name) f fs names) (same_others _ _ _ _ based))
 
-pub all_framed : (o : Options) (fs : List FunctionItems) (plans : List FramePlan) → AreBased o fs plans → map (λ (f : Frame). f.name) (frames_of o fs plans) ≡ map (λ (f : FunctionItems). f.name) fs
-all_framed o [] plans based = refl
-all_framed o (f ∷ fs) [] based = cc
-all_framed o (f ∷ fs) (plan ∷ plans) based = ap (λ names. f.name ∷ names) (all_framed o fs plans (same_others _ _ _ _ based))
+pub all_framed : (fs : List FunctionItems) (jobs : List Job) (plans : List FramePlan) → length jobs ≡ length fs → AreBased jobs plans → map (λ (f : Frame). f.name) (frames_of fs jobs plans) ≡ map (λ (f : FunctionItems). f.name) fs
+all_framed [] jobs plans same based = refl
+all_framed (f ∷ fs) [] plans same based = absurd (omega (arith, same))
+all_framed (f ∷ fs) (job ∷ jobs) [] same based = cc
+all_framed (f ∷ fs) (job ∷ jobs) (plan ∷ plans) same based = ap (λ names. f.name ∷ names) (all_framed fs jobs plans (omega (arith, same)) (same_others _ _ _ _ based))
 
-pub all_sequenced : (o : Options) (fs : List FunctionItems) (plans : List FramePlan) → AreBased o fs plans → map (λ (f : Frame). f.seq) (frames_of o fs plans) ≡ map (accesses_of o) fs
-all_sequenced o [] plans based = refl
-all_sequenced o (f ∷ fs) [] based = cc
-all_sequenced o (f ∷ fs) (plan ∷ plans) based = ap (λ sequences. accesses_of o f ∷ sequences) (all_sequenced o fs plans (same_others _ _ _ _ based))
+pub all_sequenced : (fs : List FunctionItems) (jobs : List Job) (plans : List FramePlan) → length jobs ≡ length fs → AreBased jobs plans → map (λ (f : Frame). f.seq) (frames_of fs jobs plans) ≡ map (λ (job : Job). job.sequence) jobs
+all_sequenced [] [] plans same based = refl
+all_sequenced [] (job ∷ jobs) plans same based = absurd (omega (arith, same))
+all_sequenced (f ∷ fs) [] plans same based = absurd (omega (arith, same))
+all_sequenced (f ∷ fs) (job ∷ jobs) [] same based = cc
+all_sequenced (f ∷ fs) (job ∷ jobs) (plan ∷ plans) same based = ap (λ sequences. job.sequence ∷ sequences) (all_sequenced fs jobs plans (omega (arith, same)) (same_others _ _ _ _ based))
 
 -- what is known of answers
 abbrev pub Costing : Type 0
@@ -122,17 +119,16 @@ module _ (costing : Costing) (replaying : Replaying) (least : BeingLeast) where
   is_least k seq budget (Certified lists cost log) is some found claimed = least k seq budget lists cost log is some found
   is_least k seq budget (Exhausted lists cost piece quota log) is some found claimed = cc
 
-  one_claim : (o : Options) (f : FunctionItems) (bases : List ℕ) → AreOptions o → IsSequence (accesses_of o f) → ClaimsHold (frame_of o f bases)
-  one_claim o f bases options is = record {
-    cost = costing o.registers (accesses_of o f) o.budget;
-    log = fits o.registers (accesses_of o f) o.budget (answer_for o f) is refl;
-    least = is_least o.registers (accesses_of o f) o.budget (answer_for o f) is options.some_registers refl;
+  one_claim : (f : FunctionItems) (job : Job) (bases : List ℕ) → IsJob job → ClaimsHold (frame_of f job bases)
+  one_claim f job bases is = record {
+    cost = costing job.registers job.sequence job.budget;
+    log = fits job.registers job.sequence job.budget (answer_for job) is.sequence refl;
+    least = is_least job.registers job.sequence job.budget (answer_for job) is.sequence is.some_registers refl;
   }
 
-  pub each_claim : (o : Options) (fs : List FunctionItems) (plans : List FramePlan) → AreOptions o → All (λ f. IsSequence (accesses_of o f)) fs → All ClaimsHold (frames_of o fs plans)
-  each_claim o [] plans options are = All-nil ClaimsHold
-  each_claim o (f ∷ fs) [] options are = All-nil ClaimsHold
-  each_claim o (f ∷ fs) (plan ∷ plans) options are =
-      All-cons ClaimsHold (frame_of o f plan.bases) (frames_of o fs plans)
-      (one_claim o f plan.bases options (first_of (λ f. IsSequence (accesses_of o f)) f fs are))
-      (each_claim o fs plans options (others_of (λ f. IsSequence (accesses_of o f)) f fs are))
+  pub each_claim : (fs : List FunctionItems) (jobs : List Job) (plans : List FramePlan) → All IsJob jobs → All ClaimsHold (frames_of fs jobs plans)
+  each_claim [] jobs plans are = All-nil ClaimsHold
+  each_claim (f ∷ fs) [] plans are = All-nil ClaimsHold
+  each_claim (f ∷ fs) (job ∷ jobs) [] are = All-nil ClaimsHold
+  each_claim (f ∷ fs) (job ∷ jobs) (plan ∷ plans) are =
+      All-cons ClaimsHold (frame_of f job plan.bases) (frames_of fs jobs plans) (one_claim f job plan.bases (first_of IsJob job jobs are)) (each_claim fs jobs plans (others_of IsJob job jobs are))

@@ -1,5 +1,5 @@
 -- How the frames of functions are laid out, and what a certificate says of it (docs/LAYOUT.md, "Search"; docs/FORMATS.md, "Certificates").
-use Rattle.std.specs.Prelude.{◌≡◌, ◌≤◌, ℕ, List, [], ◌∷◌, map, length, All}
+use Rattle.std.specs.Prelude.{◌≡◌, ◌≤◌, ℕ, List, [], ◌∷◌, map, length}
 use Rattle.acc_code.specs.AccTree.{FunctionItems}
 use Rattle.acc_code.specs.AccSequence.{sequence_of}
 use Rattle.lay_model.specs.Sequences.{Sequence, IsSequence}
@@ -29,16 +29,26 @@ pub record AreOptions (o : Options) : Type 0 where
 abbrev pub accesses_of : Options → FunctionItems → Sequence
 accesses_of o f = record (sequence_of f) { step = o.step }
 
+-- a search for a sequence, as is chosen
+abbrev pub job_with : Options → Sequence → Job
+job_with o seq = record { sequence = seq; registers = o.registers; budget = o.budget }
+
 abbrev pub job_of : Options → FunctionItems → Job
-job_of o f = record { sequence = accesses_of o f; registers = o.registers; budget = o.budget }
+job_of o f = job_with o (accesses_of o f)
 
--- what a search answers for it
-abbrev pub answer_for : Options → FunctionItems → Answer
-answer_for o f = search_answer o.registers (accesses_of o f) o.budget
+-- a search that has an answer, over a number of registers that is in its range
+pub record IsJob (job : Job) : Type 0 where
+  pub sequence : IsSequence job.sequence
+  pub some_registers : 1 ≤ job.registers
+  pub few_registers : job.registers ≤ 4
 
--- its layout
-abbrev pub layout_of : Options → FunctionItems → List (List ℕ)
-layout_of o f = answer_lists (answer_for o f)
+-- what is answered
+abbrev pub answer_for : Job → Answer
+answer_for job = search_answer job.registers job.sequence job.budget
+
+-- the layout that is found
+abbrev pub layout_of : Job → List (List ℕ)
+layout_of job = answer_lists (answer_for job)
 
 -- what an answer claims, and the log that shows it
 abbrev pub claim_of : Answer → Claim
@@ -50,13 +60,24 @@ log_of (Certified lists cost log) = log
 log_of (Exhausted lists cost piece quota log) = log
 
 abbrev pub finding_of : List ℕ → Job → Answer → Finding
-finding_of name job a = record { name = name; accesses = job.sequence; cost = answer_cost a; claim = claim_of a; log = log_of a }
+finding_of name job a = record {
+  name = name;
+  accesses = job.sequence;
+  registers = job.registers;
+  cost = answer_cost a;
+  claim = claim_of a;
+  log = log_of a;
+}
 
--- the layouts of functions, in order
-pub record AreLayouts (o : Options) (fs : List FunctionItems) (l : Layouts) : Type 0 where
-  pub sequences : All (λ f. IsSequence (accesses_of o f)) fs
-  pub arrangements : l.arrangements.items ≡ map (layout_of o) fs
-  pub findings : l.findings.items ≡ map (λ f. finding_of f.name (job_of o f) (answer_for o f)) fs
+-- what is found for functions, whose jobs are given in order
+abbrev pub findings_of : List FunctionItems → List Job → List Finding
+findings_of (f ∷ fs) (job ∷ jobs) = finding_of f.name job (answer_for job) ∷ findings_of fs jobs
+findings_of fs jobs = []
+
+-- the layouts of functions, whose jobs are given in order
+pub record AreLayouts (fs : List FunctionItems) (jobs : List Job) (l : Layouts) : Type 0 where
+  pub arrangements : l.arrangements.items ≡ map layout_of jobs
+  pub findings : l.findings.items ≡ findings_of fs jobs
 
 -- functions, their jobs and the answers side by side
 abbrev pub lists_with : List FunctionItems → List Job → List Answer → List (List (List ℕ))
@@ -68,11 +89,11 @@ findings_with (f ∷ fs) (job ∷ jobs) (a ∷ more) = finding_of f.name job a �
 findings_with fs jobs answers = []
 
 -- the frame of a function whose lists begin at some addresses
-abbrev pub frame_of : Options → FunctionItems → List ℕ → Frame
-frame_of o f bases = let found = answer_for o f in record {
+abbrev pub frame_of : FunctionItems → Job → List ℕ → Frame
+frame_of f job bases = let found = answer_for job in record {
   name = f.name;
-  registers = o.registers;
-  seq = accesses_of o f;
+  registers = job.registers;
+  seq = job.sequence;
   arr = answer_lists found;
   bases = bases;
   cost = answer_cost found;
@@ -81,15 +102,15 @@ frame_of o f bases = let found = answer_for o f in record {
 }
 
 -- a frame for each function, in order, where a plan puts it
-abbrev pub frames_of : Options → List FunctionItems → List FramePlan → List Frame
-frames_of o (f ∷ fs) (plan ∷ plans) = frame_of o f plan.bases ∷ frames_of o fs plans
-frames_of o fs plans = []
+abbrev pub frames_of : List FunctionItems → List Job → List FramePlan → List Frame
+frames_of (f ∷ fs) (job ∷ jobs) (plan ∷ plans) = frame_of f job plan.bases ∷ frames_of fs jobs plans
+frames_of fs jobs plans = []
 
 -- the frame of what was found of a function, its layout and its plan
-abbrev pub frame_with : ℕ → Finding → List (List ℕ) → FramePlan → Frame
-frame_with registers x lists plan = record {
+abbrev pub frame_with : Finding → List (List ℕ) → FramePlan → Frame
+frame_with x lists plan = record {
   name = x.name;
-  registers = registers;
+  registers = x.registers;
   seq = x.accesses;
   arr = lists;
   bases = plan.bases;
@@ -99,13 +120,13 @@ frame_with registers x lists plan = record {
 }
 
 -- these side by side
-abbrev pub frames_with : ℕ → List Finding → List (List (List ℕ)) → List FramePlan → List Frame
-frames_with registers (x ∷ xs) (lists ∷ rest) (plan ∷ plans) = frame_with registers x lists plan ∷ frames_with registers xs rest plans
-frames_with registers xs rest plans = []
+abbrev pub frames_with : List Finding → List (List (List ℕ)) → List FramePlan → List Frame
+frames_with (x ∷ xs) (lists ∷ rest) (plan ∷ plans) = frame_with x lists plan ∷ frames_with xs rest plans
+frames_with xs rest plans = []
 
--- each plan has a base for each list of its function's layout
-abbrev pub AreBased : Options → List FunctionItems → List FramePlan → Type 0
-AreBased o fs plans = map (λ plan. length plan.bases) plans ≡ map (λ f. length (layout_of o f)) fs
+-- each plan has a base for each list of a job's layout
+abbrev pub AreBased : List Job → List FramePlan → Type 0
+AreBased jobs plans = map (λ plan. length plan.bases) plans ≡ map (λ job. length (layout_of job)) jobs
 
 -- a frame costs what it says. Where it is claimed to be optimal, its log shows that no layout costs less
 pub record ClaimsHold (f : Frame) : Type 0 where

@@ -13,12 +13,11 @@ use word_base::NoMemory;
 /// The certificate of layouts: a frame for each of them, in order, whose lists begin where the plan puts them.
 pub fn certificate_of(
     alloc: Global,
-    registers: u8,
     layouts: Layouts,
     plans: &[FramePlan],
 ) -> Result<Certificate, NoMemory>
-    requires { All IsFrame (frames_with registers layouts.findings.items layouts.arrangements.items plans.now) }
-    ensures { IfOk result (λ cert. cert ≡ frames_with registers layouts.findings.items layouts.arrangements.items plans.now) }
+    requires { All IsFrame (frames_with layouts.findings.items layouts.arrangements.items plans.now) }
+    ensures { IfOk result (λ cert. cert ≡ frames_with layouts.findings.items layouts.arrangements.items plans.now) }
 {
     let mut frames = Vec::new(alloc);
     let mut arrangements = layouts.arrangements.into_iter();
@@ -31,24 +30,23 @@ pub fn certificate_of(
             break;
         };
         rest = more;
-        frames.push(frame(alloc, registers, finding, arrangement, plan)?)?;
+        frames.push(frame(alloc, finding, arrangement, plan)?)?;
     }
     Ok(Certificate { frames })
 }
 
 fn frame(
     alloc: Global,
-    registers: u8,
     finding: Finding,
     arrangement: Arrangement,
     plan: &FramePlan,
 ) -> Result<CertFrame, NoMemory>
-    requires { IsFrame (frame_with registers finding arrangement plan.now) }
-    ensures { IfOk result (λ f. f ≡ frame_with registers finding arrangement plan.now) }
+    requires { IsFrame (frame_with finding arrangement plan.now) }
+    ensures { IfOk result (λ f. f ≡ frame_with finding arrangement plan.now) }
 {
     Ok(CertFrame::new(FrameParts {
         name: finding.name,
-        registers,
+        registers: finding.registers,
         seq: finding.accesses,
         arr: arrangement,
         bases: plan.bases.as_slice().to_vec(alloc)?,

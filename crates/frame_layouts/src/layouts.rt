@@ -1,10 +1,9 @@
 //! The layouts that are searched.
-ghost use Rattle.std.specs.Prelude.{◌≡◌, map, All, IfOk};
+ghost use Rattle.std.specs.Prelude.{◌≡◌, map, length, All, IfOk};
 ghost use Rattle.acc_code.specs.AccSequence.{IsInFrame};
 ghost use Rattle.acc_code.specs.AccView.{function_items_of};
 ghost use Rattle.frame_layouts.specs.Frames as frames;
-ghost use Rattle.frame_layouts.specs.Frames.{AreOptions, AreLayouts, accesses_of, job_of, findings_with, lists_with};
-ghost use Rattle.lay_model.specs.Sequences.{IsSequence};
+ghost use Rattle.frame_layouts.specs.Frames.{AreOptions, AreLayouts, IsJob, job_of, findings_with, lists_with};
 ghost use Rattle.lay_tree.specs.Search.{answer_lists};
 
 use crate::options::Options;
@@ -17,11 +16,12 @@ use std::alloc::Global;
 use std::thread::Threads;
 use word_base::{Gate, NoMemory, Text};
 
-/// The accesses of a function's frame, and what a search found of it beside its layout.
+/// The accesses for which a function's frame is laid out, over how many registers, and what a search found of it beside its layout.
 #[derive(Drop)]
 pub struct Finding {
     pub name: Text,
     pub accesses: Sequence,
+    pub registers: u8,
     pub cost: u64,
     pub claim: Claim,
     pub log: Log,
@@ -34,30 +34,28 @@ pub struct Layouts {
     pub findings: Vec<Finding>,
 }
 
-/// The layouts of the frames of functions. The pieces of a search run in threads of their own where those can be made, and the gate
-/// sees each of them begin and end. What is found is the same whatever the threads do.
+/// The layouts of the frames of functions by their jobs, one for each in order. The pieces of a search run in threads of their own where
+/// those can be made, and the gate sees each of them begin and end. What is found is the same whatever the threads do.
 pub fn lay_out<R: Threads + Sync, G: Gate + Sync>(
     rt: &R,
     alloc: Global,
     gate: &G,
-    options: Options,
     functions: &[AccFunction],
+    jobs: Vec<Job>,
 ) -> Result<Layouts, NoMemory>
-    requires options { AreOptions options }
-    requires in_frames { All (λ f. IsInFrame (function_items_of f)) functions.now }
-    ensures { IfOk result (AreLayouts options (map function_items_of functions.now)) }
+    requires one_each { length jobs.items ≡ length functions.now }
+    ensures { IfOk result (AreLayouts (map function_items_of functions.now) jobs.items) }
 {
-    let jobs = jobs_of(alloc, options, functions)?;
     let answers = search_all(rt, alloc, gate, &jobs)?;
     found(alloc, functions, jobs, answers)
 }
 
-// What is to be searched for each function.
-fn jobs_of(alloc: Global, options: Options, functions: &[AccFunction]) -> Result<Vec<Job>, NoMemory>
+/// What is to be searched for each function as it is compiled: a layout for its accesses, each block of which counts once.
+pub fn jobs_of(alloc: Global, options: Options, functions: &[AccFunction]) -> Result<Vec<Job>, NoMemory>
     requires options { AreOptions options }
     requires in_frames { All (λ f. IsInFrame (function_items_of f)) functions.now }
     ensures jobs { IfOk result (λ jobs. jobs.items ≡ map (job_of options) (map function_items_of functions.now)) }
-    ensures sequences { IfOk result (λ _. All (λ f. IsSequence (accesses_of options (function_items_of f))) functions.now) }
+    ensures are_jobs { IfOk result (λ jobs. All IsJob jobs.items) }
 {
     let mut jobs = Vec::new(alloc);
     for function in functions {
@@ -70,7 +68,7 @@ fn job_for(alloc: Global, options: Options, function: &AccFunction) -> Result<Jo
     requires options { AreOptions options }
     requires in_frame { IsInFrame (function_items_of function.now) }
     ensures job { IfOk result (λ job. job ≡ job_of options (function_items_of function.now)) }
-    ensures sequence { IfOk result (λ _. IsSequence (accesses_of options (function_items_of function.now))) }
+    ensures is_job { IfOk result IsJob }
 {
     let accesses = sequence(alloc, function)?.with_step(options.step);
     let few = accesses.scalars() <= MOST_SCALARS;
@@ -115,6 +113,7 @@ fn parts_of(name: Text, job: Job, answer: Answer) -> (Arrangement, Finding)
     ensures lists { result.0 ≡ answer_lists answer }
     ensures finding { result.1 ≡ frames.finding_of name job answer }
 {
+    let registers = job.registers();
     let accesses = job.into_sequence();
     match answer {
         Answer::Certified {
@@ -125,6 +124,7 @@ fn parts_of(name: Text, job: Job, answer: Answer) -> (Arrangement, Finding)
             let finding = Finding {
                 name,
                 accesses,
+                registers,
                 cost,
                 claim: Claim::Optimal,
                 log,
@@ -141,6 +141,7 @@ fn parts_of(name: Text, job: Job, answer: Answer) -> (Arrangement, Finding)
             let finding = Finding {
                 name,
                 accesses,
+                registers,
                 cost,
                 claim: Claim::Best { piece, quota },
                 log,

@@ -10,6 +10,7 @@ mod rows;
 pub use certificate::certificate_of;
 pub use laws::{claims_hold, frames_are_arranged, layouts_are_arranged};
 pub use lay_cert::{CertFault, Certificate};
-pub use layouts::{Finding, Layouts, lay_out};
+pub use lay_par::Job;
+pub use layouts::{Finding, Layouts, jobs_of, lay_out};
 pub use options::Options;
 pub use rows::report_rows;

@@ -7,7 +7,7 @@ use Rattle.frame_layouts.proofs.certificate.certificate_of.Goals as goal
 
 pub frame-requires : goal.frame-requires
 frame-requires c =
-    first_is c.args.registers (into_iter_items c.loop-finding.finding-iterator) (into_iter_items c.next.new.self) c.in-Some.finding
+    first_is (into_iter_items c.loop-finding.finding-iterator) (into_iter_items c.next.new.self) c.in-Some.finding
     (into_iter_items c.loop-finding.arrangements) (into_iter_items c.next-in-loop-finding.new.self) c.in-Some-next.arrangement
     c.loop-finding.rest.now c.in-Some-split_first.more.now c.in-Some-split_first.plan.now
     c.in-Some.ensures.steps.0 c.in-Some-next.ensures.items c.in-Some-split_first.ensures.cases.0
@@ -15,12 +15,12 @@ frame-requires c =
 
 pub loop-finding-preserved : goal.loop-finding-preserved
 loop-finding-preserved c = record {
-  frames = one_more_frame c.args.registers (into_iter_items c.loop-finding.finding-iterator) (into_iter_items c.next.new.self) c.in-Some.finding
+  frames = one_more_frame (into_iter_items c.loop-finding.finding-iterator) (into_iter_items c.next.new.self) c.in-Some.finding
       (into_iter_items c.loop-finding.arrangements) (into_iter_items c.next-in-loop-finding.new.self) c.in-Some-next.arrangement
       c.loop-finding.rest.now c.in-Some-split_first.more.now c.in-Some-split_first.plan.now
       c.in-Some.ensures.steps.0 c.in-Some-next.ensures.items c.in-Some-split_first.ensures.cases.0
       c.loop-finding.frames.items c.push.new.self.items _ c.in_ok-frame.field-0 c.in_ok-frame.ensures c.in_ok-push.ensures.items c.loop-finding.invariant.frames;
-  each = others_are c.args.registers (into_iter_items c.loop-finding.finding-iterator) (into_iter_items c.next.new.self) c.in-Some.finding
+  each = others_are (into_iter_items c.loop-finding.finding-iterator) (into_iter_items c.next.new.self) c.in-Some.finding
       (into_iter_items c.loop-finding.arrangements) (into_iter_items c.next-in-loop-finding.new.self) c.in-Some-next.arrangement
       c.loop-finding.rest.now c.in-Some-split_first.more.now c.in-Some-split_first.plan.now
       c.in-Some.ensures.steps.0 c.in-Some-next.ensures.items c.in-Some-split_first.ensures.cases.0
@@ -34,8 +34,8 @@ returns c =
     let qs = c.loop-finding.rest.now in
     all_made c.loop-finding.frames.items _ _
     (elim c.match-next.branch [
-      | in-None w ↦ no_findings c.args.registers ys ms qs (nil_from_length ys (omega (arith, w.in-None.ensures.steps.0, c.loop-finding.finding-iterator.rest.ok)))
-      | in-Some+in_default w ↦ no_layouts c.args.registers ys ms qs (nil_from_length ms (omega (arith, w.in_default.ensures.cases.0)))
-      | in-Some+in-Some-next+in_default-split_first w ↦ no_plans c.args.registers ys ms qs (nil_from_length qs (omega (arith, w.in_default-split_first.ensures.cases)))
+      | in-None w ↦ no_findings ys ms qs (nil_from_length ys (omega (arith, w.in-None.ensures.steps.0, c.loop-finding.finding-iterator.rest.ok)))
+      | in-Some+in_default w ↦ no_layouts ys ms qs (nil_from_length ms (omega (arith, w.in_default.ensures.cases.0)))
+      | in-Some+in-Some-next+in_default-split_first w ↦ no_plans ys ms qs (nil_from_length qs (omega (arith, w.in_default-split_first.ensures.cases)))
     ])
     c.loop-finding.invariant.frames

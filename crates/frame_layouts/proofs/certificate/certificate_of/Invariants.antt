@@ -8,6 +8,6 @@ use Rattle.frame_layouts.proofs.certificate.certificate_of.Given as goal
 
 abbrev pub invariant-loop-finding : goal.invariant-loop-finding
 invariant-loop-finding l = record {
-  frames : l.frames.items ++ frames_with l.registers (into_iter_items l.finding-iterator) (into_iter_items l.arrangements) l.rest ≡ frames_with l.registers l.fn.layouts.findings.items l.fn.layouts.arrangements.items l.plans;
-  each : All IsFrame (frames_with l.registers (into_iter_items l.finding-iterator) (into_iter_items l.arrangements) l.rest);
+  frames : l.frames.items ++ frames_with (into_iter_items l.finding-iterator) (into_iter_items l.arrangements) l.rest ≡ frames_with l.fn.layouts.findings.items l.fn.layouts.arrangements.items l.plans;
+  each : All IsFrame (frames_with (into_iter_items l.finding-iterator) (into_iter_items l.arrangements) l.rest);
 }

@@ -5,10 +5,10 @@ pub returns-clause-same : goal.returns-clause-same
 returns-clause-same c = same_frames
 
 pub returns-clause-each : goal.returns-clause-each
-returns-clause-each c = λ o fs plans options are names based. each_frame o fs plans c.answers_arrange.ensures.answer options are names based
+returns-clause-each c = λ fs jobs plans are names based. each_frame fs jobs plans c.answers_arrange.ensures.answer are names based
 
 pub returns-clause-all : goal.returns-clause-all
 returns-clause-all c = all_framed
 
-pub returns-clause-accesses : goal.returns-clause-accesses
-returns-clause-accesses c = all_sequenced
+pub returns-clause-sequences : goal.returns-clause-sequences
+returns-clause-sequences c = all_sequenced

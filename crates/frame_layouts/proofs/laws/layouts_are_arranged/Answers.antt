@@ -2,4 +2,4 @@ use Rattle.frame_layouts.proofs.Framing.{layout_arranged}
 use Rattle.frame_layouts.proofs.laws.layouts_are_arranged.Goals as goal
 
 pub returns : goal.returns
-returns c = λ o f options is. layout_arranged o f c.answers_arrange.ensures.answer options is
+returns c = λ job is. layout_arranged job c.answers_arrange.ensures.answer is

@@ -1,10 +1,11 @@
 use Rattle.std.proofs.Common.{◌∙◌, ◌++◌, ◌∷◌, [], ap₂, sym, subst}
+use Rattle.std.specs.Prelude.{All}
+use Rattle.std.proofs.lemmas.List.Elements.{All-append, All-cons, All-nil}
 use Rattle.acc_code.specs.AccSequence.{IsInFrame}
 use Rattle.acc_code.specs.AccView.{function_items_of}
 use Rattle.acc_code.specs.declared.program.AccFunction.{AccFunction}
-use Rattle.lay_model.specs.Sequences.{IsSequence}
-use Rattle.frame_layouts.specs.Frames.{accesses_of, job_of}
-use Rattle.frame_layouts.proofs.Loops.{mapped_further, known_further}
+use Rattle.frame_layouts.specs.Frames.{IsJob, job_of}
+use Rattle.frame_layouts.proofs.Loops.{mapped_further}
 use Rattle.frame_layouts.proofs.layouts.jobs_of.Goals as goal
 
 pub job_for-requires-clause-in_frame : goal.job_for-requires-clause-in_frame
@@ -16,6 +17,6 @@ loop-function-preserved c = record {
   jobs = c.in_ok-push.ensures.items
       ∙ ap₂ (λ l x. l ++ x ∷ []) c.loop-function.invariant.jobs c.in_ok-job_for.ensures.job
       ∙ mapped_further (job_of c.args.options) function_items_of c.args.functions.now c.loop-function.function-index c.function-item.result c.loop-function-test.true c.function-item.is;
-  sequences = known_further (λ (f : AccFunction). IsSequence (accesses_of c.args.options (function_items_of f))) c.args.functions.now c.loop-function.function-index c.function-item.result c.loop-function-test.true
-      c.function-item.is c.loop-function.invariant.sequences c.in_ok-job_for.ensures.sequence;
+  are_jobs = subst (All IsJob) (sym c.in_ok-push.ensures.items)
+      (All-append IsJob _ _ c.loop-function.invariant.are_jobs (All-cons IsJob _ [] c.in_ok-job_for.ensures.is_job (All-nil IsJob)));
 }

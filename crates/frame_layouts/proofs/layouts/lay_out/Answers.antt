@@ -1,13 +1,12 @@
-use Rattle.std.proofs.Common.{◌∙◌, map, ap}
-use Rattle.std.proofs.lemmas.List.Elements.{All-map}
-use Rattle.lay_model.specs.Sequences.{IsSequence}
-use Rattle.frame_layouts.specs.Frames.{accesses_of}
+use Rattle.std.proofs.Common.{◌∙◌, map, ap, sym}
+use Rattle.std.proofs.lemmas.List.{length-map}
 use Rattle.acc_code.specs.AccView.{function_items_of}
-use Rattle.frame_layouts.proofs.Framing.{answered, laid_out}
+use Rattle.frame_layouts.specs.Frames.{answer_for}
+use Rattle.frame_layouts.proofs.Framing.{laid_out}
 use Rattle.frame_layouts.proofs.layouts.lay_out.Goals as goal
 
 pub returns : goal.returns
 returns g c =
-    laid_out c.args.options (map function_items_of c.args.functions.now) c.in_ok-jobs.jobs.items c.in_ok-answers.answers.items c.found.result
-    (All-map (λ f. IsSequence (accesses_of c.args.options f)) function_items_of c.args.functions.now c.in_ok-jobs.ensures.sequences) c.in_ok-jobs.ensures.jobs
-    (c.in_ok-answers.ensures ∙ ap (map answered) c.deref.ensures.value) c.found.ensures.arrangements c.found.ensures.findings
+    laid_out (map function_items_of c.args.functions.now) c.args.jobs.items c.in_ok-answers.answers.items c.found.result
+    (c.requires.one_each ∙ sym (length-map c.args.functions.now function_items_of)) (c.in_ok-answers.ensures ∙ ap (map answer_for) c.deref.ensures.value)
+    c.found.ensures.arrangements c.found.ensures.findings
