@@ -19,9 +19,8 @@ use Rattle.lay_cost.specs.Cost as costs
 use Rattle.mem_plan.specs.declared.data_plan.DataPlan.{DataPlan}
 use Rattle.mem_plan.specs.declared.data_plan.FramePlan.{FramePlan}
 use Rattle.mem_plan.specs.Plan.{AreArranged, IsArranged, IsPlan, list_bases, frames_from, frames_start}
-use Rattle.frame_layouts.specs.declared.options.Options.{Options}
 use Rattle.frame_layouts.specs.Frames.{AreOptions, AreBased, accesses_of, layout_of}
-use Rattle.cc_image.specs.Images.{layouts}
+use Rattle.cc_image.specs.Images.{FrameJobs, layouts}
 use Rattle.cc_image.proofs.PieceLemmas.{known_names}
 
 -- the elements of a list
@@ -54,14 +53,14 @@ all_in_frames p gs is = each_of IsInFrame gs (λ k g there.
     (is.each k f.0 g f.1 there).frame)
 
 -- what laws say of layouts
-abbrev pub Arranging : Options → Type 0
+abbrev pub Arranging : FrameJobs → Type 0
 Arranging o = (f : FunctionItems) → IsSequence (accesses_of o f) → costs.IsArranged (accesses_of o f) o.registers (layout_of o f)
 
-from_listed : (o : Options) (found : Option FunctionItems) (lists : List (List ℕ)) → option_map (layout_of o) found ≡ Some lists → (g : FunctionItems) × (found ≡ Some g) × (layout_of o g ≡ lists)
+from_listed : (o : FrameJobs) (found : Option FunctionItems) (lists : List (List ℕ)) → option_map (layout_of o) found ≡ Some lists → (g : FunctionItems) × (found ≡ Some g) × (layout_of o g ≡ lists)
 from_listed o (Some g) lists is = (g, refl, same_some (layout_of o g) lists is)
 from_listed o None lists is = cc
 
-pub all_arranged : (o : Options) (p : ProgramCode) (gs : List FunctionItems) → AreOptions o → Arranging o → IsEmittable p gs → All (λ f. IsSequence (accesses_of o f)) gs → AreArranged p.functions (map (layout_of o) gs)
+pub all_arranged : (o : FrameJobs) (p : ProgramCode) (gs : List FunctionItems) → AreJobs o (selected p) → Arranging o → IsEmittable p gs → All (λ f. IsSequence (accesses_of o f)) gs → AreArranged p.functions (map (layout_of o) gs)
 all_arranged o p gs options arranging is sequences = record {
   count = length-map gs (layout_of o) ∙ is.count;
   each = λ n f lists there listed.
@@ -80,7 +79,7 @@ bases_count : (at : ℕ) (lists : List (List ℕ)) → length (list_bases at lis
 bases_count at [] = refl
 bases_count at (l ∷ ls) = ap suc (bases_count (at + length l) ls)
 
-frames_based : (o : Options) (start : ℕ) (begin : ℕ → ℕ) (n : ℕ) (fs : List FunctionCode) (gs : List FunctionItems) → length gs ≡ length fs
+frames_based : (o : FrameJobs) (start : ℕ) (begin : ℕ → ℕ) (n : ℕ) (fs : List FunctionCode) (gs : List FunctionItems) → length gs ≡ length fs
     → map (λ (plan : FramePlan). length plan.bases) (frames_from start begin n fs (map (layout_of o) gs)) ≡ map (λ f. length (layout_of o f)) gs
 frames_based o start begin n [] [] same = refl
 frames_based o start begin n [] (g ∷ gs) same = absurd (omega (arith, same))
@@ -88,7 +87,7 @@ frames_based o start begin n (f ∷ fs) [] same = absurd (omega (arith, same))
 frames_based o start begin n (f ∷ fs) (g ∷ gs) same =
     ap₂ (λ (m : ℕ) ms. m ∷ ms) (bases_count (start + begin n) (layout_of o g)) (frames_based o start begin (suc n) fs gs (omega (arith, same)))
 
-pub all_based : (o : Options) (p : ProgramCode) (plan : DataPlan) → IsPlan p (layouts o p) plan → AreBased o (selected p) plan.frames
+pub all_based : (o : FrameJobs) (p : ProgramCode) (plan : DataPlan) → IsPlan p (layouts o) plan → AreBased o (selected p) plan.frames
 all_based o p plan is =
     subst (λ (q : DataPlan). AreBased o (selected p) q.frames) (sym is.is) (frames_based o (frames_start p) is.begin 0 p.functions (selected p) (length-map p.functions selected_function))
 

@@ -41,9 +41,8 @@ use Rattle.frame_emit.specs.Emitted.{function_piece, function_pieces, setting_of
 use Rattle.frame_emit.specs.Frames.{all_parameters}
 use Rattle.frame_emit.specs.Startup.{startup_name, startup_piece, fillings_code}
 use Rattle.frame_emit.proofs.Naming.{their_names, no_name}
-use Rattle.frame_layouts.specs.declared.options.Options.{Options}
 use Rattle.frame_layouts.specs.Frames.{layout_of}
-use Rattle.cc_image.specs.Images.{own_pieces, all_pieces, layouts}
+use Rattle.cc_image.specs.Images.{FrameJobs, own_pieces, all_pieces, layouts}
 use Rattle.cc_image.proofs.NameLemmas.{known_either, same}
 use Rattle.cc_image.proofs.LayoutLemmas.{all_based}
 use Rattle.cc_image.proofs.TranslationLemmas.{element_at}
@@ -111,9 +110,9 @@ startup_calls statics (o ∷ os) = behind (fillings_code statics statics (o ∷ 
     behind [] = refl
     behind (i ∷ code) = behind code
 
-module _ (o : Options) (p : ProgramCode) (plan : DataPlan) (known : ∥ IsCode p ∥₁) (emittable : IsEmittable p (selected p)) (planned : IsPlan p (layouts o p) plan) where
+module _ (o : FrameJobs) (p : ProgramCode) (plan : DataPlan) (known : ∥ IsCode p ∥₁) (emittable : IsEmittable p (selected p)) (planned : IsPlan p (layouts o) plan) where
   abbrev functions : List Piece
-  functions = behind_startup p (selected p) plan (layouts o p) o.step
+  functions = behind_startup p (selected p) plan (layouts o) o.step
 
   abbrev helpers : List Piece
   helpers = called_helper_pieces (own_pieces o p plan)
@@ -124,10 +123,10 @@ module _ (o : Options) (p : ProgramCode) (plan : DataPlan) (known : ∥ IsCode p
   names_are : map (λ (q : Piece). q.name) functions ≡ function_names
   names_are =
       let count : length (selected p) ≡ length p.functions = length-map p.functions selected_function in
-      let lists : length (layouts o p) ≡ length p.functions = length-map (selected p) (layout_of o) ∙ count in
+      let lists : length (layouts o) ≡ length p.functions = length-map (selected p) (layout_of o) ∙ count in
       let based = all_based o p plan planned in
       let frames : length plan.frames ≡ length p.functions = sym (length-map plan.frames _) ∙ ap length based ∙ length-map (selected p) _ ∙ count in
-      their_names plan o.step (all_parameters p.functions plan.frames (layouts o p)) (map (λ (g : FunctionItems). g.name) (selected p)) p.functions (selected p) plan.frames (layouts o p) count frames lists
+      their_names plan o.step (all_parameters p.functions plan.frames (layouts o)) (map (λ (g : FunctionItems). g.name) (selected p)) p.functions (selected p) plan.frames (layouts o) count frames lists
       ∙ selected_names p.functions
 
   parts : (name : List ℕ) → times name (all_pieces o p plan) ≡ times name (startup_piece plan.statics p.statics ∷ []) + (times name functions + times name helpers)
@@ -166,7 +165,7 @@ module _ (o : Options) (p : ProgramCode) (plan : DataPlan) (known : ∥ IsCode p
       function_once main_name main.0 main.1 (element_at p.functions main.0 main.1 main.2 ∙ ap Some main.3) main.4.name code))
 
   abbrev parameters : List (List ℕ)
-  parameters = all_parameters p.functions plan.frames (layouts o p)
+  parameters = all_parameters p.functions plan.frames (layouts o)
 
   abbrev names : List (List ℕ)
   names = map (λ (g : FunctionItems). g.name) (selected p)
@@ -176,7 +175,7 @@ module _ (o : Options) (p : ProgramCode) (plan : DataPlan) (known : ∥ IsCode p
 
   functions_right : All (λ (q : Piece). CallsPieces (all_pieces o p plan) q.items) functions
   functions_right = λ k d within j e inside.
-      known_once _ (functions_call p plan o.step parameters names (selected_names p.functions) p.functions (selected p) plan.frames (layouts o p) emittable.each k d within j e inside)
+      known_once _ (functions_call p plan o.step parameters names (selected_names p.functions) p.functions (selected p) plan.frames (layouts o) emittable.each k d within j e inside)
       (pieces_called (own_pieces o p plan) (suc k) d (omega (arith, within)) j e inside)
 
   helpers_right : All (λ (q : Piece). CallsNone q.items) helper_pieces → All (λ (q : Piece). CallsPieces (all_pieces o p plan) q.items) helper_pieces
@@ -190,7 +189,7 @@ module _ (o : Options) (p : ProgramCode) (plan : DataPlan) (known : ∥ IsCode p
       record {
         marks =
             All-append (λ (q : Piece). HasItsMarks q.items) own helpers
-            (All-cons (λ (q : Piece). HasItsMarks q.items) first functions (startup_marks plan.statics p.statics) (functions_marks plan o.step parameters names p.functions (selected p) plan.frames (layouts o p) (all_placed p (selected p) emittable)))
+            (All-cons (λ (q : Piece). HasItsMarks q.items) first functions (startup_marks plan.statics p.statics) (functions_marks plan o.step parameters names p.functions (selected p) plan.frames (layouts o) (all_placed p (selected p) emittable)))
             (All-filter test (λ (q : Piece). HasItsMarks q.items) helper_pieces marks);
         calls =
             All-append (λ (q : Piece). CallsPieces (all_pieces o p plan) q.items) own helpers

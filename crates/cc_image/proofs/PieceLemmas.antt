@@ -19,8 +19,7 @@ use Rattle.frame_emit.specs.Startup.{startup_piece}
 use Rattle.frame_emit.specs.Emitted.{function_piece, function_pieces, setting_of}
 use Rattle.std.proofs.Math.Logic.{∥∥₁_map}
 use Rattle.cc_image.proofs.NameLemmas.{known_either, names_either}
-use Rattle.frame_layouts.specs.declared.options.Options.{Options}
-use Rattle.cc_image.specs.Images.{own_pieces, all_pieces, layouts}
+use Rattle.cc_image.specs.Images.{FrameJobs, own_pieces, all_pieces, layouts}
 
 first_of : {A : Type 0} (P : A → Type 0) (x : A) (xs : List A) → All P (x ∷ xs) → P x
 first_of P x xs all = all 0 x (omega arith)
@@ -56,9 +55,9 @@ helpers_unlisted = All-map IsLinkable routine_piece all_routines (λ k d within.
 pub known_names : (p : ProgramCode) → ∥ IsCode p ∥₁ → All IsName (map (λ (f : FunctionCode). f.name) p.functions)
 known_names p known = known_either (names_either (map (λ (f : FunctionCode). f.name) p.functions)) (∥∥₁_map known (λ (is : IsCode p). is.names))
 
-pub pieces_linkable : (o : Options) (p : ProgramCode) (plan : DataPlan) → ∥ IsCode p ∥₁ → All IsLinkable (all_pieces o p plan)
+pub pieces_linkable : (o : FrameJobs) (p : ProgramCode) (plan : DataPlan) → ∥ IsCode p ∥₁ → All IsLinkable (all_pieces o p plan)
 pieces_linkable o p plan known =
     All-append IsLinkable (own_pieces o p plan) _
     (All-cons IsLinkable (startup_piece plan.statics p.statics) _ (unlisted (startup_piece plan.statics p.statics) refl)
-    (functions_linkable plan o.step (all_parameters p.functions plan.frames (layouts o p)) (map (λ (g : FunctionItems). g.name) (selected p)) p.functions plan.frames (layouts o p) (known_names p known)))
+    (functions_linkable plan o.step (all_parameters p.functions plan.frames (layouts o)) (map (λ (g : FunctionItems). g.name) (selected p)) p.functions plan.frames (layouts o) (known_names p known)))
     (All-filter (λ (x : Piece). pieces_call x.name (own_pieces o p plan)) IsLinkable helper_pieces helpers_unlisted)

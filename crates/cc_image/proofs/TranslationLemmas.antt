@@ -28,8 +28,7 @@ use Rattle.frame_emit.proofs.Naming.{all_right}
 use Rattle.cc_image.specs.declared.fault.TranslationFault.{TranslationFault}
 use Rattle.cc_image.specs.declared.fault.TranslationFault.TheVariants.{Plan, Link, NoMemory}
 use Rattle.cc_image.specs.Faults.{Says, SaysOfTree, SaysOfPieces}
-use Rattle.frame_layouts.specs.declared.options.Options.{Options}
-use Rattle.cc_image.specs.Images.{IsPlanOf, KeepsRuns, TreeKeepsRuns, all_pieces, layouts}
+use Rattle.cc_image.specs.Images.{FrameJobs, IsPlanOf, KeepsRuns, TreeKeepsRuns, all_pieces, layouts}
 
 pub element_at : {A : Type 0} (xs : List A) (k : ℕ) (d : A) → k < length xs → slice_get xs k ≡ Some (slice_index_or xs k d)
 element_at [] k d within = absurd (omega (arith, within))
@@ -58,9 +57,9 @@ abbrev pub RunsKept : Type 0
 RunsKept = (t : ProgramTree) (arrangements : List (List (List ℕ))) (plan : DataPlan) (input : Input) (n : ℕ) → IsProgram t → ProgramHasWords t → AreArranged (lowered_program t).functions arrangements → IsPlan (lowered_program t) arrangements plan → IsInput input
     → KeepsSource (source_run t input n) (acc_run (places_of plan) (lowered_program t) (selected (lowered_program t)) input n)
 
-pub runs_kept : RunsKept → (o : Options) (t : ProgramTree) (p : ProgramCode) → p ≡ lowered_program t → ∥ IsProgram t ∥₁ → ProgramHasWords t → AreArranged p.functions (layouts o p) → ∥ KeepsRuns o t ∥₁
+pub runs_kept : RunsKept → (o : FrameJobs) (t : ProgramTree) (p : ProgramCode) → p ≡ lowered_program t → ∥ IsProgram t ∥₁ → ProgramHasWords t → AreArranged p.functions (layouts o) → ∥ KeepsRuns o t ∥₁
 runs_kept law o t p same known words arranged =
-    ∥∥₁_map known (λ is plan planned input n inputs. law t (layouts o (lowered_program t)) plan input n is words (subst (λ p. AreArranged p.functions (layouts o p)) same arranged) planned inputs)
+    ∥∥₁_map known (λ is plan planned input n inputs. law t (layouts o) plan input n is words (subst (λ p. AreArranged p.functions (layouts o)) same arranged) planned inputs)
 
 -- the law of lowering for a plan of the program
 abbrev pub TreesKept : Type 0
@@ -69,24 +68,24 @@ TreesKept = (q : Places) (t : ProgramTree) (input : Input) (n : ℕ) → IsProgr
 abbrev pub PlansHavePlaces : Type 0
 PlansHavePlaces = (t : ProgramTree) (arrangements : List (List (List ℕ))) (plan : DataPlan) → IsProgram t → AreArranged (lowered_program t).functions arrangements → IsPlan (lowered_program t) arrangements plan → ArePlaces (places_of plan) t
 
-pub trees_kept : TreesKept → PlansHavePlaces → (o : Options) (t : ProgramTree) (p : ProgramCode) → p ≡ lowered_program t → ∥ IsProgram t ∥₁ → ProgramHasWords t → AreArranged p.functions (layouts o p) → ∥ TreeKeepsRuns o t ∥₁
+pub trees_kept : TreesKept → PlansHavePlaces → (o : FrameJobs) (t : ProgramTree) (p : ProgramCode) → p ≡ lowered_program t → ∥ IsProgram t ∥₁ → ProgramHasWords t → AreArranged p.functions (layouts o) → ∥ TreeKeepsRuns o t ∥₁
 trees_kept law places o t p same known words arranged =
     ∥∥₁_map known
     (λ is plan planned input n inputs.
-    law (places_of plan) t input n is words (places t (layouts o (lowered_program t)) plan is (subst (λ p. AreArranged p.functions (layouts o p)) same arranged) planned) inputs)
+    law (places_of plan) t input n is words (places t (layouts o) plan is (subst (λ p. AreArranged p.functions (layouts o)) same arranged) planned) inputs)
 
-pub tree_says : (o : Options) (t : ProgramTree) (p : ProgramCode) (why : TranslationFault) → p ≡ lowered_program t → SaysOfTree p why → Says o t why
+pub tree_says : (o : FrameJobs) (t : ProgramTree) (p : ProgramCode) (why : TranslationFault) → p ≡ lowered_program t → SaysOfTree p why → Says o t why
 tree_says o t p (Plan (plan_faults.DataFull words)) same h = subst (λ q. SaysOfTree q (Plan (plan_faults.DataFull words))) same h
 tree_says o t p (Plan plan_faults.NoMemory) same h = h
 tree_says o t p (Link why) same h = absurd h
 tree_says o t p NoMemory same h = tt
 
-pub pieces_say : (o : Options) (t : ProgramTree) (plan : DataPlan) (why : TranslationFault) → IsPlanOf o t plan → SaysOfPieces (all_pieces o (lowered_program t) plan) why → Says o t why
+pub pieces_say : (o : FrameJobs) (t : ProgramTree) (plan : DataPlan) (why : TranslationFault) → IsPlanOf o t plan → SaysOfPieces (all_pieces o (lowered_program t) plan) why → Says o t why
 pieces_say o t plan (Plan why) is h = absurd h
 pieces_say o t plan (Link (link_faults.CodeFull words)) is h = record { plan = plan; planned = is; is = h.0; over = h.1 }
 pieces_say o t plan (Link link_faults.NoMemory) is h = h
 pieces_say o t plan NoMemory is h = tt
 
-pub passed_on : {A : Type 0} (o : Options) (t : ProgramTree) (r : Result A TranslationFault) (why : TranslationFault) → IsErrAnd r (λ e. e ≡ why) → Says o t why → IfErr r (Says o t)
+pub passed_on : {A : Type 0} (o : FrameJobs) (t : ProgramTree) (r : Result A TranslationFault) (why : TranslationFault) → IsErrAnd r (λ e. e ≡ why) → Says o t why → IfErr r (Says o t)
 passed_on o t (Ok a) why is says = absurd is
 passed_on o t (Err e) why is says = subst (Says o t) (sym is) says

@@ -27,9 +27,8 @@ use Rattle.c25_code.specs.Links.{pieces_size}
 use Rattle.image_proof.specs.Agreeing.{emission_of}
 use Rattle.image_proof.specs.Keeping.{all_pieces as emission_pieces}
 use Rattle.image_proof.specs.FunctionWalks.{HasWalk, IsFunctionOf, place_of}
-use Rattle.frame_layouts.specs.declared.options.Options.{Options}
 use Rattle.frame_layouts.specs.Frames.{AreOptions, ClaimsHold, frame_of, frames_of, layout_of}
-use Rattle.cc_image.specs.Images.{AreWalked, HasFrames, HasImage, IsWalked, all_pieces, layouts}
+use Rattle.cc_image.specs.Images.{FrameJobs, AreWalked, HasFrames, HasImage, IsWalked, all_pieces, layouts}
 use Rattle.cc_image.proofs.AgreementLemmas.{size_same}
 use Rattle.cc_image.proofs.OneImage.{one_plan}
 
@@ -50,14 +49,14 @@ same_costs cost (b ∷ bs) =
     by first less more left right l r e = omega (arith, l, r, e)
 
 -- the frame of a number is that of the function and of the plan of that number
-record IsFrameAt (o : Options) (gs : List FunctionItems) (plans : List FramePlan) (k : ℕ) (f : Frame) : Type 0 where
+record IsFrameAt (o : FrameJobs) (gs : List FunctionItems) (plans : List FramePlan) (k : ℕ) (f : Frame) : Type 0 where
   g : FunctionItems
   plan : FramePlan
   g_at : slice_get gs k ≡ Some g
   plan_at : slice_get plans k ≡ Some plan
   is : frame_of o g plan.bases ≡ f
 
-frame_at : (o : Options) (gs : List FunctionItems) (plans : List FramePlan) (k : ℕ) (f : Frame) → slice_get (frames_of o gs plans) k ≡ Some f → IsFrameAt o gs plans k f
+frame_at : (o : FrameJobs) (gs : List FunctionItems) (plans : List FramePlan) (k : ℕ) (f : Frame) → slice_get (frames_of o gs plans) k ≡ Some f → IsFrameAt o gs plans k f
 frame_at o [] plans k f is = absurd cc
 frame_at o (g ∷ gs) [] k f is = absurd cc
 frame_at o (g ∷ gs) (plan ∷ plans) zero f is = record { g = g; plan = plan; g_at = refl; plan_at = refl; is = same_Some (frame_of o g plan.bases) f is }
@@ -86,7 +85,7 @@ ForWalks = (t : ProgramTree) (plan : DataPlan) (arrangements : List (List (List 
     → IsEmittable (lowered_program t) (selected (lowered_program t)) → step < 256 → Linked (emission_pieces (emission_of t plan arrangements step)) image → PiecesFit (emission_pieces (emission_of t plan arrangements step)) → pieces_size (emission_pieces (emission_of t plan arrangements step)) ≤ 65536
     → IsFunctionOf (emission_of t plan arrangements step) k code g frame lists → HasWalk image k step g frame lists
 
-module _ (law : ForWalks) (o : Options) (t : ProgramTree) (options : AreOptions o) (words : ProgramHasWords t) (arranged : AreArranged (lowered_program t).functions (layouts o (lowered_program t))) (emittable : IsEmittable (lowered_program t) (selected (lowered_program t))) (image : Contents) (h : HasImage o t image) where
+module _ (law : ForWalks) (o : FrameJobs) (t : ProgramTree) (options : AreJobs o (selected p)) (words : ProgramHasWords t) (arranged : AreArranged (lowered_program t).functions (layouts o)) (emittable : IsEmittable (lowered_program t) (selected (lowered_program t))) (image : Contents) (h : HasImage o t image) where
   abbrev p : ProgramCode
   p = lowered_program t
 
@@ -96,7 +95,7 @@ module _ (law : ForWalks) (o : Options) (t : ProgramTree) (options : AreOptions 
       let size = h.fits in
       let within : k < length p.functions = subst (λ n. k < n) emittable.count (slice_get_within (selected p) k g g_at) in
       let code = there p.functions k within in
-      law t h.plan (layouts o p) o.step image k code.0 g plan (layout_of o g) is words arranged h.planned emittable (omega (arith, few)) h.linked h.ranges (omega (arith, size, size_same (all_pieces o p h.plan)))
+      law t h.plan (layouts o) o.step image k code.0 g plan (layout_of o g) is words arranged h.planned emittable (omega (arith, few)) h.linked h.ranges (omega (arith, size, size_same (all_pieces o p h.plan)))
       (record { code_at = code.1; items_at = g_at; frame_at = plan_at; lists_at = map_at (layout_of o) (selected p) k g g_at })
 
   walked_as : (k : ℕ) (g : FunctionItems) (plan : FramePlan) → HasWalk image k o.step g plan (layout_of o g) → ClaimsHold (frame_of o g plan.bases) → IsWalked image k (frame_of o g plan.bases)
@@ -113,11 +112,11 @@ module _ (law : ForWalks) (o : Options) (t : ProgramTree) (options : AreOptions 
       let x = frame_at o (selected p) h.plan.frames k f (ap (λ fs. slice_get fs k) (sym are) ∙ at) in
       subst (IsWalked image k) x.is (walked_as k x.g x.plan (walk_of is k x.g x.plan x.g_at x.plan_at) (subst ClaimsHold (sym x.is) (each_of ClaimsHold frames claims k f at)))
 
-pub frames_walked : ForWalks → (o : Options) (t : ProgramTree) (p : ProgramCode) (gs : List FunctionItems) → AreOptions o → p ≡ lowered_program t → ∥ IsProgram t ∥₁ → ProgramHasWords t → AreArranged p.functions (layouts o p) → IsEmittable p gs → gs ≡ selected p
+pub frames_walked : ForWalks → (o : FrameJobs) (t : ProgramTree) (p : ProgramCode) (gs : List FunctionItems) → AreJobs o (selected p) → p ≡ lowered_program t → ∥ IsProgram t ∥₁ → ProgramHasWords t → AreArranged p.functions (layouts o) → IsEmittable p gs → gs ≡ selected p
     → (image : Contents) (frames : List Frame) → HasImage o t image → HasFrames o t frames → All ClaimsHold frames → ∥ AreWalked image frames ∥₁
 frames_walked law o t p gs options same known words arranged emittable chosen image frames h framed claims =
     let plans = one_plan o t framed.plan h.plan framed.planned h.planned in
     ∥∥₁_map known
     (λ is.
-    walked law o t options words (subst (λ p. AreArranged p.functions (layouts o p)) same arranged) (subst (λ p. IsEmittable p (selected p)) same (subst (IsEmittable p) chosen emittable)) image h is frames
+    walked law o t options words (subst (λ p. AreArranged p.functions (layouts o)) same arranged) (subst (λ p. IsEmittable p (selected p)) same (subst (IsEmittable p) chosen emittable)) image h is frames
     (framed.are ∙ ap (λ (plan : DataPlan). frames_of o (selected (lowered_program t)) plan.frames) plans) claims)

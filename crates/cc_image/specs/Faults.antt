@@ -11,8 +11,7 @@ use Rattle.tree_code.specs.WordTree.{ProgramCode}
 use Rattle.mem_plan.specs.Plan.{IsTooLarge}
 use Rattle.c25_isa.specs.Pieces.{Piece}
 use Rattle.c25_link.specs.Linking.{pieces_words}
-use Rattle.frame_layouts.specs.declared.options.Options.{Options}
-use Rattle.cc_image.specs.Images.{HasPlanFault, HasLinkFault}
+use Rattle.cc_image.specs.Images.{FrameJobs, HasPlanFault, HasLinkFault}
 
 abbrev pub of_plan_fault : PlanFault → TranslationFault
 of_plan_fault plan_faults.NoMemory = NoMemory
@@ -23,7 +22,7 @@ of_link_fault link_faults.NoMemory = NoMemory
 of_link_fault why = Link why
 
 -- want of memory may come with any program
-abbrev pub Says : Options → ProgramTree → TranslationFault → Type 0
+abbrev pub Says : FrameJobs → ProgramTree → TranslationFault → Type 0
 Says o t (Plan why) = HasPlanFault t why
 Says o t (Link why) = HasLinkFault o t why
 Says o t NoMemory = ⊤

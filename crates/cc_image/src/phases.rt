@@ -1,5 +1,5 @@
 //! The phases from a typed program to its image.
-ghost use Rattle.std.specs.Prelude.{◌≡◌, ◌≤◌, map, All, IfOk, IfErr};
+ghost use Rattle.std.specs.Prelude.{◌≡◌, ◌≤◌, map, length, All, IfOk, IfErr};
 ghost use Rattle.acc_code.specs.AccSequence.{IsInFrame};
 ghost use Rattle.acc_code.specs.AccView.{function_items_of, functions_of};
 ghost use Rattle.acc_select.specs.IsSelected.{IsEmittable};
@@ -10,9 +10,11 @@ ghost use Rattle.c25_link.specs.Linking.{AreLinkable, linked_image, pieces_words
 ghost use Rattle.c_tree.specs.ProgramView.{program_of};
 ghost use Rattle.c_tree.specs.SourceRun.{source_run};
 ghost use Rattle.c_tree.specs.TypedTree.{ProgramTree};
-ghost use Rattle.frame_layouts.specs.Frames.{AreOptions, AreLayouts, ClaimsHold, accesses_of, frames_of};
+ghost use Rattle.frame_layouts.specs.Frames.{AreOptions, AreLayouts, ClaimsHold, frames_of, jobs_in};
+ghost use Rattle.image_proof.specs.acc_select_proof.SourceSequences.{source_sequence};
 ghost use Rattle.cc_image.specs.Faults.{Says, SaysOfPieces, SaysOfTree};
-ghost use Rattle.cc_image.specs.Images.{AccessAs, AreWalked, EndsWithin, HasFrames, HasImage, IsDirect, KeepsRuns, TreeKeepsRuns, all_pieces, layouts as laid_out, with_helpers as with_called};
+ghost use Rattle.cc_image.specs.Images.{AccessAs, AreJobs, AreWalked, AreWalkedAs, EndsWithin, HasFrames, HasImage, IsDirect, KeepsRuns, TreeKeepsRuns, all_pieces, jobs_at, layouts as laid_out, source_jobs, with_helpers as with_called};
+ghost use Rattle.cc_image.specs.Selections.{IsSelectionOf, AreLaidOut, functions_in};
 ghost use Rattle.frame_layouts.specs.lay_cert.Frames.{Frame};
 ghost use Rattle.mem_plan.specs.Plan.{AreArranged, IsPlan};
 ghost use Rattle.tree_code.specs.Lowered.{lowered_program};
@@ -26,7 +28,7 @@ use c25_helper::called_helpers;
 use c25_isa::{Image, Piece};
 use c25_link::{counted_words, link};
 use frame_emit::emit;
-use frame_layouts::{Certificate, Layouts, Options, certificate_of, lay_out};
+use frame_layouts::{Certificate, Job, Layouts, Options, certificate_of, jobs_of, lay_out};
 use mem_plan::{DataPlan, plan};
 use std::alloc::Global;
 use std::thread::Threads;

@@ -15,8 +15,9 @@ use Rattle.lay_par.specs.Jobs.{Job}
 use Rattle.lay_cert.specs.declared.certificate.Claim.TheVariants.{Optimal}
 use Rattle.lay_cert.specs.Frames.{Frame, IsFrame}
 use Rattle.mem_plan.specs.declared.data_plan.FramePlan.{FramePlan}
+use Rattle.frame_layouts.specs.declared.layouts.Finding.{Finding}
 use Rattle.frame_layouts.specs.declared.layouts.Layouts.{Layouts}
-use Rattle.frame_layouts.specs.Frames.{AreLayouts, AreBased, ClaimsHold, IsJob, answer_for, layout_of, finding_of, findings_of, claim_of, log_of, lists_with, findings_with, frame_of, frames_of, frames_with}
+use Rattle.frame_layouts.specs.Frames.{AreLayouts, AreBased, ClaimsHold, IsJob, answer_for, layout_of, finding_of, findings_of, jobs_in, claim_of, log_of, lists_with, findings_with, frame_of, frames_of, frames_with}
 
 pub lists_found : (fs : List FunctionItems) (jobs : List Job) → length jobs ≡ length fs → lists_with fs jobs (map answer_for jobs) ≡ map layout_of jobs
 lists_found [] [] same = refl
@@ -45,6 +46,15 @@ frames_found (f ∷ fs) (job ∷ jobs) (plan ∷ plans) = ap (λ frames. frame_o
 
 pub same_frames : (fs : List FunctionItems) (jobs : List Job) (l : Layouts) (plans : List FramePlan) → AreLayouts fs jobs l → frames_with l.findings.items l.arrangements.items plans ≡ frames_of fs jobs plans
 same_frames fs jobs l plans are = ap₂ (λ xs lists. frames_with xs lists plans) are.findings are.arrangements ∙ frames_found fs jobs plans
+
+jobs_found : (fs : List FunctionItems) (jobs : List Job) → length jobs ≡ length fs → map (λ (x : Finding). x.job) (findings_of fs jobs) ≡ jobs
+jobs_found [] [] same = refl
+jobs_found [] (job ∷ jobs) same = absurd (omega (arith, same))
+jobs_found (f ∷ fs) [] same = refl
+jobs_found (f ∷ fs) (job ∷ jobs) same = ap (λ rest. job ∷ rest) (jobs_found fs jobs (omega (arith, same)))
+
+pub same_jobs : (fs : List FunctionItems) (jobs : List Job) (l : Layouts) → length jobs ≡ length fs → AreLayouts fs jobs l → jobs_in l ≡ jobs
+same_jobs fs jobs l same are = ap (map (λ (x : Finding). x.job)) are.findings ∙ jobs_found fs jobs same
 
 -- of the first one, and of the others
 first_of : {A : Type 0} (P : A → Type 0) (x : A) (xs : List A) → All P (x ∷ xs) → P x

@@ -60,14 +60,7 @@ log_of (Certified lists cost log) = log
 log_of (Exhausted lists cost piece quota log) = log
 
 abbrev pub finding_of : List ℕ → Job → Answer → Finding
-finding_of name job a = record {
-  name = name;
-  accesses = job.sequence;
-  registers = job.registers;
-  cost = answer_cost a;
-  claim = claim_of a;
-  log = log_of a;
-}
+finding_of name job a = record { name = name; job = job; cost = answer_cost a; claim = claim_of a; log = log_of a }
 
 -- what is found for functions, whose jobs are given in order
 abbrev pub findings_of : List FunctionItems → List Job → List Finding
@@ -78,6 +71,10 @@ findings_of fs jobs = []
 pub record AreLayouts (fs : List FunctionItems) (jobs : List Job) (l : Layouts) : Type 0 where
   pub arrangements : l.arrangements.items ≡ map layout_of jobs
   pub findings : l.findings.items ≡ findings_of fs jobs
+
+-- for which they were found
+abbrev pub jobs_in : Layouts → List Job
+jobs_in l = map (λ x. x.job) l.findings.items
 
 -- functions, their jobs and the answers side by side
 abbrev pub lists_with : List FunctionItems → List Job → List Answer → List (List (List ℕ))
@@ -110,8 +107,8 @@ frames_of fs jobs plans = []
 abbrev pub frame_with : Finding → List (List ℕ) → FramePlan → Frame
 frame_with x lists plan = record {
   name = x.name;
-  registers = x.registers;
-  seq = x.accesses;
+  registers = x.job.registers;
+  seq = x.job.sequence;
   arr = lists;
   bases = plan.bases;
   cost = x.cost;

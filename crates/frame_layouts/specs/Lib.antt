@@ -1,4 +1,5 @@
 -- The frames of functions, as they are laid out.
 pub use Rattle.lay_cert.specs as lay_cert
+pub use Rattle.lay_par.specs as lay_par
 pub mod Frames
 pub mod Rows

@@ -46,8 +46,8 @@ fn frame(
 {
     Ok(CertFrame::new(FrameParts {
         name: finding.name,
-        registers: finding.registers,
-        seq: finding.accesses,
+        registers: finding.job.registers(),
+        seq: finding.job.into_sequence(),
         arr: arrangement,
         bases: plan.bases.as_slice().to_vec(alloc)?,
         cost: finding.cost,

@@ -9,19 +9,18 @@ ghost use Rattle.lay_tree.specs.Search.{answer_lists};
 use crate::options::Options;
 use acc_code::{AccFunction, sequence};
 use lay_cert::Claim;
-use lay_model::{Arrangement, MOST_SCALARS, Sequence};
+use lay_model::{Arrangement, MOST_SCALARS};
 use lay_par::{Job, search_all};
 use lay_tree::{Answer, Log};
 use std::alloc::Global;
 use std::thread::Threads;
 use word_base::{Gate, NoMemory, Text};
 
-/// The accesses for which a function's frame is laid out, over how many registers, and what a search found of it beside its layout.
+/// What was searched for a function's frame, and what was found of it beside its layout.
 #[derive(Drop)]
 pub struct Finding {
     pub name: Text,
-    pub accesses: Sequence,
-    pub registers: u8,
+    pub job: Job,
     pub cost: u64,
     pub claim: Claim,
     pub log: Log,
@@ -113,8 +112,6 @@ fn parts_of(name: Text, job: Job, answer: Answer) -> (Arrangement, Finding)
     ensures lists { result.0 ≡ answer_lists answer }
     ensures finding { result.1 ≡ frames.finding_of name job answer }
 {
-    let registers = job.registers();
-    let accesses = job.into_sequence();
     match answer {
         Answer::Certified {
             arrangement,
@@ -123,8 +120,7 @@ fn parts_of(name: Text, job: Job, answer: Answer) -> (Arrangement, Finding)
         } => {
             let finding = Finding {
                 name,
-                accesses,
-                registers,
+                job,
                 cost,
                 claim: Claim::Optimal,
                 log,
@@ -140,8 +136,7 @@ fn parts_of(name: Text, job: Job, answer: Answer) -> (Arrangement, Finding)
         } => {
             let finding = Finding {
                 name,
-                accesses,
-                registers,
+                job,
                 cost,
                 claim: Claim::Best { piece, quota },
                 log,

@@ -25,7 +25,7 @@ returns-in_err-image-clause-refused g c = λ t is.
     let plan = c.in_ok-planned.planned.plan in
     let fault = c.in_err-image.field-0.0 in
     passed_on o t c.from_residual-in_err-image.result fault c.from_residual-in_err-image.ensures.1
-    (pieces_say o t plan fault (subst (λ (p : ProgramCode). IsPlan p (layouts o p) plan) is c.in_ok-planned.ensures.plan)
+    (pieces_say o t plan fault (subst (λ (p : ProgramCode). IsPlan p (layouts o) plan) is c.in_ok-planned.ensures.plan)
     (subst (λ (p : ProgramCode). SaysOfPieces (all_pieces o p plan) fault) is c.in_err-image.ensures.refused))
 
 pub returns-clause-image : goal.returns-clause-image
@@ -34,7 +34,7 @@ returns-clause-image g c = λ t is.
     let plan = c.in_ok-planned.planned.plan in
     record {
       plan = plan;
-      planned = subst (λ (p : ProgramCode). IsPlan p (layouts o p) plan) is c.in_ok-planned.ensures.plan;
+      planned = subst (λ (p : ProgramCode). IsPlan p (layouts o) plan) is c.in_ok-planned.ensures.plan;
       fits = subst (λ (p : ProgramCode). pieces_words (all_pieces o p plan) ≤ 65536) is c.in_ok-image.ensures.fits;
       is = c.in_ok-image.ensures.image ∙ ap (λ (p : ProgramCode). linked_image (all_pieces o p plan)) is;
       linked = subst (λ (p : ProgramCode). Linked (all_pieces o p plan) c.in_ok-image.image) is c.in_ok-image.ensures.linked;
@@ -47,7 +47,7 @@ returns-clause-frames g c = λ t is.
     let plan = c.in_ok-planned.planned.plan in
     record {
       plan = plan;
-      planned = subst (λ (p : ProgramCode). IsPlan p (layouts o p) plan) is c.in_ok-planned.ensures.plan;
+      planned = subst (λ (p : ProgramCode). IsPlan p (layouts o) plan) is c.in_ok-planned.ensures.plan;
       are = c.in_ok-certificate.ensures ∙ ap (λ (p : ProgramCode). frames_of o (selected p) plan.frames) is;
     }
 

@@ -18,7 +18,7 @@ emit-requires-clause-lists c =
     let o = c.args.options in
     let p = tree_of c.args.chosen.now.tree in
     subst (All (λ lists. length lists ≤ 4)) (sym (c.deref.ensures.value ∙ c.requires.layouts.arrangements))
-    (few_lists p (layouts o p)
+    (few_lists p (layouts o)
     (all_arranged o p _ c.requires.options (λ f is. c.layouts_are_arranged.ensures o f c.requires.options is) (subst (λ (gs : List FunctionItems). IsEmittable p gs) c.requires.code c.requires.emittable) c.requires.layouts.sequences))
 
 pub emit-requires-clause-right : goal.emit-requires-clause-right

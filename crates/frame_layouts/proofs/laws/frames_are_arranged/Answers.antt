@@ -1,4 +1,4 @@
-use Rattle.frame_layouts.proofs.Framing.{same_frames, each_frame, all_framed, all_sequenced}
+use Rattle.frame_layouts.proofs.Framing.{same_frames, same_jobs, each_frame, all_framed, all_sequenced}
 use Rattle.frame_layouts.proofs.laws.frames_are_arranged.Goals as goal
 
 pub returns-clause-same : goal.returns-clause-same
@@ -12,3 +12,6 @@ returns-clause-all c = all_framed
 
 pub returns-clause-sequences : goal.returns-clause-sequences
 returns-clause-sequences c = all_sequenced
+
+pub returns-clause-jobs : goal.returns-clause-jobs
+returns-clause-jobs c = same_jobs
