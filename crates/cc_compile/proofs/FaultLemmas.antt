@@ -4,6 +4,7 @@ use Rattle.std.specs.Prelude.{Result, IfErr, IsErrAnd}
 use Rattle.c_tree.specs.TypedTree.{ProgramTree}
 use Rattle.cc_image.specs.frame_layouts.declared.options.Options.{Options}
 use Rattle.cc_image.specs.Faults.{Says}
+use Rattle.cc_image.specs.Images.{source_jobs}
 use Rattle.cc_image.specs.declared.fault.TranslationFault.{TranslationFault}
 use Rattle.cc_image.specs.declared.fault.TranslationFault.TheVariants as translation
 use Rattle.cc_compile.specs.PartFaults.{of_translation_fault}
@@ -17,7 +18,7 @@ passed_on (Ok a) given P is h = absurd is
 passed_on (Err e) given P is h = subst P (sym is) h
 
 -- what the image of a program is refused for is a fault of its source
-pub no_image : (o : Options) (bytes : List ℕ) (program : ProgramTree) (fault : TranslationFault) → HasProgram bytes program → Says o program fault → of_translation_fault fault ≢ faults.NoMemory
+pub no_image : (o : Options) (bytes : List ℕ) (program : ProgramTree) (fault : TranslationFault) → HasProgram bytes program → Says (source_jobs o program) program fault → of_translation_fault fault ≢ faults.NoMemory
     → HasFault o bytes (of_translation_fault fault)
 no_image o bytes program (translation.Plan why) h says some = (h.0, h.1, h.2, h.3, (program, h.4, says))
 no_image o bytes program (translation.Link why) h says some = (h.0, h.1, h.2, h.3, (program, h.4, says))

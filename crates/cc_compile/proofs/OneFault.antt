@@ -14,6 +14,7 @@ use Rattle.c_parser.specs.declared.fault.ParseFault.TheVariants as parse
 use Rattle.c_rules.specs.declared.fault.TypeFault.{TypeFault}
 use Rattle.c_rules.proofs.LawLemmas.{one_program, accepted}
 use Rattle.cc_image.specs.frame_layouts.declared.options.Options.{Options}
+use Rattle.cc_image.specs.Images.{source_jobs}
 use Rattle.cc_image.proofs.OneImage.{one_plan_fault, one_link_fault, plan_or_link, image_no_plan_fault, image_no_link_fault}
 use Rattle.cc_compile.specs.SourceFaults.{HasFault, HasNoProgramFor, HasProgram, HasTree, IsTypedWith, IsLexFault, IsParseFault, IsSameFault, IsAccepted, IsUntyped, IsOfTypes}
 use Rattle.cc_compile.specs.declared.fault.BuildFault.{BuildFault}
@@ -75,9 +76,9 @@ one_fault o bytes (Link full) (Parse other) f g = absurd (no_parse_fault o bytes
 one_fault o bytes (Plan full) (Types other) f g = absurd (not_faulty o bytes _ other f g)
 one_fault o bytes (Link full) (Types other) f g = absurd (not_faulty o bytes _ other f g)
 one_fault o bytes (Plan why) (Plan other) f g = let b = both_of_program bytes _ _ f g in sym (ap Plan (one_plan_fault b.0 why other b.1 b.2))
-one_fault o bytes (Plan why) (Link other) f g = let b = both_of_program bytes _ _ f g in absurd (plan_or_link o b.0 why other b.1 b.2)
-one_fault o bytes (Link why) (Plan other) f g = let b = both_of_program bytes _ _ f g in absurd (plan_or_link o b.0 other why b.2 b.1)
-one_fault o bytes (Link why) (Link other) f g = let b = both_of_program bytes _ _ f g in sym (ap Link (one_link_fault o b.0 why other b.1 b.2))
+one_fault o bytes (Plan why) (Link other) f g = let b = both_of_program bytes _ _ f g in absurd (plan_or_link (source_jobs o b.0) b.0 why other b.1 b.2)
+one_fault o bytes (Link why) (Plan other) f g = let b = both_of_program bytes _ _ f g in absurd (plan_or_link (source_jobs o b.0) b.0 other why b.2 b.1)
+one_fault o bytes (Link why) (Link other) f g = let b = both_of_program bytes _ _ f g in sym (ap Link (one_link_fault (source_jobs o b.0) b.0 why other b.1 b.2))
 one_fault o bytes NoMemory b f g = absurd f
 one_fault o bytes (Lex l) NoMemory f g = absurd g
 one_fault o bytes (Parse why) NoMemory f g = absurd g
@@ -90,8 +91,8 @@ pub accepted_no_fault : (o : Options) (bytes : List ℕ) (a : BuildFault) → Is
 accepted_no_fault o bytes (Lex l) h f = no_lexer_fault bytes _ l h f
 accepted_no_fault o bytes (Parse why) h f = no_parse_fault o bytes _ why h f
 accepted_no_fault o bytes (Types why) h f = not_faulty o bytes _ why h f
-accepted_no_fault o bytes (Plan why) h f = let b = both_of_program bytes _ _ h f in image_no_plan_fault o b.0 b.1.0 why b.1.1 b.2
-accepted_no_fault o bytes (Link why) h f = let b = both_of_program bytes _ _ h f in image_no_link_fault o b.0 b.1.0 why b.1.1 b.2
+accepted_no_fault o bytes (Plan why) h f = let b = both_of_program bytes _ _ h f in image_no_plan_fault (source_jobs o b.0) b.0 b.1.0 why b.1.1 b.2
+accepted_no_fault o bytes (Link why) h f = let b = both_of_program bytes _ _ h f in image_no_link_fault (source_jobs o b.0) b.0 b.1.0 why b.1.1 b.2
 accepted_no_fault o bytes NoMemory h f = f
 
 -- one without a typed program has none but of types

@@ -12,7 +12,7 @@ use Rattle.c25_isa.specs.Agrees.{Agrees}
 use Rattle.c25_isa.specs.Image.{Contents}
 use Rattle.cc_image.specs.lay_cert.Frames.{Frame}
 use Rattle.cc_image.specs.frame_layouts.declared.options.Options.{Options}
-use Rattle.cc_image.specs.Images.{AccessAs, AreWalked, EndsWithin, HasFrames, HasImage, IsDirect, KeepsRuns, TreeKeepsRuns}
+use Rattle.cc_image.specs.Images.{AccessAs, AreWalked, EndsWithin, HasFrames, HasImage, IsDirect, KeepsRuns, TreeKeepsRuns, source_jobs}
 
 -- the bytes have a tree, this a typed program, and that has the image, which is linked from its pieces and the routines, and the frames, which are
 -- laid out as is chosen. The words do what the program does
@@ -23,20 +23,20 @@ pub record IsBuilt (o : Options) (bytes : List ℕ) (image : Contents) (frames :
   pub lexes : Lexes bytes tokens
   pub is_source : IsSource tokens source
   pub typed : IsTyped source program
-  pub has : HasImage o program image
+  pub has : HasImage (source_jobs o program) program image
   -- of few words for its expressions, statements and declared items
   pub short : length image.words ≤ 1000 + 64 * unit_count source
-  pub framed : HasFrames o program frames
+  pub framed : HasFrames (source_jobs o program) program frames
   -- each frame is laid out for the accesses of its function in the source
   pub accesses : AccessAs o.step program frames
   -- what its accumulator code does, with objects where the plan has them, is what the program does
-  pub keeps : ∥ KeepsRuns o program ∥₁
+  pub keeps : ∥ KeepsRuns (source_jobs o program) program ∥₁
   -- so is what its word tree does: where the program ends the tree does, with the work that bounds the image's steps
-  pub tree : ∥ TreeKeepsRuns o program ∥₁
+  pub tree : ∥ TreeKeepsRuns (source_jobs o program) program ∥₁
   -- and so is what the image does, wherever C defines what the program does; where the program ends, in time
   pub agrees : ∥ Agrees (source_run program) image.words ∥₁
-  pub in_time : ∥ EndsWithin o program image ∥₁
+  pub in_time : ∥ EndsWithin (source_jobs o program) program image ∥₁
   -- the words of each function access what its frame says, with so many address instructions as that costs
   pub walked : ∥ AreWalked image frames ∥₁
   -- no direct operand of them names a word of its scalars
-  pub direct : ∥ IsDirect o program image ∥₁
+  pub direct : ∥ IsDirect (source_jobs o program) program image ∥₁

@@ -16,7 +16,7 @@ use Rattle.c_rules.specs.declared.fault.TypeFault.{TypeFault}
 use Rattle.c_rules.specs.declared.fault.TypeFault.TheVariants as types
 use Rattle.c25_isa.specs.Image.{Contents}
 use Rattle.cc_image.specs.frame_layouts.declared.options.Options.{Options}
-use Rattle.cc_image.specs.Images.{HasImage, HasPlanFault, HasLinkFault}
+use Rattle.cc_image.specs.Images.{HasImage, HasPlanFault, HasLinkFault, source_jobs}
 use Rattle.cc_compile.specs.declared.fault.BuildFault.{BuildFault}
 use Rattle.cc_compile.specs.declared.fault.BuildFault.TheVariants.{Lex, Parse, Types, Plan, Link, NoMemory}
 
@@ -34,7 +34,7 @@ HasProgram bytes program = HasTree bytes (λ source. IsTyped source program)
 
 -- the bytes have a tree, whose typed program has an image
 abbrev pub IsAccepted : Options → List ℕ → Type 0
-IsAccepted o bytes = HasTree bytes (IsTypedWith (λ program. (image : Contents) × HasImage o program image))
+IsAccepted o bytes = HasTree bytes (IsTypedWith (λ program. (image : Contents) × HasImage (source_jobs o program) program image))
 
 -- the bytes have a tree, which has no typed program
 abbrev pub IsUntyped : List ℕ → Type 0
@@ -63,7 +63,7 @@ HasNoProgramFor why bytes = ⊥
 -- what each fault says of the bytes of a source, with frames laid out as is chosen. Want of memory is no fault of a source.
 abbrev pub HasFault : Options → List ℕ → BuildFault → Type 0
 HasFault o bytes (Plan why) = HasTree bytes (IsTypedWith (λ program. HasPlanFault program why))
-HasFault o bytes (Link why) = HasTree bytes (IsTypedWith (λ program. HasLinkFault o program why))
+HasFault o bytes (Link why) = HasTree bytes (IsTypedWith (λ program. HasLinkFault (source_jobs o program) program why))
 HasFault o bytes why = HasNoProgramFor why bytes
 
 -- both are one fault, but for the place that one of syntax names and for which one of types

@@ -24,7 +24,7 @@ use Rattle.c25_asm.specs.AssemblerText.{assembled}
 use Rattle.c25_asm.specs.declared.fault.AsmFault.{AsmFault}
 use Rattle.lay_text.proofs.Exact.{sequences_same, says_not_read}
 use Rattle.lay_tree.specs.Search.{search_answer}
-use Rattle.cc_files.specs.cc_image.Images.{HasImage, HasFrames}
+use Rattle.cc_files.specs.cc_image.Images.{HasImage, HasFrames, source_jobs}
 use Rattle.lay_cert.specs.Frames.{Frame}
 use Rattle.lay_cert.proofs.Exact.{reads_same as certificates_same, says_not_read as no_certificate}
 use Rattle.cc_files.specs.frame_layouts.declared.options.Options.{Options}
@@ -143,10 +143,10 @@ one_program : (o : Options) (bytes : List ℕ) (a b : Contents) (fs gs : List Fr
 one_program o bytes a b fs gs h k = same_program bytes h.program k.program (typed_of o bytes a fs h) (typed_of o bytes b gs k)
 
 one_built : (o : Options) (bytes : List ℕ) (a b : Contents) (fs gs : List Frame) → IsBuilt o bytes a fs → IsBuilt o bytes b gs → a ≡ b
-one_built o bytes a b fs gs h k = one_image o k.program a b (subst (λ p. HasImage o p a) (one_program o bytes a b fs gs h k) h.has) k.has
+one_built o bytes a b fs gs h k = one_image (source_jobs o k.program) k.program a b (subst (λ p. HasImage (source_jobs o p) p a) (one_program o bytes a b fs gs h k) h.has) k.has
 
 one_framed : (o : Options) (bytes : List ℕ) (a b : Contents) (fs gs : List Frame) → IsBuilt o bytes a fs → IsBuilt o bytes b gs → fs ≡ gs
-one_framed o bytes a b fs gs h k = frames_same o k.program fs gs (subst (λ p. HasFrames o p fs) (one_program o bytes a b fs gs h k) h.framed) k.framed
+one_framed o bytes a b fs gs h k = frames_same (source_jobs o k.program) k.program fs gs (subst (λ p. HasFrames (source_jobs o p) p fs) (one_program o bytes a b fs gs h k) h.framed) k.framed
 
 build_one : (o : Options) (name bytes : List ℕ) (a b : Answered) (s t : List Stored) → BuildsTo o name bytes a s → BuildsTo o name bytes b t → a ≡ b
 build_one o name bytes a b s t c d = c.reported ∙ ap report_of (one_framed o bytes c.image d.image c.frames d.frames c.built d.built) ∙ sym d.reported

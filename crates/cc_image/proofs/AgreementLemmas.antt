@@ -21,7 +21,6 @@ use Rattle.c25_code.specs.Links.{pieces_size}
 use Rattle.c25_link.specs.Linking.{pieces_words}
 use Rattle.image_proof.specs.Agreeing.{EndsInTime, emission_of}
 use Rattle.image_proof.specs.Keeping.{all_pieces as emission_pieces}
-use Rattle.frame_layouts.specs.Frames.{AreOptions}
 use Rattle.cc_image.specs.Images.{FrameJobs, EndsWithin, HasImage, all_pieces, layouts}
 use Rattle.cc_image.proofs.OneImage.{one_plan}
 
@@ -34,9 +33,9 @@ pub ok_of_both : {A E : Type 0} {P Q R : A → Type 0} (r : Result A E) → IfOk
 ok_of_both (Ok a) h k f = f a h k
 ok_of_both (Err e) h k f = tt
 
-pub ok_of_four : {A E : Type 0} {P Q R S T : A → Type 0} (r : Result A E) → IfOk r P → IfOk r Q → IfOk r R → IfOk r S → ((a : A) → P a → Q a → R a → S a → T a) → IfOk r T
-ok_of_four (Ok a) h k l m f = f a h k l m
-ok_of_four (Err e) h k l m f = tt
+pub ok_of_three : {A E : Type 0} {P Q R S : A → Type 0} (r : Result A E) → IfOk r P → IfOk r Q → IfOk r R → ((a : A) → P a → Q a → R a → S a) → IfOk r S
+ok_of_three (Ok a) h k l f = f a h k l
+ok_of_three (Err e) h k l f = tt
 
 -- the laws of images for the layouts of a program
 abbrev ForImage : (ProgramTree → DataPlan → List ℕ → Type 0) → Type 0
@@ -48,20 +47,19 @@ pub size_same : (ps : List Piece) → pieces_size ps ≡ pieces_words ps
 size_same [] = refl
 size_same (p ∷ ps) = ap (λ n. items_size p.items + n) (size_same ps) ∙ sym (sum_by-cons (λ (q : Piece). items_size q.items) p ps)
 
-for_image : (So : ProgramTree → DataPlan → List ℕ → Type 0) → ForImage So → (o : FrameJobs) (t : ProgramTree) (p : ProgramCode) (gs : List FunctionItems) → AreJobs o (selected p) → p ≡ lowered_program t → IsProgram t → ProgramHasWords t → AreArranged p.functions (layouts o) → IsEmittable p gs → gs ≡ selected p
+for_image : (So : ProgramTree → DataPlan → List ℕ → Type 0) → ForImage So → (o : FrameJobs) (t : ProgramTree) (p : ProgramCode) (gs : List FunctionItems) → o.step ≤ 8 → p ≡ lowered_program t → IsProgram t → ProgramHasWords t → AreArranged p.functions (layouts o) → IsEmittable p gs → gs ≡ selected p
     → (image : Contents) (h : HasImage o t image) → So t h.plan image.words
 for_image So law o t p gs options same is words arranged emittable chosen image h =
-    let few = options.to_eight in
     let size = h.fits in
     law t h.plan (layouts o) o.step image is words (subst (λ p. AreArranged p.functions (layouts o)) same arranged) h.planned
-    (subst (λ p. IsEmittable p (selected p)) same (subst (IsEmittable p) chosen emittable)) (omega (arith, few)) h.linked h.ranges (omega (arith, size, size_same (all_pieces o (lowered_program t) h.plan)))
+    (subst (λ p. IsEmittable p (selected p)) same (subst (IsEmittable p) chosen emittable)) (omega (arith, options)) h.linked h.ranges (omega (arith, size, size_same (all_pieces o (lowered_program t) h.plan)))
 
-pub image_agrees : ForImage (λ t plan words. Agrees (source_run t) words) → (o : FrameJobs) (t : ProgramTree) (p : ProgramCode) (gs : List FunctionItems) → AreJobs o (selected p) → p ≡ lowered_program t → ∥ IsProgram t ∥₁ → ProgramHasWords t → AreArranged p.functions (layouts o) → IsEmittable p gs → gs ≡ selected p
+pub image_agrees : ForImage (λ t plan words. Agrees (source_run t) words) → (o : FrameJobs) (t : ProgramTree) (p : ProgramCode) (gs : List FunctionItems) → o.step ≤ 8 → p ≡ lowered_program t → ∥ IsProgram t ∥₁ → ProgramHasWords t → AreArranged p.functions (layouts o) → IsEmittable p gs → gs ≡ selected p
     → (image : Contents) → HasImage o t image → ∥ Agrees (source_run t) image.words ∥₁
 image_agrees law o t p gs options same known words arranged emittable chosen image h =
     ∥∥₁_map known (λ is. for_image (λ t plan words. Agrees (source_run t) words) law o t p gs options same is words arranged emittable chosen image h)
 
-pub image_in_time : ForImage EndsInTime → (o : FrameJobs) (t : ProgramTree) (p : ProgramCode) (gs : List FunctionItems) → AreJobs o (selected p) → p ≡ lowered_program t → ∥ IsProgram t ∥₁ → ProgramHasWords t → AreArranged p.functions (layouts o) → IsEmittable p gs → gs ≡ selected p
+pub image_in_time : ForImage EndsInTime → (o : FrameJobs) (t : ProgramTree) (p : ProgramCode) (gs : List FunctionItems) → o.step ≤ 8 → p ≡ lowered_program t → ∥ IsProgram t ∥₁ → ProgramHasWords t → AreArranged p.functions (layouts o) → IsEmittable p gs → gs ≡ selected p
     → (image : Contents) → HasImage o t image → ∥ EndsWithin o t image ∥₁
 image_in_time law o t p gs options same known words arranged emittable chosen image h =
     ∥∥₁_map known (λ is plan planned. subst (λ x. EndsInTime t x image.words) (one_plan o t h.plan plan h.planned planned) (for_image EndsInTime law o t p gs options same is words arranged emittable chosen image h))

@@ -17,7 +17,6 @@ use Rattle.c25_code.specs.Links.{pieces_size}
 use Rattle.image_proof.specs.Agreeing.{emission_of}
 use Rattle.image_proof.specs.Keeping.{all_pieces as emission_pieces}
 use Rattle.image_proof.specs.Directs.{AreDirect}
-use Rattle.frame_layouts.specs.Frames.{AreOptions}
 use Rattle.cc_image.specs.Images.{FrameJobs, HasImage, IsDirect, all_pieces, layouts}
 use Rattle.cc_image.proofs.AgreementLemmas.{size_same}
 use Rattle.cc_image.proofs.OneImage.{one_plan}
@@ -28,14 +27,13 @@ ForDirect = (t : ProgramTree) (plan : DataPlan) (arrangements : List (List (List
     → IsEmittable (lowered_program t) (selected (lowered_program t)) → step < 256 → Linked (emission_pieces (emission_of t plan arrangements step)) image → PiecesFit (emission_pieces (emission_of t plan arrangements step)) → pieces_size (emission_pieces (emission_of t plan arrangements step)) ≤ 65536
     → AreDirect (emission_of t plan arrangements step) image
 
-direct_by : ForDirect → (o : FrameJobs) (t : ProgramTree) → AreJobs o (selected p) → IsProgram t → ProgramHasWords t → AreArranged (lowered_program t).functions (layouts o) → IsEmittable (lowered_program t) (selected (lowered_program t))
+direct_by : ForDirect → (o : FrameJobs) (t : ProgramTree) → o.step ≤ 8 → IsProgram t → ProgramHasWords t → AreArranged (lowered_program t).functions (layouts o) → IsEmittable (lowered_program t) (selected (lowered_program t))
     → (image : Contents) (h : HasImage o t image) → AreDirect (emission_of t h.plan (layouts o) o.step) image
 direct_by law o t options is words arranged emittable image h =
-    let few = options.to_eight in
     let size = h.fits in
-    law t h.plan (layouts o) o.step image is words arranged h.planned emittable (omega (arith, few)) h.linked h.ranges (omega (arith, size, size_same (all_pieces o (lowered_program t) h.plan)))
+    law t h.plan (layouts o) o.step image is words arranged h.planned emittable (omega (arith, options)) h.linked h.ranges (omega (arith, size, size_same (all_pieces o (lowered_program t) h.plan)))
 
-pub image_direct : ForDirect → (o : FrameJobs) (t : ProgramTree) (p : ProgramCode) (gs : List FunctionItems) → AreJobs o (selected p) → p ≡ lowered_program t → ∥ IsProgram t ∥₁ → ProgramHasWords t → AreArranged p.functions (layouts o) → IsEmittable p gs → gs ≡ selected p
+pub image_direct : ForDirect → (o : FrameJobs) (t : ProgramTree) (p : ProgramCode) (gs : List FunctionItems) → o.step ≤ 8 → p ≡ lowered_program t → ∥ IsProgram t ∥₁ → ProgramHasWords t → AreArranged p.functions (layouts o) → IsEmittable p gs → gs ≡ selected p
     → (image : Contents) → HasImage o t image → ∥ IsDirect o t image ∥₁
 image_direct law o t p gs options same known words arranged emittable chosen image h =
     ∥∥₁_map known

@@ -13,14 +13,14 @@ use Rattle.acc_code.specs.AccView.{function_items_of}
 use Rattle.acc_code.specs.AccSequence.{IsInFrame}
 use Rattle.acc_select.specs.IsSelected.{IsEmittable}
 use Rattle.acc_select.specs.Selected.{selected, selected_function}
-use Rattle.lay_model.specs.Sequences.{IsSequence}
 use Rattle.lay_model.specs.Arrangements.{Arranges}
 use Rattle.lay_cost.specs.Cost as costs
 use Rattle.mem_plan.specs.declared.data_plan.DataPlan.{DataPlan}
 use Rattle.mem_plan.specs.declared.data_plan.FramePlan.{FramePlan}
 use Rattle.mem_plan.specs.Plan.{AreArranged, IsArranged, IsPlan, list_bases, frames_from, frames_start}
-use Rattle.frame_layouts.specs.Frames.{AreOptions, AreBased, accesses_of, layout_of}
-use Rattle.cc_image.specs.Images.{FrameJobs, layouts}
+use Rattle.frame_layouts.specs.Frames.{AreBased, IsJob, layout_of}
+use Rattle.frame_layouts.specs.lay_par.Jobs.{Job}
+use Rattle.cc_image.specs.Images.{AreJobs}
 use Rattle.cc_image.proofs.PieceLemmas.{known_names}
 
 -- the elements of a list
@@ -53,24 +53,39 @@ all_in_frames p gs is = each_of IsInFrame gs (λ k g there.
     (is.each k f.0 g f.1 there).frame)
 
 -- what laws say of layouts
-abbrev pub Arranging : FrameJobs → Type 0
-Arranging o = (f : FunctionItems) → IsSequence (accesses_of o f) → costs.IsArranged (accesses_of o f) o.registers (layout_of o f)
+abbrev pub Arranging : Type 0
+Arranging = (job : Job) → IsJob job → costs.IsArranged job.sequence job.registers (layout_of job)
 
-from_listed : (o : FrameJobs) (found : Option FunctionItems) (lists : List (List ℕ)) → option_map (layout_of o) found ≡ Some lists → (g : FunctionItems) × (found ≡ Some g) × (layout_of o g ≡ lists)
-from_listed o (Some g) lists is = (g, refl, same_some (layout_of o g) lists is)
-from_listed o None lists is = cc
+-- jobs are as many as functions
+pub one_each : (jobs : List Job) (gs : List FunctionItems) → AreJobs jobs gs → length jobs ≡ length gs
+one_each jobs gs are = sym (length-map jobs (λ (job : Job). job.sequence.scalars)) ∙ ap length are.scalars ∙ length-map gs (λ (g : FunctionItems). g.scalars)
 
-pub all_arranged : (o : FrameJobs) (p : ProgramCode) (gs : List FunctionItems) → AreJobs o (selected p) → Arranging o → IsEmittable p gs → All (λ f. IsSequence (accesses_of o f)) gs → AreArranged p.functions (map (layout_of o) gs)
-all_arranged o p gs options arranging is sequences = record {
-  count = length-map gs (layout_of o) ∙ is.count;
+from_listed : (found : Option Job) (lists : List (List ℕ)) → option_map layout_of found ≡ Some lists → (job : Job) × (found ≡ Some job) × (layout_of job ≡ lists)
+from_listed (Some job) lists is = (job, refl, same_some (layout_of job) lists is)
+from_listed None lists is = cc
+
+-- of functions and their jobs side by side, the scalars are the same
+same_scalars : (jobs : List Job) (gs : List FunctionItems) (n : ℕ) (job : Job) (g : FunctionItems) → AreJobs jobs gs → slice_get jobs n ≡ Some job → slice_get gs n ≡ Some g → job.sequence.scalars ≡ g.scalars
+same_scalars jobs gs n job g are there listed =
+    same_some job.sequence.scalars g.scalars
+    (sym (slice_get-map (λ (j : Job). j.sequence.scalars) jobs n ∙ ap (option_map (λ (j : Job). j.sequence.scalars)) there)
+    ∙ ap (λ xs. slice_get xs n) are.scalars
+    ∙ slice_get-map (λ (f : FunctionItems). f.scalars) gs n
+    ∙ ap (option_map (λ (f : FunctionItems). f.scalars)) listed)
+
+pub all_arranged : (jobs : List Job) (p : ProgramCode) (gs : List FunctionItems) → Arranging → IsEmittable p gs → AreJobs jobs gs → AreArranged p.functions (map layout_of jobs)
+all_arranged jobs p gs arranging is are = record {
+  count = length-map jobs layout_of ∙ one_each jobs gs are ∙ is.count;
   each = λ n f lists there listed.
-      let found = from_listed o (slice_get gs n) lists (sym (slice_get-map (layout_of o) gs n) ∙ listed) in
-      let g = found.0 in
-      let arranged = arranging g (one_of (λ f. IsSequence (accesses_of o f)) gs n g sequences found.1) in
-      let same = (is.each n f g there found.1).scalars in
+      let found = from_listed (slice_get jobs n) lists (sym (slice_get-map layout_of jobs n) ∙ listed) in
+      let job = found.0 in
+      let g = some_at gs n (subst (λ m. n < m) (one_each jobs gs are) (within_of jobs n job found.1)) in
+      let arranged = arranging job (one_of IsJob jobs n job are.each found.1) in
+      let same = same_scalars jobs gs n job g.0 are found.1 g.1 ∙ (is.each n f g.0 there g.1).scalars in
+      let few = (one_of IsJob jobs n job are.each found.1).few_registers in
       subst (IsArranged f) found.2 (record {
-        arranges = subst (λ m. Arranges m (layout_of o g)) same arranged.arranges;
-        few = omega (arith, arranged.few, options.few_registers);
+        arranges = subst (λ m. Arranges m (layout_of job)) same arranged.arranges;
+        few = omega (arith, arranged.few, few);
       });
 }
 
@@ -79,17 +94,17 @@ bases_count : (at : ℕ) (lists : List (List ℕ)) → length (list_bases at lis
 bases_count at [] = refl
 bases_count at (l ∷ ls) = ap suc (bases_count (at + length l) ls)
 
-frames_based : (o : FrameJobs) (start : ℕ) (begin : ℕ → ℕ) (n : ℕ) (fs : List FunctionCode) (gs : List FunctionItems) → length gs ≡ length fs
-    → map (λ (plan : FramePlan). length plan.bases) (frames_from start begin n fs (map (layout_of o) gs)) ≡ map (λ f. length (layout_of o f)) gs
-frames_based o start begin n [] [] same = refl
-frames_based o start begin n [] (g ∷ gs) same = absurd (omega (arith, same))
-frames_based o start begin n (f ∷ fs) [] same = absurd (omega (arith, same))
-frames_based o start begin n (f ∷ fs) (g ∷ gs) same =
-    ap₂ (λ (m : ℕ) ms. m ∷ ms) (bases_count (start + begin n) (layout_of o g)) (frames_based o start begin (suc n) fs gs (omega (arith, same)))
+frames_based : (start : ℕ) (begin : ℕ → ℕ) (n : ℕ) (fs : List FunctionCode) (jobs : List Job) → length jobs ≡ length fs
+    → map (λ (plan : FramePlan). length plan.bases) (frames_from start begin n fs (map layout_of jobs)) ≡ map (λ job. length (layout_of job)) jobs
+frames_based start begin n [] [] same = refl
+frames_based start begin n [] (job ∷ jobs) same = absurd (omega (arith, same))
+frames_based start begin n (f ∷ fs) [] same = absurd (omega (arith, same))
+frames_based start begin n (f ∷ fs) (job ∷ jobs) same =
+    ap₂ (λ (m : ℕ) ms. m ∷ ms) (bases_count (start + begin n) (layout_of job)) (frames_based start begin (suc n) fs jobs (omega (arith, same)))
 
-pub all_based : (o : FrameJobs) (p : ProgramCode) (plan : DataPlan) → IsPlan p (layouts o) plan → AreBased o (selected p) plan.frames
-all_based o p plan is =
-    subst (λ (q : DataPlan). AreBased o (selected p) q.frames) (sym is.is) (frames_based o (frames_start p) is.begin 0 p.functions (selected p) (length-map p.functions selected_function))
+pub all_based : (jobs : List Job) (p : ProgramCode) (plan : DataPlan) → length jobs ≡ length p.functions → IsPlan p (map layout_of jobs) plan → AreBased jobs plan.frames
+all_based jobs p plan same is =
+    subst (λ (q : DataPlan). AreBased jobs q.frames) (sym is.is) (frames_based (frames_start p) is.begin 0 p.functions jobs same)
 
 -- the functions have names
 named : (fs : List FunctionCode) → All IsName (map (λ (f : FunctionCode). f.name) fs) → All (λ (g : FunctionItems). IsName g.name) (map selected_function fs)

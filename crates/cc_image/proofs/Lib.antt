@@ -10,3 +10,4 @@ mod TranslationLemmas
 mod AgreementLemmas
 mod WalkLemmas
 mod DirectLemmas
+mod SourceJobs

@@ -110,7 +110,7 @@ startup_calls statics (o ∷ os) = behind (fillings_code statics statics (o ∷ 
     behind [] = refl
     behind (i ∷ code) = behind code
 
-module _ (o : FrameJobs) (p : ProgramCode) (plan : DataPlan) (known : ∥ IsCode p ∥₁) (emittable : IsEmittable p (selected p)) (planned : IsPlan p (layouts o) plan) where
+module _ (o : FrameJobs) (p : ProgramCode) (plan : DataPlan) (known : ∥ IsCode p ∥₁) (emittable : IsEmittable p (selected p)) (each : length o.jobs ≡ length (selected p)) (planned : IsPlan p (layouts o) plan) where
   abbrev functions : List Piece
   functions = behind_startup p (selected p) plan (layouts o) o.step
 
@@ -123,9 +123,9 @@ module _ (o : FrameJobs) (p : ProgramCode) (plan : DataPlan) (known : ∥ IsCode
   names_are : map (λ (q : Piece). q.name) functions ≡ function_names
   names_are =
       let count : length (selected p) ≡ length p.functions = length-map p.functions selected_function in
-      let lists : length (layouts o) ≡ length p.functions = length-map (selected p) (layout_of o) ∙ count in
-      let based = all_based o p plan planned in
-      let frames : length plan.frames ≡ length p.functions = sym (length-map plan.frames _) ∙ ap length based ∙ length-map (selected p) _ ∙ count in
+      let lists : length (layouts o) ≡ length p.functions = length-map o.jobs layout_of ∙ each ∙ count in
+      let based = all_based o.jobs p plan (each ∙ count) planned in
+      let frames : length plan.frames ≡ length p.functions = sym (length-map plan.frames _) ∙ ap length based ∙ length-map o.jobs _ ∙ each ∙ count in
       their_names plan o.step (all_parameters p.functions plan.frames (layouts o)) (map (λ (g : FunctionItems). g.name) (selected p)) p.functions (selected p) plan.frames (layouts o) count frames lists
       ∙ selected_names p.functions
 

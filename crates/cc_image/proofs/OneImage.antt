@@ -32,7 +32,7 @@ pub one : (o : FrameJobs) (t : ProgramTree) (a b : Contents) → HasImage o t a 
 one o t a b h k = h.is ∙ ap (λ plan. linked_image (all_pieces o (lowered_program t) plan)) (one_plan o t h.plan k.plan h.planned k.planned) ∙ sym k.is
 
 pub frames_same : (o : FrameJobs) (t : ProgramTree) (a b : List Frame) → HasFrames o t a → HasFrames o t b → a ≡ b
-frames_same o t a b h k = h.are ∙ ap (λ (plan : DataPlan). frames_of o (selected (lowered_program t)) plan.frames) (one_plan o t h.plan k.plan h.planned k.planned) ∙ sym k.are
+frames_same o t a b h k = h.are ∙ ap (λ (plan : DataPlan). frames_of (selected (lowered_program t)) o.jobs plan.frames) (one_plan o t h.plan k.plan h.planned k.planned) ∙ sym k.are
 
 -- a plan has room
 pub planned_not_large : (o : FrameJobs) (t : ProgramTree) (plan : DataPlan) (n : ℕ) → IsPlanOf o t plan → HasTooMuchData t n → ⊥

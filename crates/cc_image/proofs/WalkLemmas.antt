@@ -1,5 +1,5 @@
 -- The words of each function access what its frame says, by the law of walks for the layouts of the program.
-use Rattle.std.proofs.Common.{◌≡◌, ◌<◌, ◌≤◌, ◌∙◌, ℕ, zero, suc, ◌+◌, ◌*◌, List, [], ◌∷◌, map, Some, refl, sym, ap, ap₂, subst, arith}
+use Rattle.std.proofs.Common.{◌≡◌, ◌<◌, ◌≤◌, ◌∙◌, ℕ, zero, suc, ◌+◌, ◌*◌, List, [], ◌∷◌, map, Some, refl, sym, ap, subst, arith}
 use Rattle.std.specs.Prelude.{slice_get, sum_by, length, All}
 use Rattle.std.proofs.Math.Logic.{∥∥₁_map}
 use Rattle.std.proofs.lemmas.List.Sums.{sum_by-cons}
@@ -13,13 +13,14 @@ use Rattle.acc_code.specs.AccTree.{FunctionItems}
 use Rattle.acc_code.specs.AccSequence.{blocks_of, once}
 use Rattle.acc_select.specs.IsSelected.{IsEmittable}
 use Rattle.acc_select.specs.Selected.{selected}
-use Rattle.lay_cost.specs.Cost.{block_cost}
+use Rattle.lay_cost.specs.Cost.{arranged_cost, block_cost}
+use Rattle.lay_model.specs.Sequences.{Sequence}
+use Rattle.image_proof.specs.acc_select_proof.SourceSequences.{at_step, source_sequence}
 use Rattle.lay_cost.specs.Placements.{placement_of}
 use Rattle.frame_layouts.specs.lay_cert.Frames.{Frame}
 use Rattle.mem_plan.specs.declared.data_plan.DataPlan.{DataPlan}
 use Rattle.mem_plan.specs.declared.data_plan.FramePlan.{FramePlan}
 use Rattle.mem_plan.specs.Plan.{AreArranged, IsPlan}
-use Rattle.c25_isa.specs.AddressCount.{address_count}
 use Rattle.c25_isa.specs.Image.{Contents}
 use Rattle.c25_isa.specs.Pieces.{Linked, PiecesFit}
 use Rattle.c25_isa.specs.Walk.{Blocks}
@@ -27,8 +28,9 @@ use Rattle.c25_code.specs.Links.{pieces_size}
 use Rattle.image_proof.specs.Agreeing.{emission_of}
 use Rattle.image_proof.specs.Keeping.{all_pieces as emission_pieces}
 use Rattle.image_proof.specs.FunctionWalks.{HasWalk, IsFunctionOf, place_of}
-use Rattle.frame_layouts.specs.Frames.{AreOptions, ClaimsHold, frame_of, frames_of, layout_of}
-use Rattle.cc_image.specs.Images.{FrameJobs, AreWalked, HasFrames, HasImage, IsWalked, all_pieces, layouts}
+use Rattle.frame_layouts.specs.Frames.{ClaimsHold, frame_of, frames_of, layout_of}
+use Rattle.frame_layouts.specs.lay_par.Jobs.{Job}
+use Rattle.cc_image.specs.Images.{AreWalked, AreWalkedAs, FrameJobs, HasFrames, HasImage, IsWalked, IsWalkedAs, all_pieces, layouts}
 use Rattle.cc_image.proofs.AgreementLemmas.{size_same}
 use Rattle.cc_image.proofs.OneImage.{one_plan}
 
@@ -48,21 +50,25 @@ same_costs cost (b ∷ bs) =
     by : (first less more left right : ℕ) → left ≡ first + less → right ≡ 1 * first + more → less ≡ more → left ≡ right
     by first less more left right l r e = omega (arith, l, r, e)
 
--- the frame of a number is that of the function and of the plan of that number
-record IsFrameAt (o : FrameJobs) (gs : List FunctionItems) (plans : List FramePlan) (k : ℕ) (f : Frame) : Type 0 where
+-- the frame of a number is that of the function, of the job and of the plan of that number
+record IsFrameAt (gs : List FunctionItems) (jobs : List Job) (plans : List FramePlan) (k : ℕ) (f : Frame) : Type 0 where
   g : FunctionItems
+  job : Job
   plan : FramePlan
   g_at : slice_get gs k ≡ Some g
+  job_at : slice_get jobs k ≡ Some job
   plan_at : slice_get plans k ≡ Some plan
-  is : frame_of o g plan.bases ≡ f
+  is : frame_of g job plan.bases ≡ f
 
-frame_at : (o : FrameJobs) (gs : List FunctionItems) (plans : List FramePlan) (k : ℕ) (f : Frame) → slice_get (frames_of o gs plans) k ≡ Some f → IsFrameAt o gs plans k f
-frame_at o [] plans k f is = absurd cc
-frame_at o (g ∷ gs) [] k f is = absurd cc
-frame_at o (g ∷ gs) (plan ∷ plans) zero f is = record { g = g; plan = plan; g_at = refl; plan_at = refl; is = same_Some (frame_of o g plan.bases) f is }
-frame_at o (g ∷ gs) (plan ∷ plans) (suc k) f is =
-    let rest = frame_at o gs plans k f is in
-    record { g = rest.g; plan = rest.plan; g_at = rest.g_at; plan_at = rest.plan_at; is = rest.is }
+frame_at : (gs : List FunctionItems) (jobs : List Job) (plans : List FramePlan) (k : ℕ) (f : Frame) → slice_get (frames_of gs jobs plans) k ≡ Some f → IsFrameAt gs jobs plans k f
+frame_at [] jobs plans k f is = absurd cc
+frame_at (g ∷ gs) [] plans k f is = absurd cc
+frame_at (g ∷ gs) (job ∷ jobs) [] k f is = absurd cc
+frame_at (g ∷ gs) (job ∷ jobs) (plan ∷ plans) zero f is =
+    record { g = g; job = job; plan = plan; g_at = refl; job_at = refl; plan_at = refl; is = same_Some (frame_of g job plan.bases) f is }
+frame_at (g ∷ gs) (job ∷ jobs) (plan ∷ plans) (suc k) f is =
+    let rest = frame_at gs jobs plans k f is in
+    record { g = rest.g; job = rest.job; plan = rest.plan; g_at = rest.g_at; job_at = rest.job_at; plan_at = rest.plan_at; is = rest.is }
 
 map_at : {A B : Type 0} (h : A → B) (xs : List A) (k : ℕ) (x : A) → slice_get xs k ≡ Some x → slice_get (map h xs) k ≡ Some (h x)
 map_at h [] k x is = absurd cc
@@ -85,38 +91,58 @@ ForWalks = (t : ProgramTree) (plan : DataPlan) (arrangements : List (List (List 
     → IsEmittable (lowered_program t) (selected (lowered_program t)) → step < 256 → Linked (emission_pieces (emission_of t plan arrangements step)) image → PiecesFit (emission_pieces (emission_of t plan arrangements step)) → pieces_size (emission_pieces (emission_of t plan arrangements step)) ≤ 65536
     → IsFunctionOf (emission_of t plan arrangements step) k code g frame lists → HasWalk image k step g frame lists
 
-module _ (law : ForWalks) (o : FrameJobs) (t : ProgramTree) (options : AreJobs o (selected p)) (words : ProgramHasWords t) (arranged : AreArranged (lowered_program t).functions (layouts o)) (emittable : IsEmittable (lowered_program t) (selected (lowered_program t))) (image : Contents) (h : HasImage o t image) where
+module _ (law : ForWalks) (o : FrameJobs) (t : ProgramTree) (near : o.step ≤ 8) (words : ProgramHasWords t) (arranged : AreArranged (lowered_program t).functions (layouts o)) (emittable : IsEmittable (lowered_program t) (selected (lowered_program t))) (image : Contents) (h : HasImage o t image) where
   abbrev p : ProgramCode
   p = lowered_program t
 
-  walk_of : IsProgram t → (k : ℕ) (g : FunctionItems) (plan : FramePlan) → slice_get (selected p) k ≡ Some g → slice_get h.plan.frames k ≡ Some plan → HasWalk image k o.step g plan (layout_of o g)
-  walk_of is k g plan g_at plan_at =
-      let few = options.to_eight in
+  walk_of : IsProgram t → (k : ℕ) (g : FunctionItems) (job : Job) (plan : FramePlan) → slice_get (selected p) k ≡ Some g → slice_get o.jobs k ≡ Some job → slice_get h.plan.frames k ≡ Some plan → HasWalk image k o.step g plan (layout_of job)
+  walk_of is k g job plan g_at job_at plan_at =
       let size = h.fits in
       let within : k < length p.functions = subst (λ n. k < n) emittable.count (slice_get_within (selected p) k g g_at) in
       let code = there p.functions k within in
-      law t h.plan (layouts o) o.step image k code.0 g plan (layout_of o g) is words arranged h.planned emittable (omega (arith, few)) h.linked h.ranges (omega (arith, size, size_same (all_pieces o p h.plan)))
-      (record { code_at = code.1; items_at = g_at; frame_at = plan_at; lists_at = map_at (layout_of o) (selected p) k g g_at })
+      law t h.plan (layouts o) o.step image k code.0 g plan (layout_of job) is words arranged h.planned emittable (omega (arith, near)) h.linked h.ranges (omega (arith, size, size_same (all_pieces o p h.plan)))
+      (record { code_at = code.1; items_at = g_at; frame_at = plan_at; lists_at = map_at layout_of o.jobs k job job_at })
 
-  walked_as : (k : ℕ) (g : FunctionItems) (plan : FramePlan) → HasWalk image k o.step g plan (layout_of o g) → ClaimsHold (frame_of o g plan.bases) → IsWalked image k (frame_of o g plan.bases)
-  walked_as k g plan w claims = record {
+  walked_as : (k : ℕ) (g : FunctionItems) (job : Job) (plan : FramePlan) → HasWalk image k o.step g plan (layout_of job) → IsWalkedAs image k (at_step o.step g) (frame_of g job plan.bases)
+  walked_as k g job plan w = record {
     range = w.range;
     there = w.there;
     named = w.named;
-    walks = w.walks ∙ ap Blocks (same_blocks (place_of plan.bases (layout_of o g)) (blocks_of g.body));
-    counts = w.counts ∙ same_costs (block_cost o.step (placement_of (layout_of o g))) (blocks_of g.body) ∙ sym claims.cost;
+    walks = w.walks ∙ ap Blocks (same_blocks (place_of plan.bases (layout_of job)) (blocks_of g.body));
+    counts = w.counts ∙ same_costs (block_cost o.step (placement_of (layout_of job))) (blocks_of g.body);
   }
 
-  walked : IsProgram t → (frames : List Frame) → frames ≡ frames_of o (selected p) h.plan.frames → All ClaimsHold frames → AreWalked image frames
-  walked is frames are claims k f at =
-      let x = frame_at o (selected p) h.plan.frames k f (ap (λ fs. slice_get fs k) (sym are) ∙ at) in
-      subst (IsWalked image k) x.is (walked_as k x.g x.plan (walk_of is k x.g x.plan x.g_at x.plan_at) (subst ClaimsHold (sym x.is) (each_of ClaimsHold frames claims k f at)))
+  walked : IsProgram t → (frames : List Frame) → frames ≡ frames_of (selected p) o.jobs h.plan.frames → AreWalkedAs image (map (at_step o.step) (selected p)) frames
+  walked is frames are k s f listed at =
+      let x = frame_at (selected p) o.jobs h.plan.frames k f (ap (λ fs. slice_get fs k) (sym are) ∙ at) in
+      let same : at_step o.step x.g ≡ s = same_Some (at_step o.step x.g) s (sym (map_at (at_step o.step) (selected p) k x.g x.g_at) ∙ listed) in
+      subst (λ s. IsWalkedAs image k s f) same (subst (IsWalkedAs image k (at_step o.step x.g)) x.is (walked_as k x.g x.job x.plan (walk_of is k x.g x.job x.plan x.g_at x.job_at x.plan_at)))
 
-pub frames_walked : ForWalks → (o : FrameJobs) (t : ProgramTree) (p : ProgramCode) (gs : List FunctionItems) → AreJobs o (selected p) → p ≡ lowered_program t → ∥ IsProgram t ∥₁ → ProgramHasWords t → AreArranged p.functions (layouts o) → IsEmittable p gs → gs ≡ selected p
-    → (image : Contents) (frames : List Frame) → HasImage o t image → HasFrames o t frames → All ClaimsHold frames → ∥ AreWalked image frames ∥₁
-frames_walked law o t p gs options same known words arranged emittable chosen image frames h framed claims =
+-- the sequences of a program's functions are those of its accumulator code
+abbrev pub SequencesKept : Type 0
+SequencesKept = (step : ℕ) (t : ProgramTree) → ∥ IsProgram t ∥₁ → map (at_step step) (selected (lowered_program t)) ≡ map (source_sequence step) t.functions
+
+pub frames_walked : ForWalks → SequencesKept → (o : FrameJobs) (t : ProgramTree) (p : ProgramCode) (gs : List FunctionItems) → o.step ≤ 8 → p ≡ lowered_program t → ∥ IsProgram t ∥₁ → ProgramHasWords t → AreArranged p.functions (layouts o) → IsEmittable p gs → gs ≡ selected p
+    → (image : Contents) (frames : List Frame) → HasImage o t image → HasFrames o t frames → ∥ AreWalkedAs image (map (source_sequence o.step) t.functions) frames ∥₁
+frames_walked law kept o t p gs near same known words arranged emittable chosen image frames h framed =
     let plans = one_plan o t framed.plan h.plan framed.planned h.planned in
     ∥∥₁_map known
     (λ is.
-    walked law o t options words (subst (λ p. AreArranged p.functions (layouts o)) same arranged) (subst (λ p. IsEmittable p (selected p)) same (subst (IsEmittable p) chosen emittable)) image h is frames
-    (framed.are ∙ ap (λ (plan : DataPlan). frames_of o (selected (lowered_program t)) plan.frames) plans) claims)
+    subst (λ seqs. AreWalkedAs image seqs frames) (kept o.step t known)
+    (walked law o t near words (subst (λ p. AreArranged p.functions (layouts o)) same arranged) (subst (λ p. IsEmittable p (selected p)) same (subst (IsEmittable p) chosen emittable)) image h is frames
+    (framed.are ∙ ap (λ (plan : DataPlan). frames_of (selected (lowered_program t)) o.jobs plan.frames) plans)))
+
+-- of frames that were laid out for these accesses, whose claims hold, it is their own accesses and their own cost
+own_walk : (image : Contents) (k : ℕ) (s : Sequence) (f : Frame) → f.seq ≡ s → ClaimsHold f → IsWalkedAs image k s f → IsWalked image k f
+own_walk image k s f same claims w = record {
+  range = w.range;
+  there = w.there;
+  named = w.named;
+  walks = w.walks ∙ ap (λ (x : Sequence). Blocks (map (λ b. map (place_of f.bases f.arr) b.accesses) x.blocks)) (sym same);
+  counts = w.counts ∙ ap (λ (x : Sequence). arranged_cost x f.arr) (sym same) ∙ sym claims.cost;
+}
+
+pub own_walks : (image : Contents) (sequences : List Sequence) (frames : List Frame) → map (λ (f : Frame). f.seq) frames ≡ sequences → All ClaimsHold frames → AreWalkedAs image sequences frames → AreWalked image frames
+own_walks image sequences frames same claims walks k f at =
+    own_walk image k f.seq f refl (each_of ClaimsHold frames claims k f at)
+    (walks k f.seq f (ap (λ xs. slice_get xs k) (sym same) ∙ map_at (λ (g : Frame). g.seq) frames k f at) at)

@@ -7,7 +7,6 @@ use Rattle.c_tree.specs.TypedTree.{ProgramTree}
 use Rattle.tree_code.specs.WordTree.{ProgramCode}
 use Rattle.tree_code.specs.Lowered.{lowered_program}
 use Rattle.acc_code.specs.AccTree.{FunctionItems}
-use Rattle.acc_select.specs.IsSelected.{IsEmittable}
 use Rattle.acc_select.specs.Selected.{selected}
 use Rattle.mem_plan.specs.declared.data_plan.DataPlan.{DataPlan}
 use Rattle.mem_plan.specs.declared.data_plan.PlanFault.{PlanFault}
@@ -42,15 +41,17 @@ pub record FrameJobs : Type 0 where
   pub step : ℕ
   pub jobs : List Job
 
--- these jobs have answers, one for each function, over its scalars
-pub record AreJobs (o : FrameJobs) (gs : List FunctionItems) : Type 0 where
-  pub each : All IsJob o.jobs
-  pub scalars : map (λ (job : Job). job.sequence.scalars) o.jobs ≡ map (λ (g : FunctionItems). g.scalars) gs
-  pub near : o.step ≤ 8
+abbrev pub jobs_at : ℕ → List Job → FrameJobs
+jobs_at step jobs = record { step = step; jobs = jobs }
+
+-- jobs have answers, and there is one for each function, over its scalars
+pub record AreJobs (jobs : List Job) (gs : List FunctionItems) : Type 0 where
+  pub each : All IsJob jobs
+  pub scalars : map (λ (job : Job). job.sequence.scalars) jobs ≡ map (λ (g : FunctionItems). g.scalars) gs
 
 -- a program as it is compiled is laid out for the accesses of its functions, each block of which counts once
 abbrev pub source_jobs : Options → ProgramTree → FrameJobs
-source_jobs o t = record { step = o.step; jobs = map (job_with o) (map (source_sequence o.step) t.functions) }
+source_jobs o t = jobs_at o.step (map (job_with o) (map (source_sequence o.step) t.functions))
 
 -- the layouts of a program's frames
 abbrev pub layouts : FrameJobs → List (List (List ℕ))

@@ -5,3 +5,4 @@ pub use Rattle.image_proof.specs as image_proof
 pub use Rattle.image_proof.specs.tree_code_proof as tree_code_proof
 pub mod Images
 pub mod Faults
+pub mod Selections

@@ -1,4 +1,5 @@
 use Rattle.std.proofs.Common.{arith}
+use Rattle.cc_image.specs.Images.{source_jobs}
 use Rattle.cc_compile.proofs.laws.full_code_is_large.Goals as goal
 
 pub returns : goal.returns
@@ -11,6 +12,6 @@ returns c = λ o bytes words h.
     let names = c.functions_have_names.ensures bytes tokens source h.2 is.derives in
     let limits = c.trees_are_small.ensures tokens source h.2.1 is.derives is.low in
     let whole = c.typed_is_well_formed.ensures source typed.0 typed.1 names limits in
-    let bound = c.code_is_bounded.ensures.full o typed.0 words ∣ whole ∣₁ code in
+    let bound = c.code_is_bounded.ensures.full (source_jobs o typed.0) typed.0 words ∣ whole ∣₁ code in
     let few = c.programs_weigh_by_nodes.ensures source typed.0 typed.1 in
     (tokens, source, h.2, is, (code.over, omega (arith, bound, few)))

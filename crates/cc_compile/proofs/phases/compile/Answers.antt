@@ -6,7 +6,7 @@ use Rattle.c25_isa.specs.Agrees.{Agrees}
 use Rattle.c25_isa.specs.Image.{Contents}
 use Rattle.cc_image.specs.lay_cert.Frames.{Frame}
 use Rattle.cc_image.specs.frame_layouts.Frames.{ClaimsHold}
-use Rattle.cc_image.specs.Images.{AccessAs, AreWalked, EndsWithin, HasFrames, HasImage, IsDirect}
+use Rattle.cc_image.specs.Images.{AccessAs, AreWalked, EndsWithin, HasFrames, HasImage, IsDirect, source_jobs}
 use Rattle.cc_compile.specs.PartFaults.{of_translation_fault}
 use Rattle.cc_compile.specs.SourceFaults.{HasFault}
 use Rattle.cc_compile.specs.declared.fault.BuildFault.{BuildFault}
@@ -31,7 +31,7 @@ pub returns-clause-built : goal.returns-clause-built
 returns-clause-built g c =
     let has = c.in_ok-program.ensures.typed in
     let program = program_of c.in_ok-program.program in
-    let image = subst (λ (i : Contents). HasImage c.args.options program i) (sym c.in_ok-with_rows.ensures.image) c.in_ok-translated.ensures.image in
+    let image = subst (λ (i : Contents). HasImage (source_jobs c.args.options program) program i) (sym c.in_ok-with_rows.ensures.image) c.in_ok-translated.ensures.image in
     record {
       tokens = has.0;
       source = has.1;
@@ -41,17 +41,17 @@ returns-clause-built g c =
       typed = has.4;
       has = image;
       short =
-          let bound = c.code_is_bounded.ensures.image c.args.options program _ c.in_ok-program.program.well_formed image in
+          let bound = c.code_is_bounded.ensures.image (source_jobs c.args.options program) program _ c.in_ok-program.program.well_formed image in
           let few = c.programs_weigh_by_nodes.ensures has.1 program has.4 in
           omega (arith, bound, few);
-      framed = subst (λ (fs : List Frame). HasFrames c.args.options program fs) (sym c.in_ok-with_rows.ensures.certificate) c.in_ok-translated.ensures.frames;
+      framed = subst (λ (fs : List Frame). HasFrames (source_jobs c.args.options program) program fs) (sym c.in_ok-with_rows.ensures.certificate) c.in_ok-translated.ensures.frames;
       accesses = subst (λ (fs : List Frame). AccessAs c.args.options.step program fs) (sym c.in_ok-with_rows.ensures.certificate) c.in_ok-translated.ensures.accesses;
       keeps = c.in_ok-translated.ensures.keeps;
       tree = c.in_ok-translated.ensures.tree;
       agrees = subst (λ (i : Contents). ∥ Agrees (source_run program) i.words ∥₁) (sym c.in_ok-with_rows.ensures.image) c.in_ok-translated.ensures.agrees;
-      in_time = subst (λ (i : Contents). ∥ EndsWithin c.args.options program i ∥₁) (sym c.in_ok-with_rows.ensures.image) c.in_ok-translated.ensures.in_time;
+      in_time = subst (λ (i : Contents). ∥ EndsWithin (source_jobs c.args.options program) program i ∥₁) (sym c.in_ok-with_rows.ensures.image) c.in_ok-translated.ensures.in_time;
       walked = walked_too _ _ _ _ c.in_ok-with_rows.ensures.image c.in_ok-with_rows.ensures.certificate c.in_ok-translated.ensures.walked;
-      direct = subst (λ (i : Contents). ∥ IsDirect c.args.options program i ∥₁) (sym c.in_ok-with_rows.ensures.image) c.in_ok-translated.ensures.direct;
+      direct = subst (λ (i : Contents). ∥ IsDirect (source_jobs c.args.options program) program i ∥₁) (sym c.in_ok-with_rows.ensures.image) c.in_ok-translated.ensures.direct;
     }
 
 pub returns-clause-claims : goal.returns-clause-claims

@@ -5,7 +5,7 @@ use Rattle.word_base.specs.Ports.{input_of}
 use Rattle.tree_code.specs.Lowered.{lowered_program}
 use Rattle.c25_sim.specs.Taken.{of_sixteen}
 use Rattle.cc_files.proofs.image_proof.ExecWords.{text_input}
-use Rattle.cc_files.specs.cc_image.Images.{all_pieces}
+use Rattle.cc_files.specs.cc_image.Images.{all_pieces, source_jobs}
 use Rattle.cc_answers.specs.Answers.{Answered}
 use Rattle.cc_driver.specs.Build.{plain_options}
 use Rattle.cc_driver.specs.Gen.{gen_steps}
@@ -16,7 +16,7 @@ pub returns-clause-tell : goal.returns-clause-tell
 returns-clause-tell c = λ number answer h.
     let built = h.built in
     let has = built.has in
-    ∥∥₁_map₂ built.agrees built.in_time (λ agrees in_time. c.runs_tell.ensures.tell built.program has.plan (all_pieces plain_options (lowered_program built.program) has.plan) h.image [] [] gen_steps h.summarizes.outs h.summarizes.stands agrees (in_time has.plan has.planned) has.linked has.ranges refl h.summarizes.runs)
+    ∥∥₁_map₂ built.agrees built.in_time (λ agrees in_time. c.runs_tell.ensures.tell built.program has.plan (all_pieces (source_jobs plain_options built.program) (lowered_program built.program) has.plan) h.image [] [] gen_steps h.summarizes.outs h.summarizes.stands agrees (in_time has.plan has.planned) has.linked has.ranges refl h.summarizes.runs)
 
 pub returns-clause-statuses : goal.returns-clause-statuses
 returns-clause-statuses c = λ number answer h.

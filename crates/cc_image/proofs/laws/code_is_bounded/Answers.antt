@@ -1,4 +1,4 @@
-use Rattle.std.proofs.Common.{◌≡◌, ◌≤◌, ◌∙◌, ℕ, ◌+◌, length, arith, refl, ap, sym, subst}
+use Rattle.std.proofs.Common.{◌≤◌, ◌∙◌, ◌+◌, length, arith, refl, ap, sym, subst}
 use Rattle.c25_isa.specs.Image.{Contents}
 use Rattle.c25_link.specs.Linking.{name_addresses}
 use Rattle.c25_link.proofs.Images.{pieces_length}

@@ -1,4 +1,4 @@
-use Rattle.std.proofs.Common.{sym, subst}
+use Rattle.std.proofs.Common.{map, ap, sym, subst}
 use Rattle.std.specs.Prelude.{All}
 use Rattle.acc_code.specs.declared.program.AccFunction.{AccFunction}
 use Rattle.acc_code.specs.AccSequence.{IsInFrame}
@@ -7,7 +7,11 @@ use Rattle.tree_code.specs.ProgramView.{tree_of}
 use Rattle.cc_image.proofs.LayoutLemmas.{in_memory, all_in_frames}
 use Rattle.cc_image.proofs.phases.functions.Goals as goal
 
+pub returns-clause-same : goal.returns-clause-same
+returns-clause-same c = ap (map function_items_of) c.as_slice.ensures
+
 pub returns-clause-in_frames : goal.returns-clause-in_frames
 returns-clause-in_frames c =
+    let s = c.args.selection.now in
     subst (All (λ (f : AccFunction). IsInFrame (function_items_of f))) (sym c.as_slice.ensures)
-    (in_memory IsInFrame c.args.chosen.now.code.functions (all_in_frames (tree_of c.args.chosen.now.tree) (functions_of c.args.chosen.now.code) c.requires))
+    (in_memory IsInFrame s.code.functions (all_in_frames (tree_of s.tree) (functions_of s.code) c.requires.emittable))

@@ -1,5 +1,5 @@
 use Rattle.std.proofs.Common.{◌≡◌, ◌≤◌, ◌∙◌, map, ap, sym, subst}
-use Rattle.std.specs.Prelude.{IfOk, IfErr}
+use Rattle.std.specs.Prelude.{IfOk, IfErr, length}
 use Rattle.c25_isa.specs.Image.{Contents}
 use Rattle.c25_isa.specs.Pieces.{piece_of, Linked, PiecesFit}
 use Rattle.c25_link.proofs.Images.{all_fit}
@@ -9,15 +9,22 @@ use Rattle.acc_select.specs.IsSelected.{IsEmittable}
 use Rattle.c25_link.specs.Linking.{AreLinkable}
 use Rattle.cc_image.specs.Faults.{SaysOfPieces}
 use Rattle.cc_image.proofs.LinkLemmas.{are_linkable}
+use Rattle.frame_layouts.specs.Frames.{jobs_in}
+use Rattle.acc_code.specs.AccView.{functions_of}
+use Rattle.cc_image.specs.Images.{jobs_at}
 use Rattle.cc_image.proofs.AgreementLemmas.{always_ok}
+use Rattle.cc_image.proofs.LayoutLemmas.{one_each}
 use Rattle.cc_image.proofs.phases.image_of.Goals as goal
 
 pub linked-requires : goal.linked-requires
 linked-requires c =
-    let p = tree_of c.args.chosen.now.tree in
-    let emittable = subst (IsEmittable p) c.requires.code c.requires.emittable in
+    let s = c.args.selection.now in
+    let planned = c.args.planned.now in
+    let p = tree_of s.tree in
+    let emittable = subst (IsEmittable p) c.requires.selection.code c.requires.selection.emittable in
+    let each = one_each (jobs_in planned.layouts) (functions_of s.code) c.requires.planned.jobs ∙ ap length c.requires.selection.code in
     subst AreLinkable (sym (ap (map piece_of) c.deref.ensures.value ∙ c.in_ok-pieces.ensures))
-    (are_linkable c.args.options p c.args.planned.now.plan c.args.chosen.now.tree.well_formed emittable c.requires.plan c.helper_pieces_fit.ensures.marks c.helper_pieces_fit.ensures.calls)
+    (are_linkable (jobs_at c.args.step (jobs_in planned.layouts)) p planned.plan s.tree.well_formed emittable each c.requires.planned.plan c.helper_pieces_fit.ensures.marks c.helper_pieces_fit.ensures.calls)
 
 pub returns-clause-image : goal.returns-clause-image
 returns-clause-image c =
