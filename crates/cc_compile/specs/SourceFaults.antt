@@ -18,7 +18,7 @@ use Rattle.c25_isa.specs.Image.{Contents}
 use Rattle.cc_image.specs.frame_layouts.declared.options.Options.{Options}
 use Rattle.cc_image.specs.Images.{HasImage, HasPlanFault, HasLinkFault, source_jobs}
 use Rattle.cc_compile.specs.declared.fault.BuildFault.{BuildFault}
-use Rattle.cc_compile.specs.declared.fault.BuildFault.TheVariants.{Lex, Parse, Types, Plan, Link, NoMemory}
+use Rattle.cc_compile.specs.declared.fault.BuildFault.TheVariants.{Lex, Parse, Types, Plan, Link}
 
 -- the bytes have tokens, and these a tree with a property
 abbrev pub HasTree : List ℕ → (UnitTree → Type 0) → Type 0
