@@ -3,3 +3,4 @@ pub mod Decoding
 pub mod Marks
 pub mod Walking
 pub mod Walks
+pub mod Places
