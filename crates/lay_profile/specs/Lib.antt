@@ -1,4 +1,3 @@
 -- Layouts for a recorded run.
-pub mod Places
 pub mod Entries
 pub mod Weighing
