@@ -59,7 +59,7 @@ runs_more i s runs =
 
 -- ---- how often it is somewhere
 
-abbrev one_if : Bool → ℕ
+abbrev pub one_if : Bool → ℕ
 one_if b = cond b 1 0
 
 count_more : (P : ℕ → Bool) (a n : ℕ) → count_by P (range_with_len a (suc n)) ≡ count_by P (range_with_len a n) + one_if (P (a + n))

@@ -1,5 +1,5 @@
 //! How often the run of an image comes to program addresses.
-ghost use Rattle.std.specs.Prelude.{◌≡◌, ◌≤◌, ◌<◌, ◌+◌, ℕ, map, sum, All, IfOk, not, vec_len};
+ghost use Rattle.std.specs.Prelude.{◌≡◌, ◌≤◌, ◌<◌, ◌+◌, ℕ, map, sum, All, IfOk, not, length, vec_len};
 ghost use Rattle.word_base.specs.Ports.{input_of};
 ghost use Rattle.c25_isa.specs.MachineRun.{reset};
 ghost use Rattle.c25_isa.specs.State.{State, zero_start};
@@ -7,7 +7,7 @@ ghost use Rattle.c25_sim.specs.Answers.{event_of};
 ghost use Rattle.c25_sim.specs.MachineView.{state_of};
 ghost use Rattle.c25_sim.specs.Taken.{of_sixteen};
 ghost use Rattle.lay_cost.specs.Parts.{StandOnce};
-ghost use Rattle.lay_profile.specs.Entries.{entries_of};
+ghost use Rattle.lay_profile.specs.Entries.{times_at, entries_of};
 ghost use Rattle.lay_profile.specs.Counting.{goes_on, AreTimes};
 
 use c25_isa::{Event, Image, Start};
@@ -45,7 +45,12 @@ fn count_steps(alloc: Global, machine: &mut Machine, steps: u64) -> Result<Vec<u
 }
 
 // Runs an image from zeros, and counts at which address each of so many steps is done.
-fn count_from_zeros(alloc: Global, image: &Image, ports: &Ports, steps: u64) -> Result<Vec<u64>, NoMemory>
+fn count_from_zeros(
+    alloc: Global,
+    image: &Image,
+    ports: &Ports,
+    steps: u64,
+) -> Result<Vec<u64>, NoMemory>
     requires { steps ≤ 100000000 }
     ensures length { IfOk result (λ counts. vec_len counts ≡ 65536) }
     ensures counts { IfOk result (λ counts. AreTimes (reset (zero_start image.now.words) (of_sixteen (input_of ports.now))) steps counts.items) }
@@ -54,6 +59,18 @@ fn count_from_zeros(alloc: Global, image: &Image, ports: &Ports, steps: u64) -> 
     let start = Start::zero(alloc, image)?;
     let mut machine = Machine::new(alloc, start, Ports::new(lines))?;
     count_steps(alloc, &mut machine, steps)
+}
+
+// The counts at some addresses.
+fn look_up(alloc: Global, table: &[u64], places: &[u16]) -> Result<Vec<u64>, NoMemory>
+    requires { length table.now ≡ 65536 }
+    ensures { IfOk result (λ counts. (s : State) (steps : ℕ) → AreTimes s steps table.now → counts.items ≡ map (times_at s steps) places.now) }
+{
+    let mut counts = Vec::new(alloc);
+    for place in places {
+        counts.push(table[usize::from(*place)])?;
+    }
+    Ok(counts)
 }
 
 /// How often the run of an image from zeros on what the ports are given does a step at each of these program addresses, among its first
@@ -73,9 +90,5 @@ pub fn entries(
     ensures together { StandOnce places.now → IfOk result (λ counts. sum counts.items ≤ steps) }
 {
     let table = count_from_zeros(alloc, image, ports, steps)?;
-    let mut counts = Vec::new(alloc);
-    for place in places {
-        counts.push(table[usize::from(*place)])?;
-    }
-    Ok(counts)
+    look_up(alloc, &table, places)
 }
