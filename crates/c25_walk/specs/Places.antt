@@ -1,6 +1,5 @@
 -- The place of a walk's block: the address of the instruction of its first listed access.
 use Rattle.std.specs.Prelude.{ℕ, List, [], ◌∷◌, filter_map, Option, Some, None, option_map, slice_get}
-use Rattle.c25_isa.specs.declared.image.FunctionRange.{FunctionRange}
 use Rattle.c25_isa.specs.Image.{Contents}
 use Rattle.c25_isa.specs.Walk.{Placed, Known, Code, code_of, in_stretches, access, listed}
 
