@@ -4,6 +4,8 @@
 mod block_places;
 mod laws;
 mod recording;
+#[cfg(test)]
+mod tests;
 mod weighing;
 
 pub use block_places::places;
