@@ -9,7 +9,7 @@ use Rattle.std.proofs.lemmas.List.Sums.{sum_by-cons, count_by-le-length}
 use Rattle.word_base.specs.Ports.{Outputs}
 use Rattle.c25_isa.specs.State.{State}
 use Rattle.c25_isa.specs.Step.{Event, Ran, Put, Over, Trapped, step}
-use Rattle.c25_isa.specs.MachineRun.{Reached, Running, Ended, Stopped, go_on, run_from}
+use Rattle.c25_isa.specs.MachineRun.{go_on, run_from}
 use Rattle.c25_sim.specs.Answers.{behind, state_after}
 use Rattle.c25_sim.proofs.Steps.{after_more}
 use Rattle.lay_profile.specs.Entries.{still_runs, is_at, times_at}

@@ -2,7 +2,7 @@
 use Rattle.std.proofs.Common.{◌≡◌, ℕ, zero, suc, ◌+◌, ◌<◌, ◌≤◌, Bool, true, false, List, [], ◌∷◌, ◌++◌, length, get_or, drop, map, refl, sym, ap, subst, ◌∙◌, arith, append_assoc, append-nil}
 use Rattle.std.specs.Prelude.{All, ◌==◌, ◌&&◌, count_by, sum}
 use Rattle.std.proofs.lemmas.List.{drop_more, drop_all}
-use Rattle.std.proofs.lemmas.List.Elements.{All-nil, All-cons, All-map}
+use Rattle.std.proofs.lemmas.List.Elements.{All-nil, All-cons}
 use Rattle.std.proofs.lemmas.List.Sums.{sum_by-cons}
 use Rattle.std.proofs.lemmas.Bool.{eqb-false, ne_eqb}
 use Rattle.c25_isa.specs.State.{State}
@@ -10,7 +10,6 @@ use Rattle.c25_isa.specs.MachineRun.{run_from}
 use Rattle.c25_sim.specs.Answers.{state_after}
 use Rattle.lay_cost.specs.Parts.{StandOnce}
 use Rattle.lay_profile.specs.Entries.{still_runs, is_at, times_at}
-use Rattle.lay_profile.specs.Counting.{AreTimes}
 use Rattle.lay_profile.proofs.Counts.{one_if, times_few, times_more}
 
 -- ---- one place more

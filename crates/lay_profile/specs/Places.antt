@@ -2,7 +2,6 @@
 use Rattle.std.specs.Prelude.{◌≡◌, ℕ, List, length, Some}
 use Rattle.c25_isa.specs.Image.{Contents}
 use Rattle.c25_isa.specs.Walk.{Blocks}
-use Rattle.c25_walk.specs.Places.{places_of}
 use Rattle.c25_walk.specs.Walks.{walk_of}
 
 -- the walk of a function has so many blocks

@@ -68,7 +68,10 @@ fn a_block_of_count_0_is_left_out(rt: HostRuntime) -> Result<(), Fail> {
     let seq = Sequence::new(3, 1, blocks);
     let weighed = weigh(alloc, &seq, &[1, 0, 5])?;
     let blocks = weighed.blocks();
-    assert_eq!(&rt; (weighed.scalars(), weighed.step(), blocks.len()), (3, 1, 2));
+    assert_eq!(&rt;
+        (weighed.scalars(), weighed.step(), blocks.len()),
+        (3, 1, 2)
+    );
     assert_eq!(&rt; (blocks.weight(0), blocks.weight(1)), (1, 5));
     assert_eq!(&rt; blocks.accesses(1), [0, 2].as_slice());
     Ok(())

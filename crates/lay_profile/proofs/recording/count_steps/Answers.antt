@@ -1,7 +1,5 @@
-use Rattle.std.proofs.Common.{◌≡◌, ◌≤◌, ◌<◌, ◌+◌, ◌∙◌, true, false, get_or, length, replicate, refl, sym, ap, subst, arith}
-use Rattle.std.specs.Prelude.{not}
+use Rattle.std.proofs.Common.{◌≡◌, ◌<◌, ◌∙◌, true, false, get_or, length, refl, ap, arith}
 use Rattle.std.proofs.lemmas.List.{get_or_default}
-use Rattle.c25_isa.specs.Step.{step}
 use Rattle.c25_sim.specs.MachineView.{state_of}
 use Rattle.lay_profile.specs.Entries.{times_at}
 use Rattle.lay_profile.proofs.Counts.{none_counted, one_counted, all_counted, count_fits, last_step, one_behind}

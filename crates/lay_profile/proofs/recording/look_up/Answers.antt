@@ -1,4 +1,4 @@
-use Rattle.std.proofs.Common.{◌≡◌, ◌∙◌, ◌+◌, ◌<◌, ◌++◌, drop, get_or, map, refl, ap, arith}
+use Rattle.std.proofs.Common.{◌∙◌, ◌+◌, ◌<◌, ◌++◌, drop, get_or, map, refl, ap, arith}
 use Rattle.lay_profile.specs.Entries.{times_at}
 use Rattle.lay_profile.proofs.Together.{looked_up, all_looked_up}
 use Rattle.lay_profile.proofs.recording.look_up.Goals as goal

@@ -1,5 +1,5 @@
 use Rattle.std.proofs.Common.{◌≡◌, ◌∙◌, ap, sym, subst}
-use Rattle.lay_model.specs.Sequences.{Sequence, IsSequence}
+use Rattle.lay_model.specs.Sequences.{IsSequence}
 use Rattle.lay_profile.specs.Weighing.{weighed, weighed_blocks}
 use Rattle.lay_profile.proofs.Weighings.{is_sequence}
 use Rattle.lay_profile.proofs.weighing.weigh.Goals as goal

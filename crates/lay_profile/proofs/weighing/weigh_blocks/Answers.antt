@@ -1,5 +1,4 @@
-use Rattle.std.proofs.Common.{◌≡◌, ◌+◌, ◌∙◌, ap, sym, subst, refl, arith, get_or, rules}
-use Rattle.lay_profile.specs.Weighing.{weighed_blocks}
+use Rattle.std.proofs.Common.{◌≡◌, ◌+◌, ◌∙◌, ap, refl, arith}
 use Rattle.lay_profile.proofs.Weighings.{weighed_from, left_out, kept}
 use Rattle.lay_profile.proofs.weighing.weigh_blocks.Goals as goal
 use Rattle.lay_profile.proofs.weighing.weigh_blocks.Goals.{then-count-gt0+in_ok-push, else-count-gt0}
