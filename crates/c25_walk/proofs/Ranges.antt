@@ -3,8 +3,9 @@ use Rattle.std.proofs.Common.{◌≡◌, ℕ, zero, suc, ◌+◌, ◌-◌, ◌<�
 use Rattle.std.specs.Prelude.{Some, option_map, slice_get, slice_range}
 use Rattle.c25_isa.specs.declared.image.FunctionRange.{FunctionRange}
 use Rattle.c25_isa.specs.Image.{Contents, AreRanges}
-use Rattle.c25_isa.specs.Walk.{walk, walk_code, code_from}
+use Rattle.c25_isa.specs.Walk.{walk, walk_code, code_from, code_of}
 use Rattle.c25_isa.specs.AddressCount.{address_count}
+use Rattle.c25_walk.specs.Places.{places_in, places_of}
 use Rattle.c25_walk.specs.Walks.{IsInside, walk_of, count_of, count_in}
 
 pub range_at : (from count : ℕ) (fs : List FunctionRange) (i : ℕ) (d : FunctionRange) → AreRanges from count fs → i < length fs → IsInside count (get_or fs i d)
@@ -28,3 +29,9 @@ pub count_found : (image : Contents) (function first last : ℕ) (f : FunctionRa
 count_found image function first last f words found from to same =
     ap (option_map (λ (g : FunctionRange). address_count image.words g.first g.last)) found
     ∙ ap (λ l. Some (count_in (code_from f.first 0 l))) (words_found image.words words first last f.first f.last from to same)
+
+pub places_found : (image : Contents) (function first last : ℕ) (f : FunctionRange) (words : List ℕ) → slice_get image.functions function ≡ Some f → first ≡ f.first → last ≡ f.last → words ≡ image.words
+    → places_of image function ≡ Some (places_in (code_from f.first 0 (take (last + 1 - first) (drop first words))))
+places_found image function first last f words found from to same =
+    ap (option_map (λ (g : FunctionRange). places_in (code_of image.words g.first g.last))) found
+    ∙ ap (λ l. Some (places_in (code_from f.first 0 l))) (words_found image.words words first last f.first f.last from to same)

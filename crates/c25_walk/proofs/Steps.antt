@@ -13,9 +13,9 @@ rest_from : (code : List Placed) (i : ℕ) (p : Placed) → i < length code → 
 rest_from code i p lt is = drop_more code i p lt ∙ ap (λ x. x ∷ drop (i + 1) code) (sym is)
 
 -- behind an instruction and the cut behind it
-pub one_behind : (targets : List ℕ) (w w1 w2 : Walking) (p : Placed) (cut : Bool) → w1 ≡ walked_over w p.instr → cut ≡ is_cut_behind targets p → w2 ≡ cut_where cut w1 → w2 ≡ behind_one targets w p
+pub one_behind : (targets : List ℕ) (w w1 w2 : Walking) (p : Placed) (cut : Bool) → w1 ≡ walked_over w p → cut ≡ is_cut_behind targets p → w2 ≡ cut_where cut w1 → w2 ≡ behind_one targets w p
 one_behind targets w w1 w2 p cut over is there =
-    there ∙ ap (cut_where cut) over ∙ ap (λ b. cut_where b (walked_over w p.instr)) is
+    there ∙ ap (cut_where cut) over ∙ ap (λ b. cut_where b (walked_over w p)) is
 
 pub walked_more : (targets : List ℕ) (w w2 : Walking) (code : List Placed) (i : ℕ) (p : Placed) → i < length code → p ≡ get_or code i p → w2 ≡ behind_one targets w p
     → behind_all targets w2 (drop (i + 1) code) ≡ behind_all targets w (drop i code)
@@ -46,5 +46,5 @@ at_most_one false = omega arith
 -- the count rises by one at most
 pub count_more : (targets : List ℕ) (w w2 : Walking) (p : Placed) (i : ℕ) → w2 ≡ behind_one targets w p → w.count ≤ i → w2.count ≤ i + 1
 count_more targets w w2 p i there few =
-    let same : w2.count ≡ w.count + cond (is_address_instruction w.known p.instr) 1 0 = ap (λ (v : Walking). v.count) there ∙ count_cut (is_cut_behind targets p) (walked_over w p.instr) in
+    let same : w2.count ≡ w.count + cond (is_address_instruction w.known p.instr) 1 0 = ap (λ (v : Walking). v.count) there ∙ count_cut (is_cut_behind targets p) (walked_over w p) in
     omega (arith, same, few, at_most_one (is_address_instruction w.known p.instr))

@@ -1,5 +1,6 @@
 pub mod KnownView
 pub mod Decoding
 pub mod Marks
+pub mod Places
 pub mod Walking
 pub mod Walks

@@ -42,5 +42,7 @@ impl AddressBlock {
 #[derive(Drop)]
 pub struct WalkReport {
     pub blocks: Vec<AddressBlock>,
+    /// For each block the program address of the instruction of its first access.
+    pub places: Vec<u16>,
     pub count: u32,
 }

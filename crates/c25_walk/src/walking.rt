@@ -2,6 +2,7 @@
 ghost use Rattle.std.specs.Prelude.{◌≡◌, ◌+◌, ◌<◌, ◌≤◌, Some, None, All, IfOk, IfErr, length, slice_get, vec_len};
 ghost use Rattle.c25_isa.specs.Image.{IsImage};
 ghost use Rattle.c25_isa.specs.Walk.{Blocks, code_from, walk_code};
+ghost use Rattle.c25_walk.specs.Places.{places_in, places_of};
 ghost use Rattle.c25_walk.specs.Marks.{AreMarked, IsInTable, targets_of};
 ghost use Rattle.c25_walk.specs.Walking.{started, behind_all, cut_off, first_unknown, IsUnknown};
 ghost use Rattle.c25_walk.specs.Walks.{walk_of, count_of, count_in, IsFault, IsInside};
@@ -28,6 +29,7 @@ fn function_words(image: &Image, function: u16) -> (u16, &[u16])
     requires { function < length image.now.functions }
     ensures fits { result.0 + length result.1.now ≤ 65536 }
     ensures walk { walk_of image.now function ≡ Some (walk_code (code_from result.0 0 result.1.now)) }
+    ensures places { places_of image.now function ≡ Some (places_in (code_from result.0 0 result.1.now)) }
     ensures count { count_of image.now function ≡ Some (count_in (code_from result.0 0 result.1.now)) }
 {
     let words = image.words();
@@ -43,6 +45,7 @@ fn walk_along(alloc: Global, code: &[Placed], targets: &Targets) -> Result<WalkR
     requires within { All (IsInTable targets.now.first (vec_len targets.now.marks)) code.now }
     ensures known { IfOk result (λ _. first_unknown (targets_of code.now) started code.now ≡ None) }
     ensures listed { IfOk result (λ report. report.blocks.items ≡ (cut_off (behind_all (targets_of code.now) started code.now)).blocks) }
+    ensures places { IfOk result (λ report. report.places.items ≡ (behind_all (targets_of code.now) started code.now).places) }
     ensures count { IfOk result (λ report. report.count ≡ (behind_all (targets_of code.now) started code.now).count) }
     ensures fault { IfErr result (IsUnknown (first_unknown (targets_of code.now) started code.now)) }
 {
@@ -57,13 +60,16 @@ fn walk_along(alloc: Global, code: &[Placed], targets: &Targets) -> Result<WalkR
 }
 
 /// Walks over the words of a function of the image, in time linear in their number: the function of this number among the ranges of
-/// the image, from 0. It answers which words of data memory the function accesses through AR2 to AR5, by stretches, and how many of
-/// its instructions do nothing but move an address register. `BadWord` and `UnknownAddress` give the program address of the first
+/// the image, from 0. It answers which words of data memory the function accesses through AR2 to AR5, by stretches, where each of
+/// these accesses first, and how many of its instructions do nothing but move an address register. `BadWord` and `UnknownAddress` give the program address of the first
 /// faulty word or access; `NoMemory` may come at any words.
 pub fn walk(alloc: Global, image: &Image, function: u16) -> Result<WalkReport, WalkFault>
     requires { function < length image.now.functions }
     // The listed addresses are those of the walk.
     ensures blocks { IfOk result (λ report. walk_of image.now function ≡ Some (Blocks report.blocks.items)) }
+    // Each block has a place: the address of the instruction of its first listed access.
+    ensures places { IfOk result (λ report. places_of image.now function ≡ Some report.places.items) }
+    ensures one_each { IfOk result (λ report. vec_len report.places ≡ vec_len report.blocks) }
     // Each address instruction counts once.
     ensures count { IfOk result (λ report. count_of image.now function ≡ Some report.count) }
     // A fault is the one that the walk comes to, unless memory is wanting.

@@ -1,0 +1,5 @@
+-- Layouts for a recorded run.
+pub mod Places
+pub mod Entries
+pub mod Counting
+pub mod Weighing
