@@ -1,4 +1,9 @@
 pub use Rattle.cc_image.specs as cc_image
+pub use Rattle.c_lexer.specs as c_lexer
+pub use Rattle.c_parser.specs as c_parser
+pub use Rattle.c_rules.specs as c_rules
+pub use Rattle.c_syntax.specs as c_syntax
+pub use Rattle.c_tree.specs as c_tree
 pub use Rattle.cc_image.specs.frame_emit as frame_emit
 pub use Rattle.cc_image.specs.frame_layouts as frame_layouts
 pub use Rattle.cc_image.specs.image_proof as image_proof

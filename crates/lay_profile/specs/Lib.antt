@@ -3,3 +3,5 @@ pub mod Places
 pub mod Entries
 pub mod Counting
 pub mod Weighing
+pub mod Shapes
+pub mod Recordings
