@@ -5,3 +5,5 @@ pub mod Counting
 pub mod Weighing
 pub mod Shapes
 pub mod Recordings
+pub mod PartFaults
+pub mod ShapedFunctions

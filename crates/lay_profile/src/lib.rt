@@ -2,13 +2,16 @@
 #![tactic(auto)]
 
 mod block_places;
+mod fault;
 mod laws;
 mod recording;
+mod shapes;
 #[cfg(test)]
 mod tests;
 mod weighing;
 
 pub use block_places::places;
+pub use fault::ProfileFault;
 pub use laws::{weighed_costs_the_run, weighed_is_a_sequence};
 pub use recording::entries;
 pub use weighing::weigh;

@@ -1,0 +1,20 @@
+-- Functions of which an image has the shape, with their accesses and the places of their blocks.
+use Rattle.std.specs.Prelude.{◌≡◌, ℕ, List, length, map, slice_get, Some}
+use Rattle.c25_isa.specs.Image.{Contents}
+use Rattle.c25_walk.specs.Places.{places_of}
+use Rattle.acc_code.specs.AccTree.{FunctionItems}
+use Rattle.cc_compile.specs.image_proof.acc_select_proof.SourceSequences.{at_step}
+use Rattle.lay_profile.specs.declared.shapes.Shaped.{Shaped}
+use Rattle.lay_profile.specs.Shapes.{HasShape}
+
+-- the function of a number
+pub record IsShaped (image : Contents) (k : ℕ) (f : FunctionItems) (s : Shaped) : Type 0 where
+  pub shape : HasShape image k (at_step 1 f)
+  pub accesses : s.accesses ≡ at_step 1 f
+  pub places : places_of image k ≡ Some s.places.items
+  pub one_each : length s.places.items ≡ length s.accesses.blocks
+
+-- functions in order
+pub record AreShaped (image : Contents) (fs : List FunctionItems) (all : List Shaped) : Type 0 where
+  pub count : length all ≡ length fs
+  pub each : (k : ℕ) (f : FunctionItems) (s : Shaped) → slice_get fs k ≡ Some f → slice_get all k ≡ Some s → IsShaped image k f s
