@@ -1,3 +1,5 @@
 pub mod Counts
 pub mod Together
 pub mod Weighings
+mod SameLists
+mod ShapeLemmas

@@ -1,5 +1,5 @@
 -- What a recorded run says of a program's functions, and what is searched for them (docs/LAYOUT.md, "Recorded runs").
-use Rattle.std.specs.Prelude.{ℕ, suc, List, [], ◌∷◌, map, sum, Option, Some, None}
+use Rattle.std.specs.Prelude.{ℕ, ◌≤◌, suc, List, [], ◌∷◌, map, sum, Option, Some, None}
 use Rattle.word_base.specs.Ports.{Input}
 use Rattle.c25_isa.specs.Image.{Contents}
 use Rattle.c25_walk.specs.Places.{places_of}
@@ -9,6 +9,7 @@ use Rattle.cc_compile.specs.frame_layouts.Frames.{job_with}
 use Rattle.cc_compile.specs.frame_layouts.declared.options.Options.{Options}
 use Rattle.cc_compile.specs.frame_layouts.lay_par.Jobs.{Job}
 use Rattle.cc_compile.specs.cc_image.Images.{FrameJobs, jobs_at}
+use Rattle.lay_profile.specs.declared.options.ProfileOptions.{ProfileOptions}
 use Rattle.lay_profile.specs.Entries.{entries_of}
 use Rattle.lay_profile.specs.Shapes.{accesses_of}
 use Rattle.lay_profile.specs.Weighing.{weighed}
@@ -41,3 +42,14 @@ weighed_from r k (s ∷ more) = weighed s (counts_of r k) ∷ weighed_from r (su
 -- what is searched for a program's frames; the step is 1
 abbrev pub recorded_jobs : Options → Recording → ProgramTree → FrameJobs
 recorded_jobs o r t = jobs_at 1 (map (job_with o) (weighed_from r 0 (accesses_of t)))
+
+-- the numbers are in their ranges; each budget has an answer
+pub record AreProfileOptions (o : ProfileOptions) : Type 0 where
+  pub some_registers : 1 ≤ o.registers
+  pub few_registers : o.registers ≤ 4
+  pub some_steps : 1 ≤ o.steps
+  pub few_steps : o.steps ≤ 100000000
+
+-- what a search of layouts is given of these; the step is 1
+abbrev pub search_options : ProfileOptions → Options
+search_options o = record { registers = o.registers; step = 1; budget = o.budget }

@@ -3,6 +3,7 @@ ghost use Rattle.std.specs.Prelude.{◌≡◌};
 
 use cc_compile::{BuildFault, LexFault, LinkFault, ParseFault, PlanFault, TranslationFault, TypeFault};
 use c25_walk::WalkFault;
+use std::alloc::{AllocError, AllocFailed};
 use word_base::NoMemory;
 
 /// Why a source isn't compiled with layouts for a recorded run, in the order in which these are answered. A place is a byte offset in the

@@ -4,6 +4,7 @@
 mod block_places;
 mod fault;
 mod laws;
+mod options;
 mod recording;
 mod shapes;
 #[cfg(test)]
@@ -13,5 +14,6 @@ mod weighing;
 pub use block_places::places;
 pub use fault::ProfileFault;
 pub use laws::{weighed_costs_the_run, weighed_is_a_sequence};
+pub use options::ProfileOptions;
 pub use recording::entries;
 pub use weighing::weigh;

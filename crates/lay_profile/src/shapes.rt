@@ -22,12 +22,13 @@ pub(crate) struct Shaped {
     pub(crate) places: Vec<u16>,
 }
 
-// Whether the functions of an image have the names of these, in order.
+// Whether the functions of an image have the names of these, in order. Each of an image's functions has a word of its own.
 fn has_names(image: &Image, functions: &[AccFunction]) -> bool
-    ensures { IsTrue result ↔ (map (λ f. f.name) image.now.functions ≡ map (λ f. f.name) functions.now) }
+    ensures same { IsTrue result ↔ (map (λ f. f.name) image.now.functions ≡ map (λ f. f.name) functions.now) }
+    ensures few { IsTrue result → length functions.now ≤ 65536 }
 {
     let ranges = image.functions();
-    if ranges.len() != functions.len() {
+    if ranges.len() != functions.len() || functions.len() > image.words().len() {
         return false;
     }
     for (index, function) in functions.iter().enumerate() {
@@ -55,7 +56,7 @@ fn has_lengths(walked: &[AddressBlock], accesses: &Sequence) -> bool
 }
 
 // The function of this number, where the image has its shape.
-fn shaped(
+fn function_shape(
     alloc: Global,
     image: &Image,
     number: u16,
@@ -96,7 +97,7 @@ pub(crate) fn all_shaped(
     }
     let mut all = Vec::new(alloc);
     for (index, function) in functions.iter().enumerate() {
-        all.push(shaped(alloc, image, index as u16, function)?)?;
+        all.push(function_shape(alloc, image, index as u16, function)?)?;
     }
     Ok(all)
 }
