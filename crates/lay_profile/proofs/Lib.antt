@@ -1,3 +1,4 @@
+mod Examples
 pub mod Counts
 pub mod Together
 pub mod Weighings
