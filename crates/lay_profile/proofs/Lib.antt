@@ -2,3 +2,4 @@ mod Examples
 pub mod Counts
 pub mod Together
 pub mod Weighings
+pub mod Differ

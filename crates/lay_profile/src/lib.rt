@@ -9,6 +9,6 @@ mod tests;
 mod weighing;
 
 pub use block_places::places;
-pub use laws::{weighed_costs_the_run, weighed_is_a_sequence};
+pub use laws::{places_differ, weighed_costs_the_run, weighed_is_a_sequence};
 pub use recording::entries;
 pub use weighing::weigh;
