@@ -1,4 +1,5 @@
-//! Layouts for a recorded run: how often a run of an image enters each block of accesses, and the blocks weighed by that.
+//! Layouts for a recorded run: how often a run of an image enters each block of accesses, and the blocks weighed by
+//! that.
 #![tactic(auto)]
 
 mod block_places;
