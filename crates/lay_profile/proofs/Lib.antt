@@ -1,5 +1,7 @@
+mod Examples
 pub mod Counts
 pub mod Together
 pub mod Weighings
 mod SameLists
 mod ShapeLemmas
+pub mod Differ

@@ -8,8 +8,9 @@ use c25_isa::Image;
 use c25_walk::{WalkFault, walk};
 use std::alloc::Global;
 
-/// For each block of the walk over a function the program address of the instruction of its first listed access, in the order of the
-/// blocks. The function is the one of this number among the ranges of the image, from 0. The faults are those of the walk.
+/// For each block of the walk over a function the program address of the instruction of its first listed access, in the
+/// order of the blocks. The function is the one of this number among the ranges of the image, from 0. The faults are
+/// those of the walk; `NoMemory` may come at any words.
 pub fn places(alloc: Global, image: &Image, function: u16) -> Result<Vec<u16>, WalkFault>
     requires { function < length image.now.functions }
     ensures places { IfOk result (λ places. places_of image.now function ≡ Some places.items) }

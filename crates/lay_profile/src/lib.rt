@@ -1,4 +1,5 @@
-//! Layouts for a recorded run: how often a run of an image enters each block of accesses, and the blocks weighed by that.
+//! Layouts for a recorded run: how often a run of an image enters each block of accesses, and the blocks weighed by
+//! that.
 #![tactic(auto)]
 
 mod block_places;
@@ -15,5 +16,6 @@ pub use block_places::places;
 pub use fault::ProfileFault;
 pub use laws::{weighed_costs_the_run, weighed_is_a_sequence};
 pub use options::ProfileOptions;
+pub use laws::{places_differ, weighed_costs_the_run, weighed_is_a_sequence};
 pub use recording::entries;
 pub use weighing::weigh;

@@ -73,9 +73,9 @@ fn look_up(alloc: Global, table: &[u64], places: &[u16]) -> Result<Vec<u64>, NoM
     Ok(counts)
 }
 
-/// How often the run of an image from zeros on what the ports are given does a step at each of these program addresses, among its first
-/// steps, of which there are from 1 to 100,000,000. A step that ends the run or traps counts where it is done, and nothing is counted
-/// behind it.
+/// How often the run of an image from zeros on what the ports are given does a step at each of these program addresses,
+/// among its first steps, of which there are from 1 to 100,000,000. A step that ends the run or traps counts where it is
+/// done, and nothing is counted behind it. Only the want of memory is refused.
 pub fn entries(
     alloc: Global,
     image: &Image,

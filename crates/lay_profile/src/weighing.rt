@@ -22,8 +22,9 @@ fn weigh_blocks(alloc: Global, blocks: &Blocks, counts: &[u64]) -> Result<Blocks
     Ok(weighed)
 }
 
-/// The blocks of a sequence whose count isn't 0, in order, each weighed by its count. There is one count for each block, each at most
-/// 100,000,000, and the blocks have fewer than 4,294,967,296 accesses together. The scalars and the step stay.
+/// The blocks of a sequence whose count isn't 0, in order, each weighed by its count. There is one count for each block,
+/// each at most 100,000,000, and the blocks have fewer than 4,294,967,296 accesses together. The scalars and the step
+/// stay. Only the want of memory is refused.
 pub fn weigh(alloc: Global, seq: &Sequence, counts: &[u64]) -> Result<Sequence, NoMemory>
     requires one_each { length counts.now ≡ length seq.now.blocks }
     requires few { All (λ count. count ≤ 100000000) counts.now }
