@@ -40,9 +40,9 @@ all_taken [] (suc n) all = refl
 all_taken (x ∷ xs) zero all = absurd (omega (arith, all))
 all_taken (x ∷ xs) (suc n) all = ap (λ rest. x ∷ rest) (all_taken xs n (omega (arith, all)))
 
--- lists of different lengths differ, and so do those with different elements at one place
-pub lengths_differ : {A B C : Type 0} (f : A → C) (g : B → C) (xs : List A) (ys : List B) → length xs ≢ length ys → map f xs ≢ map g ys
-lengths_differ f g xs ys apart same = apart (sym (length-map xs f) ∙ ap length same ∙ length-map ys g)
+-- lists that are the same are as long
+pub lengths_same : {A B C : Type 0} (f : A → C) (g : B → C) (xs : List A) (ys : List B) → map f xs ≡ map g ys → length xs ≡ length ys
+lengths_same f g xs ys same = sym (length-map xs f) ∙ ap length same ∙ length-map ys g
 
 module _ {A B : Type 0} (f : A → List ℕ) (g : B → List ℕ) (rs xs : List A) (ys : List B) (n : ℕ) (x : A) (y : B) (a b : List ℕ)
     (are : rs ≡ xs) (long : length rs ≡ length ys) (within : n < length ys) (left : a ≡ f (slice_index_or rs n x)) (right : b ≡ g (slice_index_or ys n y)) where

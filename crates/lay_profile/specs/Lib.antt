@@ -7,3 +7,4 @@ pub mod Shapes
 pub mod Recordings
 pub mod PartFaults
 pub mod ShapedFunctions
+pub mod Profiles

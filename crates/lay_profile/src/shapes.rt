@@ -1,6 +1,6 @@
 //! Whether an image has the shape of a program's functions.
 ghost use Rattle.std.specs.Prelude.{◌≡◌, ◌≢◌, ◌↔◌, ◌<◌, ◌≤◌, List, ℕ, IsTrue, Some, map, length, slice_get, All, IfOk, IfErr};
-ghost use Rattle.c25_walk.specs.Places.{places_of};
+ghost use Rattle.c25_isa.specs.Image.{IsImage};
 ghost use Rattle.acc_code.specs.AccSequence.{IsInFrame};
 ghost use Rattle.acc_code.specs.AccView.{function_items_of};
 ghost use Rattle.cc_compile.specs.image_proof.acc_select_proof.SourceSequences.{at_step};
@@ -26,6 +26,7 @@ pub(crate) struct Shaped {
 fn has_names(image: &Image, functions: &[AccFunction]) -> bool
     ensures same { IsTrue result ↔ (map (λ f. f.name) image.now.functions ≡ map (λ f. f.name) functions.now) }
     ensures few { IsTrue result → length functions.now ≤ 65536 }
+    ensures image { IsTrue result → IsImage image.now.words image.now.functions }
 {
     let ranges = image.functions();
     if ranges.len() != functions.len() || functions.len() > image.words().len() {
@@ -88,6 +89,7 @@ pub(crate) fn all_shaped(
     requires in_frames { All (λ f. IsInFrame (function_items_of f)) functions.now }
     ensures shapes { IfOk result (λ all. AreShapes image.now (map (λ f. f.name) functions.now) (map (at_step 1) (map function_items_of functions.now))) }
     ensures shaped { IfOk result (λ all. AreShaped image.now (map function_items_of functions.now) all.items) }
+    ensures image { IfOk result (λ _. IsImage image.now.words image.now.functions) }
     ensures other { IfErr result (λ why. why ≢ faults.NoMemory → why ≡ faults.OtherSource) }
     ensures not_shaped { IfErr result (λ why. why ≢ faults.NoMemory
         → ¬ AreShapes image.now (map (λ f. f.name) functions.now) (map (at_step 1) (map function_items_of functions.now))) }
