@@ -13,13 +13,13 @@ use Rattle.c25_isa.specs.Pieces.{Piece}
 use Rattle.c25_code.specs.Naming.{names_called}
 use Rattle.acc_code.specs.declared.operand.HelperName.{HelperName}
 use Rattle.acc_code.specs.declared.operand.HelperName.TheVariants.{DivInt, DivUnsigned, RemInt, RemUnsigned, ShrInt, ShrUnsigned}
-use Rattle.frame_emit.specs.emit_control.Settings.{helper_name, routine_of}
-use Rattle.c25_helper.specs.Calls.{items_call, pieces_call, called_helper_pieces}
-use Rattle.c25_helper.specs.declared.routine.Routine.{Routine}
-use Rattle.c25_helper.specs.declared.routine.Routine.TheVariants as routine
-use Rattle.c25_helper.specs.Routines.{all_routines, helper_pieces, routine_name, routine_piece}
+use Rattle.image_proof.specs.frame_emit.emit_control.Settings.{helper_name, routine_of}
+use Rattle.image_proof.specs.c25_helper.Calls.{items_call, pieces_call, called_helper_pieces}
+use Rattle.image_proof.specs.c25_helper.declared.routine.Routine.{Routine}
+use Rattle.image_proof.specs.c25_helper.declared.routine.Routine.TheVariants as routine
+use Rattle.image_proof.specs.c25_helper.Routines.{all_routines, helper_pieces, routine_name, routine_piece}
 use Rattle.size_proof.specs.emit_proof.Calls.{CallsAre}
-use Rattle.frame_emit.specs.Startup.{startup_name}
+use Rattle.image_proof.specs.frame_emit.Startup.{startup_name}
 use Rattle.cc_image.proofs.LayoutLemmas.{same_some}
 
 -- names by their bytes

@@ -7,10 +7,10 @@ use Rattle.tree_code.specs.Lowered.{lowered_program}
 use Rattle.c_tree.specs.TypedOfWords.{ProgramHasWords}
 use Rattle.tree_code.specs.WordTree.{ProgramCode}
 use Rattle.acc_code.specs.AccTree.{FunctionItems}
-use Rattle.acc_select.specs.IsSelected.{IsEmittable}
-use Rattle.acc_select.specs.Selected.{selected}
-use Rattle.mem_plan.specs.declared.data_plan.DataPlan.{DataPlan}
-use Rattle.mem_plan.specs.Plan.{AreArranged, IsPlan}
+use Rattle.image_proof.specs.acc_select.IsSelected.{IsEmittable}
+use Rattle.image_proof.specs.acc_select.Selected.{selected}
+use Rattle.frame_layouts.specs.mem_plan.declared.data_plan.DataPlan.{DataPlan}
+use Rattle.frame_layouts.specs.mem_plan.Plan.{AreArranged, IsPlan}
 use Rattle.c25_isa.specs.Image.{Contents}
 use Rattle.c25_isa.specs.Pieces.{Linked, PiecesFit}
 use Rattle.c25_code.specs.Links.{pieces_size}

@@ -11,13 +11,13 @@ use Rattle.acc_code.specs.declared.program.AccFunction.{AccFunction}
 use Rattle.acc_code.specs.AccTree.{FunctionItems}
 use Rattle.acc_code.specs.AccView.{function_items_of}
 use Rattle.acc_code.specs.AccSequence.{IsInFrame}
-use Rattle.acc_select.specs.IsSelected.{IsEmittable}
-use Rattle.acc_select.specs.Selected.{selected, selected_function}
+use Rattle.image_proof.specs.acc_select.IsSelected.{IsEmittable}
+use Rattle.image_proof.specs.acc_select.Selected.{selected, selected_function}
 use Rattle.lay_model.specs.Arrangements.{Arranges}
-use Rattle.lay_cost.specs.Cost as costs
-use Rattle.mem_plan.specs.declared.data_plan.DataPlan.{DataPlan}
-use Rattle.mem_plan.specs.declared.data_plan.FramePlan.{FramePlan}
-use Rattle.mem_plan.specs.Plan.{AreArranged, IsArranged, IsPlan, list_bases, frames_from, frames_start}
+use Rattle.frame_layouts.specs.lay_cost.Cost as costs
+use Rattle.frame_layouts.specs.mem_plan.declared.data_plan.DataPlan.{DataPlan}
+use Rattle.frame_layouts.specs.mem_plan.declared.data_plan.FramePlan.{FramePlan}
+use Rattle.frame_layouts.specs.mem_plan.Plan.{AreArranged, IsArranged, IsPlan, list_bases, frames_from, frames_start}
 use Rattle.frame_layouts.specs.Frames.{AreBased, IsJob, layout_of}
 use Rattle.frame_layouts.specs.lay_par.Jobs.{Job}
 use Rattle.cc_image.specs.Images.{AreJobs}

@@ -18,29 +18,29 @@ use Rattle.tree_code.specs.WellFormedCode.{IsCode, parameter_count}
 use Rattle.acc_code.specs.AccTree.{FunctionItems}
 use Rattle.acc_code.specs.declared.operand.HelperName.{HelperName}
 use Rattle.acc_code.specs.Emittable.{IsThereFor, RefersRight}
-use Rattle.acc_select.specs.IsSelected.{IsEmittable, IsEmittableFunction, called_parameters, is_listed, object_cells}
-use Rattle.acc_select.specs.Selected.{selected, selected_function}
-use Rattle.mem_plan.specs.declared.data_plan.DataPlan.{DataPlan}
-use Rattle.mem_plan.specs.declared.data_plan.FramePlan.{FramePlan}
-use Rattle.mem_plan.specs.Plan.{IsPlan}
+use Rattle.image_proof.specs.acc_select.IsSelected.{IsEmittable, IsEmittableFunction, called_parameters, is_listed, object_cells}
+use Rattle.image_proof.specs.acc_select.Selected.{selected, selected_function}
+use Rattle.frame_layouts.specs.mem_plan.declared.data_plan.DataPlan.{DataPlan}
+use Rattle.frame_layouts.specs.mem_plan.declared.data_plan.FramePlan.{FramePlan}
+use Rattle.frame_layouts.specs.mem_plan.Plan.{IsPlan}
 use Rattle.c25_isa.specs.declared.instruction.Instr.{Instr}
 use Rattle.c25_isa.specs.declared.instruction.Instr.TheVariants.{Idle, Ssxm}
 use Rattle.c25_isa.specs.declared.piece.PieceItem.TheVariants.{Do, CallTo}
 use Rattle.c25_isa.specs.Pieces.{Piece}
 use Rattle.c25_code.specs.Items.{no_change, plain_items}
 use Rattle.c25_code.specs.Naming.{HasItsMarks, names_called, CallsPieces}
-use Rattle.c25_helper.specs.Calls.{pieces_call, called_helper_pieces}
-use Rattle.c25_helper.specs.Names.{CallsNone}
-use Rattle.c25_helper.specs.Routines.{helper_pieces}
+use Rattle.image_proof.specs.c25_helper.Calls.{pieces_call, called_helper_pieces}
+use Rattle.image_proof.specs.c25_helper.Names.{CallsNone}
+use Rattle.image_proof.specs.c25_helper.Routines.{helper_pieces}
 use Rattle.c25_link.specs.Linking.{AreLinkable}
-use Rattle.frame_emit.specs.emit_control.Cuts.{function_items}
-use Rattle.frame_emit.specs.emit_control.Settings.{Setting, helper_name, name_or_none}
+use Rattle.image_proof.specs.frame_emit.emit_control.Cuts.{function_items}
+use Rattle.image_proof.specs.frame_emit.emit_control.Settings.{Setting, helper_name, name_or_none}
 use Rattle.size_proof.specs.emit_proof.Calls.{IsNameOf}
 use Rattle.size_proof.proofs.emit_proof.Pieces.{piece_calls}
-use Rattle.frame_emit.specs.Emitted.{function_piece, function_pieces, setting_of, behind_startup}
-use Rattle.frame_emit.specs.Frames.{all_parameters}
-use Rattle.frame_emit.specs.Startup.{startup_name, startup_piece, fillings_code}
-use Rattle.frame_emit.proofs.Naming.{their_names, no_name}
+use Rattle.image_proof.specs.frame_emit.Emitted.{function_piece, function_pieces, setting_of, behind_startup}
+use Rattle.image_proof.specs.frame_emit.Frames.{all_parameters}
+use Rattle.image_proof.specs.frame_emit.Startup.{startup_name, startup_piece, fillings_code}
+use Rattle.image_proof.proofs.frame_emit.Naming.{their_names, no_name}
 use Rattle.frame_layouts.specs.Frames.{layout_of}
 use Rattle.cc_image.specs.Images.{FrameJobs, own_pieces, all_pieces, layouts}
 use Rattle.cc_image.proofs.NameLemmas.{known_either, same}

@@ -8,9 +8,9 @@ use Rattle.c_tree.specs.TypedTree.{ObjectTree}
 use Rattle.tree_code.specs.WordTree.{FunctionCode, ProgramCode}
 use Rattle.acc_code.specs.AccTree.{FunctionItems}
 use Rattle.acc_code.specs.Emittable.{IsPlaced}
-use Rattle.acc_select.specs.IsSelected.{IsEmittable}
-use Rattle.mem_plan.specs.declared.data_plan.DataPlan.{DataPlan}
-use Rattle.mem_plan.specs.declared.data_plan.FramePlan.{FramePlan}
+use Rattle.image_proof.specs.acc_select.IsSelected.{IsEmittable}
+use Rattle.frame_layouts.specs.mem_plan.declared.data_plan.DataPlan.{DataPlan}
+use Rattle.frame_layouts.specs.mem_plan.declared.data_plan.FramePlan.{FramePlan}
 use Rattle.c25_isa.specs.declared.instruction.Instr.{Instr}
 use Rattle.c25_isa.specs.declared.instruction.Instr.TheVariants.{Idle, Ssxm}
 use Rattle.c25_isa.specs.declared.piece.PieceItem.{PieceItem}
@@ -20,12 +20,12 @@ use Rattle.c25_code.specs.Items.{no_change, plain_items}
 use Rattle.c25_code.specs.Links.{IsMarkOf, MarksDiffer}
 use Rattle.c25_code.specs.Naming.{marks_named, HasItsMarks}
 use Rattle.c_tree.specs.SourceRun.{main_name}
-use Rattle.frame_emit.specs.emit_control.Cuts.{function_items}
-use Rattle.frame_emit.specs.emit_control.Settings.{Setting}
+use Rattle.image_proof.specs.frame_emit.emit_control.Cuts.{function_items}
+use Rattle.image_proof.specs.frame_emit.emit_control.Settings.{Setting}
 use Rattle.size_proof.specs.emit_proof.Calls.{IsJumpTo}
 use Rattle.size_proof.proofs.emit_proof.Pieces.{piece_once, piece_marked}
-use Rattle.frame_emit.specs.Emitted.{function_piece, function_pieces, setting_of}
-use Rattle.frame_emit.specs.Startup.{startup_piece, fillings_code}
+use Rattle.image_proof.specs.frame_emit.Emitted.{function_piece, function_pieces, setting_of}
+use Rattle.image_proof.specs.frame_emit.Startup.{startup_piece, fillings_code}
 use Rattle.cc_image.proofs.TranslationLemmas.{element_at, some_at}
 
 -- how often a mark stands

@@ -4,18 +4,18 @@ use mathlib.Core.Path.{fun_ext}
 use Rattle.c_tree.specs.TypedTree.{ProgramTree}
 use Rattle.tree_code.specs.WordTree.{ProgramCode}
 use Rattle.tree_code.specs.Lowered.{lowered_program}
-use Rattle.mem_plan.specs.declared.data_plan.DataPlan.{DataPlan}
-use Rattle.mem_plan.specs.declared.data_plan.PlanFault.{PlanFault}
-use Rattle.mem_plan.specs.declared.data_plan.PlanFault.TheVariants as plan_faults
-use Rattle.mem_plan.specs.Plan.{AreBegins, plan_of, data_need}
-use Rattle.mem_plan.proofs.UniqueLemmas.{one_begin}
+use Rattle.frame_layouts.specs.mem_plan.declared.data_plan.DataPlan.{DataPlan}
+use Rattle.frame_layouts.specs.mem_plan.declared.data_plan.PlanFault.{PlanFault}
+use Rattle.frame_layouts.specs.mem_plan.declared.data_plan.PlanFault.TheVariants as plan_faults
+use Rattle.frame_layouts.specs.mem_plan.Plan.{AreBegins, plan_of, data_need}
+use Rattle.frame_layouts.proofs.mem_plan.UniqueLemmas.{one_begin}
 use Rattle.c25_isa.specs.Image.{Contents}
 use Rattle.c25_link.specs.Linking.{linked_image, pieces_words}
 use Rattle.c25_link.specs.declared.fault.LinkFault.{LinkFault}
 use Rattle.c25_link.specs.declared.fault.LinkFault.TheVariants as link_faults
 use Rattle.frame_layouts.specs.lay_cert.Frames.{Frame}
 use Rattle.frame_layouts.specs.Frames.{frames_of}
-use Rattle.acc_select.specs.Selected.{selected}
+use Rattle.image_proof.specs.acc_select.Selected.{selected}
 use Rattle.cc_image.specs.Images.{FrameJobs, HasFrames, HasImage, HasTooMuchData, HasTooMuchCode, HasPlanFault, HasLinkFault, IsPlanOf, all_pieces, layouts}
 
 same_begins : (p : ProgramCode) (b c : ℕ → ℕ) → AreBegins p b → AreBegins p c → b ≡ c

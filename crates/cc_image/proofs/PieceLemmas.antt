@@ -5,18 +5,18 @@ use Rattle.word_base.specs.Name.{IsName}
 use Rattle.tree_code.specs.WordTree.{FunctionCode, ProgramCode}
 use Rattle.tree_code.specs.WellFormedCode.{IsCode}
 use Rattle.acc_code.specs.AccTree.{FunctionItems}
-use Rattle.acc_select.specs.Selected.{selected, selected_function}
-use Rattle.mem_plan.specs.declared.data_plan.DataPlan.{DataPlan}
-use Rattle.mem_plan.specs.declared.data_plan.FramePlan.{FramePlan}
+use Rattle.image_proof.specs.acc_select.Selected.{selected, selected_function}
+use Rattle.frame_layouts.specs.mem_plan.declared.data_plan.DataPlan.{DataPlan}
+use Rattle.frame_layouts.specs.mem_plan.declared.data_plan.FramePlan.{FramePlan}
 use Rattle.c25_isa.specs.Pieces.{Piece}
 use Rattle.std.specs.Prelude.{slice_index_or}
-use Rattle.c25_helper.specs.Calls.{pieces_call}
-use Rattle.c25_helper.specs.Routines.{all_routines, helper_pieces, routine_piece}
+use Rattle.image_proof.specs.c25_helper.Calls.{pieces_call}
+use Rattle.image_proof.specs.c25_helper.Routines.{all_routines, helper_pieces, routine_piece}
 use Rattle.c25_link.specs.Linking.{IsLinkable}
 use Rattle.size_proof.proofs.emit_proof.Words.{piece_has_word}
-use Rattle.frame_emit.specs.Frames.{all_parameters}
-use Rattle.frame_emit.specs.Startup.{startup_piece}
-use Rattle.frame_emit.specs.Emitted.{function_piece, function_pieces, setting_of}
+use Rattle.image_proof.specs.frame_emit.Frames.{all_parameters}
+use Rattle.image_proof.specs.frame_emit.Startup.{startup_piece}
+use Rattle.image_proof.specs.frame_emit.Emitted.{function_piece, function_pieces, setting_of}
 use Rattle.std.proofs.Math.Logic.{∥∥₁_map}
 use Rattle.cc_image.proofs.NameLemmas.{known_either, names_either}
 use Rattle.cc_image.specs.Images.{FrameJobs, own_pieces, all_pieces, layouts}

@@ -6,7 +6,7 @@ use Rattle.c_tree.specs.WellFormedProgram.{IsProgram}
 use Rattle.tree_code.specs.Lowered.{lowered_program}
 use Rattle.tree_code.specs.WordTree.{ProgramCode}
 use Rattle.acc_code.specs.AccTree.{FunctionItems}
-use Rattle.acc_select.specs.Selected.{selected}
+use Rattle.image_proof.specs.acc_select.Selected.{selected}
 use Rattle.frame_layouts.specs.declared.options.Options.{Options}
 use Rattle.frame_layouts.specs.Frames.{IsJob, job_of, job_with}
 use Rattle.frame_layouts.specs.lay_par.Jobs.{Job}

@@ -7,24 +7,24 @@ use Rattle.c_tree.specs.SourceRun.{source_run}
 use Rattle.c_tree.specs.TypedTree.{ProgramTree}
 use Rattle.c_tree.specs.WellFormedProgram.{IsProgram}
 use Rattle.c_tree.specs.TypedOfWords.{ProgramHasWords}
-use Rattle.acc_select.specs.Selected.{selected}
-use Rattle.ir_semantics.specs.Keeps.{acc_run, tree_run}
-use Rattle.ir_semantics.specs.Outside.{Places}
+use Rattle.image_proof.specs.acc_select.Selected.{selected}
+use Rattle.image_proof.specs.ir_semantics.Keeps.{acc_run, tree_run}
+use Rattle.image_proof.specs.ir_semantics.Outside.{Places}
 use Rattle.image_proof.specs.tree_code_proof.Lowering.{KeepsSource}
 use Rattle.image_proof.specs.tree_code_proof.Surroundings.{ArePlaces}
-use Rattle.mem_plan.specs.Plan.{AreArranged, IsPlan}
+use Rattle.frame_layouts.specs.mem_plan.Plan.{AreArranged, IsPlan}
 use Rattle.image_proof.specs.PlanPlaces.{places_of}
 use Rattle.tree_code.specs.WordTree.{ProgramCode}
 use Rattle.tree_code.specs.Lowered.{lowered_program}
 use Rattle.acc_code.specs.AccTree.{FunctionItems}
 use Rattle.acc_code.specs.Emittable.{Throughout}
-use Rattle.acc_select.specs.IsSelected.{IsEmittable, object_cells, called_parameters}
+use Rattle.image_proof.specs.acc_select.IsSelected.{IsEmittable, object_cells, called_parameters}
 use Rattle.tree_code.specs.WordHelpers.{uses_helper}
-use Rattle.mem_plan.specs.declared.data_plan.DataPlan.{DataPlan}
-use Rattle.mem_plan.specs.declared.data_plan.PlanFault.TheVariants as plan_faults
+use Rattle.frame_layouts.specs.mem_plan.declared.data_plan.DataPlan.{DataPlan}
+use Rattle.frame_layouts.specs.mem_plan.declared.data_plan.PlanFault.TheVariants as plan_faults
 use Rattle.c25_link.specs.declared.fault.LinkFault.TheVariants as link_faults
-use Rattle.frame_emit.specs.emit_control.Emits.{IsRightItem}
-use Rattle.frame_emit.proofs.Naming.{all_right}
+use Rattle.image_proof.specs.frame_emit.emit_control.Emits.{IsRightItem}
+use Rattle.image_proof.proofs.frame_emit.Naming.{all_right}
 use Rattle.cc_image.specs.declared.fault.TranslationFault.{TranslationFault}
 use Rattle.cc_image.specs.declared.fault.TranslationFault.TheVariants.{Plan, Link, NoMemory}
 use Rattle.cc_image.specs.Faults.{Says, SaysOfTree, SaysOfPieces}

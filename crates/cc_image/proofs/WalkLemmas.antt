@@ -11,16 +11,16 @@ use Rattle.c_tree.specs.TypedOfWords.{ProgramHasWords}
 use Rattle.tree_code.specs.WordTree.{FunctionCode, ProgramCode}
 use Rattle.acc_code.specs.AccTree.{FunctionItems}
 use Rattle.acc_code.specs.AccSequence.{blocks_of, once}
-use Rattle.acc_select.specs.IsSelected.{IsEmittable}
-use Rattle.acc_select.specs.Selected.{selected}
-use Rattle.lay_cost.specs.Cost.{arranged_cost, block_cost}
+use Rattle.image_proof.specs.acc_select.IsSelected.{IsEmittable}
+use Rattle.image_proof.specs.acc_select.Selected.{selected}
+use Rattle.frame_layouts.specs.lay_cost.Cost.{arranged_cost, block_cost}
 use Rattle.lay_model.specs.Sequences.{Sequence}
 use Rattle.image_proof.specs.acc_select_proof.SourceSequences.{at_step, source_sequence}
-use Rattle.lay_cost.specs.Placements.{placement_of}
+use Rattle.frame_layouts.specs.lay_cost.Placements.{placement_of}
 use Rattle.frame_layouts.specs.lay_cert.Frames.{Frame}
-use Rattle.mem_plan.specs.declared.data_plan.DataPlan.{DataPlan}
-use Rattle.mem_plan.specs.declared.data_plan.FramePlan.{FramePlan}
-use Rattle.mem_plan.specs.Plan.{AreArranged, IsPlan}
+use Rattle.frame_layouts.specs.mem_plan.declared.data_plan.DataPlan.{DataPlan}
+use Rattle.frame_layouts.specs.mem_plan.declared.data_plan.FramePlan.{FramePlan}
+use Rattle.frame_layouts.specs.mem_plan.Plan.{AreArranged, IsPlan}
 use Rattle.c25_isa.specs.Image.{Contents}
 use Rattle.c25_isa.specs.Pieces.{Linked, PiecesFit}
 use Rattle.c25_isa.specs.Walk.{Blocks}

@@ -1,14 +1,14 @@
 -- The faults of parts as those of translation, and what each says of a typed program.
 use Rattle.std.specs.Prelude.{◌≡◌, ◌<◌, ⊤, List}
 use Rattle.c_tree.specs.TypedTree.{ProgramTree}
-use Rattle.mem_plan.specs.declared.data_plan.PlanFault.{PlanFault}
-use Rattle.mem_plan.specs.declared.data_plan.PlanFault.TheVariants as plan_faults
+use Rattle.frame_layouts.specs.mem_plan.declared.data_plan.PlanFault.{PlanFault}
+use Rattle.frame_layouts.specs.mem_plan.declared.data_plan.PlanFault.TheVariants as plan_faults
 use Rattle.c25_link.specs.declared.fault.LinkFault.{LinkFault}
 use Rattle.c25_link.specs.declared.fault.LinkFault.TheVariants as link_faults
 use Rattle.cc_image.specs.declared.fault.TranslationFault.{TranslationFault}
 use Rattle.cc_image.specs.declared.fault.TranslationFault.TheVariants.{Plan, Link, NoMemory}
 use Rattle.tree_code.specs.WordTree.{ProgramCode}
-use Rattle.mem_plan.specs.Plan.{IsTooLarge}
+use Rattle.frame_layouts.specs.mem_plan.Plan.{IsTooLarge}
 use Rattle.c25_isa.specs.Pieces.{Piece}
 use Rattle.c25_link.specs.Linking.{pieces_words}
 use Rattle.cc_image.specs.Images.{FrameJobs, HasPlanFault, HasLinkFault}

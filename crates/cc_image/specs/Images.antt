@@ -7,14 +7,14 @@ use Rattle.c_tree.specs.TypedTree.{ProgramTree}
 use Rattle.tree_code.specs.WordTree.{ProgramCode}
 use Rattle.tree_code.specs.Lowered.{lowered_program}
 use Rattle.acc_code.specs.AccTree.{FunctionItems}
-use Rattle.acc_select.specs.Selected.{selected}
-use Rattle.mem_plan.specs.declared.data_plan.DataPlan.{DataPlan}
-use Rattle.mem_plan.specs.declared.data_plan.PlanFault.{PlanFault}
-use Rattle.mem_plan.specs.declared.data_plan.PlanFault.TheVariants as plan_faults
-use Rattle.mem_plan.specs.Plan.{IsPlan, IsTooLarge}
-use Rattle.frame_emit.specs.Emitted.{emitted}
+use Rattle.image_proof.specs.acc_select.Selected.{selected}
+use Rattle.frame_layouts.specs.mem_plan.declared.data_plan.DataPlan.{DataPlan}
+use Rattle.frame_layouts.specs.mem_plan.declared.data_plan.PlanFault.{PlanFault}
+use Rattle.frame_layouts.specs.mem_plan.declared.data_plan.PlanFault.TheVariants as plan_faults
+use Rattle.frame_layouts.specs.mem_plan.Plan.{IsPlan, IsTooLarge}
+use Rattle.image_proof.specs.frame_emit.Emitted.{emitted}
 use Rattle.image_proof.specs.acc_select_proof.SourceSequences.{source_sequence}
-use Rattle.ir_semantics.specs.Keeps.{acc_run, tree_run}
+use Rattle.image_proof.specs.ir_semantics.Keeps.{acc_run, tree_run}
 use Rattle.image_proof.specs.tree_code_proof.Lowering.{KeepsSource}
 use Rattle.image_proof.specs.PlanPlaces.{places_of}
 use Rattle.image_proof.specs.Agreeing.{EndsInTime, emission_of}
@@ -24,14 +24,14 @@ use Rattle.frame_layouts.specs.lay_cert.Frames.{Frame}
 use Rattle.frame_layouts.specs.declared.options.Options.{Options}
 use Rattle.frame_layouts.specs.Frames.{IsJob, job_with, layout_of, frames_of}
 use Rattle.frame_layouts.specs.lay_par.Jobs.{Job}
-use Rattle.lay_cost.specs.Cost.{arranged_cost}
+use Rattle.frame_layouts.specs.lay_cost.Cost.{arranged_cost}
 use Rattle.lay_model.specs.Sequences.{Sequence}
 use Rattle.c25_isa.specs.declared.image.FunctionRange.{FunctionRange}
 use Rattle.c25_isa.specs.AddressCount.{address_count}
 use Rattle.c25_isa.specs.Image.{Contents}
 use Rattle.c25_isa.specs.Walk.{Blocks, walk}
 use Rattle.c25_isa.specs.Pieces.{Piece, Linked, PiecesFit}
-use Rattle.c25_helper.specs.Calls.{called_helper_pieces}
+use Rattle.image_proof.specs.c25_helper.Calls.{called_helper_pieces}
 use Rattle.c25_link.specs.Linking.{linked_image, pieces_words}
 use Rattle.c25_link.specs.declared.fault.LinkFault.{LinkFault}
 use Rattle.c25_link.specs.declared.fault.LinkFault.TheVariants as link_faults

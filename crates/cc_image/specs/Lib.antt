@@ -1,4 +1,4 @@
-pub use Rattle.frame_emit.specs as frame_emit
+pub use Rattle.image_proof.specs.frame_emit as frame_emit
 pub use Rattle.frame_layouts.specs as frame_layouts
 pub use Rattle.frame_layouts.specs.lay_cert as lay_cert
 pub use Rattle.image_proof.specs as image_proof

@@ -6,9 +6,9 @@ use Rattle.c_tree.specs.TypedOfWords.{ProgramHasWords}
 use Rattle.tree_code.specs.Lowered.{lowered_program}
 use Rattle.tree_code.specs.ProgramView.{tree_of}
 use Rattle.acc_code.specs.AccView.{functions_of}
-use Rattle.acc_select.specs.IsSelected.{IsEmittable}
-use Rattle.acc_select.specs.Selected.{selected}
-use Rattle.mem_plan.specs.Plan.{IsPlan}
+use Rattle.image_proof.specs.acc_select.IsSelected.{IsEmittable}
+use Rattle.image_proof.specs.acc_select.Selected.{selected}
+use Rattle.frame_layouts.specs.mem_plan.Plan.{IsPlan}
 use Rattle.frame_layouts.specs.Frames.{AreLayouts, jobs_in, layout_of}
 use Rattle.cc_image.specs.declared.phases.Selection.{Selection}
 use Rattle.cc_image.specs.declared.phases.Planned.{Planned}

@@ -2,7 +2,7 @@
 ghost use Rattle.std.specs.Prelude.{◌≡◌};
 
 use c25_link::LinkFault;
-use mem_plan::PlanFault;
+use frame_layouts::PlanFault;
 use word_base::NoMemory;
 
 /// Why a typed program has no image. Want of memory in a part is `NoMemory` here, and stands in none of the others.

@@ -3,7 +3,7 @@ ghost use Rattle.std.specs.Prelude.{◌≡◌, ◌≤◌, ℕ, ◌+◌, List, le
 ghost use Rattle.c_tree.specs.TypedTree.{ProgramTree};
 ghost use Rattle.c_tree.specs.WellFormedProgram.{IsProgram};
 ghost use Rattle.c25_isa.specs.Image.{Contents};
-ghost use Rattle.ir_semantics.specs.SourceWeights.{source_weight};
+ghost use Rattle.image_proof.specs.ir_semantics.SourceWeights.{source_weight};
 ghost use Rattle.frame_layouts.specs.lay_cert.Frames.{Frame};
 ghost use Rattle.cc_image.specs.Images.{FrameJobs, HasFrames, HasImage, HasTooMuchData, HasTooMuchCode};
 

@@ -7,9 +7,8 @@ mod phases;
 
 pub use c25_link::LinkFault;
 pub use fault::TranslationFault;
-pub use frame_layouts::{CertFault, Certificate, Job, Options, report_rows};
+pub use frame_layouts::{CertFault, Certificate, Job, Options, PlanFault, report_rows};
 pub use image_proof::runs_tell;
 pub use laws::{code_is_bounded, one_image};
-pub use mem_plan::PlanFault;
 pub use phases::{Selection, Translated, functions, select, translate, translate_by_jobs};
 pub use size_proof::programs_weigh_by_nodes;

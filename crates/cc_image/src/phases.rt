@@ -14,19 +14,18 @@ ghost use Rattle.cc_image.specs.Faults.{Says, SaysOfPieces, SaysOfTree};
 ghost use Rattle.cc_image.specs.Images.{AccessAs, AreJobs, AreWalked, AreWalkedAs, EndsWithin, HasFrames, HasImage, IsDirect, KeepsRuns, TreeKeepsRuns, all_pieces, jobs_at, source_jobs, with_helpers as with_called};
 ghost use Rattle.cc_image.specs.Selections.{IsSelection, IsSelectionOf, IsPlanned};
 ghost use Rattle.frame_layouts.specs.lay_cert.Frames.{Frame};
-ghost use Rattle.mem_plan.specs.Plan.{AreArranged};
+ghost use Rattle.frame_layouts.specs.mem_plan.Plan.{AreArranged};
 ghost use Rattle.tree_code.specs.Lowered.{lowered_program};
 ghost use Rattle.tree_code.specs.ProgramView.{tree_of};
 
 use crate::fault::TranslationFault;
-use acc_select::{AccFunction, AccProgram};
 use c_tree::Program;
-use c25_helper::called_helpers;
 use c25_isa::{Image, Piece};
 use c25_link::{counted_words, link};
-use frame_emit::emit;
-use frame_layouts::{Certificate, Job, Layouts, Options, certificate_of, jobs_of, lay_out};
-use mem_plan::{DataPlan, plan};
+use frame_layouts::{
+    Certificate, DataPlan, Job, Layouts, Options, certificate_of, jobs_of, lay_out, plan,
+};
+use image_proof::{AccFunction, AccProgram, called_helpers, emit};
 use std::alloc::Global;
 use std::thread::Threads;
 use tree_code::TreeProgram;
@@ -58,7 +57,7 @@ pub fn select(alloc: Global, program: &Program) -> Result<Selection, NoMemory>
     ensures { IfOk result (λ s. IsSelectionOf s (program_of program.now)) }
 {
     let tree = tree_code::lower(alloc, program)?;
-    let code = acc_select::select(alloc, &tree)?;
+    let code = image_proof::select(alloc, &tree)?;
     Ok(Selection { tree, code })
 }
 
@@ -141,7 +140,11 @@ fn linked(alloc: Global, pieces: &[Piece]) -> Result<Image, TranslationFault>
 }
 
 // The frames of the certificate.
-fn certified(alloc: Global, selection: &Selection, planned: Planned) -> Result<Certificate, NoMemory>
+fn certified(
+    alloc: Global,
+    selection: &Selection,
+    planned: Planned,
+) -> Result<Certificate, NoMemory>
     requires selection { IsSelection selection.now }
     requires planned { IsPlanned selection.now planned }
     ensures { IfOk result (λ cert. cert ≡ frames_of (functions_of selection.now.code) (jobs_in planned.layouts) planned.plan.frames) }
@@ -165,7 +168,7 @@ fn image_of(
     ensures ranges { IfOk result (λ _. PiecesFit (all_pieces (jobs_at step (jobs_in planned.now.layouts)) (tree_of selection.now.tree) planned.now.plan)) }
     ensures refused { IfErr result (SaysOfPieces (all_pieces (jobs_at step (jobs_in planned.now.layouts)) (tree_of selection.now.tree) planned.now.plan)) }
 {
-    c25_helper::helper_pieces_fit();
+    image_proof::helper_pieces_fit();
     let pieces = pieces(alloc, step, selection, planned)?;
     linked(alloc, &pieces)
 }

@@ -3,7 +3,7 @@ use Rattle.c25_isa.specs.Image.{Contents}
 use Rattle.c25_link.specs.Linking.{name_addresses}
 use Rattle.c25_link.proofs.Images.{pieces_length}
 use Rattle.tree_code.specs.Lowered.{lowered_program}
-use Rattle.ir_semantics.specs.SourceWeights.{source_weight}
+use Rattle.image_proof.specs.ir_semantics.SourceWeights.{source_weight}
 use Rattle.cc_image.specs.Images.{all_pieces, layouts, own_pieces}
 use Rattle.cc_image.proofs.laws.code_is_bounded.Goals as goal
 

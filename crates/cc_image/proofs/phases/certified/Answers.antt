@@ -4,7 +4,7 @@ use Rattle.acc_code.specs.AccTree.{FunctionItems}
 use Rattle.acc_code.specs.AccView.{functions_of}
 use Rattle.frame_layouts.specs.Frames.{AreBased, jobs_in}
 use Rattle.frame_layouts.specs.lay_cert.Frames.{IsFrame}
-use Rattle.mem_plan.specs.declared.data_plan.FramePlan.{FramePlan}
+use Rattle.frame_layouts.specs.mem_plan.declared.data_plan.FramePlan.{FramePlan}
 use Rattle.tree_code.specs.ProgramView.{tree_of}
 use Rattle.word_base.specs.Name.{IsName}
 use Rattle.cc_image.proofs.LayoutLemmas.{all_based, all_named, one_each}

@@ -1,14 +1,14 @@
 use Rattle.std.proofs.Common.{◌≡◌, ◌≤◌, ◌∙◌, List, map, ap, sym, subst}
 use Rattle.std.specs.Prelude.{All}
 use Rattle.acc_code.specs.AccView.{functions_of}
-use Rattle.acc_select.specs.Selected.{selected}
+use Rattle.image_proof.specs.acc_select.Selected.{selected}
 use Rattle.c25_isa.specs.Pieces.{Linked, PiecesFit}
 use Rattle.c25_link.specs.Linking.{linked_image, pieces_words}
 use Rattle.c_tree.specs.TypedTree.{ProgramTree}
 use Rattle.frame_layouts.specs.lay_cert.Frames.{Frame}
 use Rattle.frame_layouts.specs.lay_par.Jobs.{Job}
-use Rattle.mem_plan.specs.declared.data_plan.DataPlan.{DataPlan}
-use Rattle.mem_plan.specs.Plan.{IsPlan}
+use Rattle.frame_layouts.specs.mem_plan.declared.data_plan.DataPlan.{DataPlan}
+use Rattle.frame_layouts.specs.mem_plan.Plan.{IsPlan}
 use Rattle.tree_code.specs.Lowered.{lowered_program}
 use Rattle.tree_code.specs.ProgramView.{tree_of}
 use Rattle.tree_code.specs.WordTree.{ProgramCode}

@@ -5,7 +5,7 @@ use Rattle.c25_isa.specs.Pieces.{piece_of, Linked, PiecesFit}
 use Rattle.c25_link.proofs.Images.{all_fit}
 use Rattle.c25_link.specs.Linking.{linked_image, pieces_words}
 use Rattle.tree_code.specs.ProgramView.{tree_of}
-use Rattle.acc_select.specs.IsSelected.{IsEmittable}
+use Rattle.image_proof.specs.acc_select.IsSelected.{IsEmittable}
 use Rattle.c25_link.specs.Linking.{AreLinkable}
 use Rattle.cc_image.specs.Faults.{SaysOfPieces}
 use Rattle.cc_image.proofs.LinkLemmas.{are_linkable}

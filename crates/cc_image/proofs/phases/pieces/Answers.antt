@@ -2,7 +2,7 @@ use Rattle.std.proofs.Common.{◌∙◌, map, sym, subst}
 use Rattle.std.specs.Prelude.{All, length, ◌≤◌}
 use Rattle.acc_code.specs.AccView.{functions_of}
 use Rattle.tree_code.specs.ProgramView.{tree_of}
-use Rattle.frame_emit.proofs.Naming.{statics_fit, few_lists}
+use Rattle.image_proof.proofs.frame_emit.Naming.{statics_fit, few_lists}
 use Rattle.frame_layouts.specs.Frames.{jobs_in, layout_of}
 use Rattle.cc_image.proofs.LayoutLemmas.{all_arranged}
 use Rattle.cc_image.proofs.TranslationLemmas.{emittable_right}

@@ -2,7 +2,7 @@ use Rattle.std.proofs.Common.{◌∙◌, List, length, map, ap, sym, subst}
 use Rattle.std.proofs.lemmas.List.{length-map}
 use Rattle.acc_code.specs.AccView.{function_items_of, functions_of}
 use Rattle.tree_code.specs.ProgramView.{tree_of}
-use Rattle.mem_plan.specs.Plan.{AreArranged, IsPlan}
+use Rattle.frame_layouts.specs.mem_plan.Plan.{AreArranged, IsPlan}
 use Rattle.frame_layouts.specs.Frames.{AreLayouts, layout_of}
 use Rattle.frame_layouts.specs.lay_par.Jobs.{Job}
 use Rattle.cc_image.specs.Images.{AreJobs}
