@@ -1,3 +1,4 @@
+pub use Rattle.c25_link.specs as c25_link
 pub use Rattle.cc_image.specs as cc_image
 pub use Rattle.cc_image.specs.frame_emit as frame_emit
 pub use Rattle.cc_image.specs.frame_layouts as frame_layouts
