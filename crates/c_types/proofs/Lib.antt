@@ -1,3 +1,9 @@
+pub mod BlockLemmas
+pub mod SyntaxRows
+pub mod StatementsSoFar
+pub mod ChoicesSoFar
+pub mod LabelLemmas
+pub mod SwitchLemmas
 pub mod UnitLemmas
 pub mod FunctionLemmas
 pub mod ProgramLemmas

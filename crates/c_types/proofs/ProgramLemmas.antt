@@ -26,7 +26,7 @@ use Rattle.c_rules.specs.Programs.{frame, function_tree, functions_with, program
 use Rattle.c_rules.specs.Units.{TypedFunction, File, typed_unit}
 use Rattle.c_limits.specs.FunctionView.{frame_lists, typed_function_of}
 use Rattle.c_types.specs.View.{file_of, made_of}
-use Rattle.c_bodies.specs.c_names.Statics.{static_tree_of}
+use Rattle.c_scopes.specs.c_names.Statics.{static_tree_of}
 use Rattle.word_base.specs.Name.{IsName}
 use Rattle.c_syntax.specs.Counts.{IsWithinLimits}
 use Rattle.c_syntax.specs.FunctionNames.{function_names}

@@ -31,15 +31,15 @@ use Rattle.c_rules.specs.declared.fault.Refusal.TheVariants as refusals
 use Rattle.c_rules.specs.declared.meaning.Meaning.{Meaning}
 use Rattle.c_rules.specs.declared.meaning.Meaning.TheVariants as meanings
 use Rattle.c_rules.specs.declared.meaning.ObjectType.{ObjectType}
-use Rattle.c_bodies.specs.c_names.declared.statics.Static as memory
+use Rattle.c_scopes.specs.c_names.declared.statics.Static as memory
 use Rattle.c_limits.specs.declared.functions.TypedFunction as functions
 use Rattle.c_rules.specs.Answers.{Follows, Refuses}
 use Rattle.c_rules.specs.Declarations.{declarator}
 use Rattle.c_rules.specs.Outcome.{Outcome, Is, Broken, ◌>>=◌, breaks}
 use Rattle.c_rules.specs.Scopes.{Scope, open_scope, is_in, is_out}
 use Rattle.c_rules.specs.Statements.{LocalTree, Typed, typed_body}
-use Rattle.c_bodies.specs.c_scopes.Tables.{key_names}
-use Rattle.c_bodies.specs.c_names.Statics.{static_tree_of}
+use Rattle.c_scopes.specs.Tables.{key_names}
+use Rattle.c_scopes.specs.c_names.Statics.{static_tree_of}
 use Rattle.c_limits.specs.FunctionView.{typed_function_of}
 use Rattle.c_rules.specs.Units.{File, StaticTree, Starts, starts, agrees, may_declare, with_declared, static_number, is_initialised, is_twice, untyped_rule, item_as, declared_as, with_parameters, with_list, with_static, set_list, file_item, file_items, external, externals, is_name_among, bodies_behind, with_function, with_body, parameter_locals}
 use Rattle.c_objects.proofs.AgreementLemmas.{same_false}

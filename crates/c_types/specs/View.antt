@@ -10,10 +10,10 @@ use Rattle.c_tree.specs.View.{stmt_of}
 use Rattle.c_rules.specs.LocalView.{local_tree_of}
 use Rattle.c_rules.specs.Statements.{Typed}
 use Rattle.c_limits.specs.FunctionView.{frame_lists, typed_function_of}
-use Rattle.c_bodies.specs.c_scopes.Tables.{scope_of}
+use Rattle.c_scopes.specs.Tables.{scope_of}
 use Rattle.c_rules.specs.Programs.{object_tree, functions_with}
 use Rattle.c_rules.specs.Units.{File}
-use Rattle.c_bodies.specs.c_names.Statics.{static_tree_of}
+use Rattle.c_scopes.specs.c_names.Statics.{static_tree_of}
 
 abbrev pub file_of : files.File → File
 file_of f = record {

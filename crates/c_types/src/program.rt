@@ -15,12 +15,12 @@ ghost use Rattle.c_rules.specs.Faults.{Says};
 ghost use Rattle.c_rules.specs.Programs.{functions_with, object_tree};
 ghost use Rattle.c_limits.specs.FunctionView.{frame_lists, typed_function_of};
 ghost use Rattle.c_types.specs.View.{made_of};
-ghost use Rattle.c_bodies.specs.c_names.Statics.{static_tree_of};
+ghost use Rattle.c_scopes.specs.c_names.Statics.{static_tree_of};
 
 use crate::units::{Contents, File};
-use c_bodies::Static;
 use c_limits::{TypedFunction, frames_of, function_of};
 use c_rules::{ObjectType, TypeFault};
+use c_scopes::Static;
 use c_syntax::Unit;
 use c_tree::{Function, Object, Program, VarRef};
 use std::alloc::Global;

@@ -2,26 +2,27 @@
 ghost use Rattle.std.specs.Prelude.{◌≡◌, ◌||◌, List, ◌∷◌, map, IfOk, OnOk, unwrap_or, []};
 ghost use Rattle.c_syntax.specs.SyntaxView.{item_of, initial_of, function_syntax_of, external_of, parameter_of, unit_of};
 ghost use Rattle.c_rules.specs.Answers.{Follows, Refuses};
-ghost use Rattle.c_bodies.specs.c_scopes.Tables.{around_of, key_names, scope_of, scopes_of};
+ghost use Rattle.c_scopes.specs.Tables.{around_of, key_names, scope_of, scopes_of};
 ghost use Rattle.c_rules.specs.Scopes.{Scope};
 ghost use Rattle.c_objects.specs.InitialiserView.{starts_of};
 ghost use Rattle.c_rules.specs.Units as rules;
 ghost use Rattle.c_rules.specs.LocalView.{local_tree_of};
 ghost use Rattle.c_rules.specs.Statements as statements;
 ghost use Rattle.c_types.specs.View.{typed_body_of, file_of};
-ghost use Rattle.c_bodies.specs.c_names.Statics.{static_tree_of};
+ghost use Rattle.c_scopes.specs.c_names.Statics.{static_tree_of};
 ghost use Rattle.c_rules.specs.declared.meaning.Declared.TheVariants as declares;
 ghost use Rattle.c_rules.specs.declared.meaning.ObjectType.TheVariants as objects;
 ghost use Rattle.c_rules.specs.Declarations.{parameters};
 
-use c_bodies::{
-    Body, Scopes, Static, declarator, declare_function, declare_parameters, declare_static,
-    defined_parameters, is_initialised_twice, starts, static_number, without_type,
-};
+use crate::blocks::Body;
 use c_conversions::starred;
 use c_limits::TypedFunction;
 use c_objects::{Starts, boxed, redeclared, spelled, static_list};
 use c_rules::{Declared, FunctionType, Local, ObjectType, Refusal, mismatch};
+use c_scopes::{
+    Scopes, Static, declarator, declare_function, declare_parameters, declare_static,
+    defined_parameters, is_initialised_twice, starts, static_number, without_type,
+};
 use c_syntax::{External, FunctionDef, Item, Param};
 use c_tree::{Base, Initial, ScalarType, TypedStmt};
 use indexmap::IndexSet;

@@ -1,3 +1,4 @@
+pub use Rattle.lay_cert.proofs as lay_cert
 mod Examples
 pub mod AddressLemmas
 pub mod BlockLemmas

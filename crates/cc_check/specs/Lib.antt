@@ -1,3 +1,4 @@
+pub use Rattle.lay_cert.specs as lay_cert
 pub mod Findings
 pub mod CheckText
 pub mod Checks

@@ -14,3 +14,4 @@ mod walks;
 pub use checking::{Checked, check};
 pub use finding::Finding;
 pub use laws::optimal_means;
+pub use lay_cert::write_cert;

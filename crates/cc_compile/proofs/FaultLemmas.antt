@@ -2,11 +2,11 @@
 use Rattle.std.proofs.Common.{◌≡◌, ◌≢◌, ℕ, List, Ok, Err, refl, sym, subst}
 use Rattle.std.specs.Prelude.{Result, IfErr, IsErrAnd}
 use Rattle.c_tree.specs.TypedTree.{ProgramTree}
-use Rattle.cc_image.specs.frame_layouts.declared.options.Options.{Options}
-use Rattle.cc_image.specs.Faults.{Says}
-use Rattle.cc_image.specs.Images.{source_jobs}
-use Rattle.cc_image.specs.declared.fault.TranslationFault.{TranslationFault}
-use Rattle.cc_image.specs.declared.fault.TranslationFault.TheVariants as translation
+use Rattle.frame_layouts.specs.declared.options.Options.{Options}
+use Rattle.cc_compile.specs.TranslationFaults.{Says}
+use Rattle.cc_compile.specs.Images.{source_jobs}
+use Rattle.cc_compile.specs.declared.translation_fault.TranslationFault.{TranslationFault}
+use Rattle.cc_compile.specs.declared.translation_fault.TranslationFault.TheVariants as translation
 use Rattle.cc_compile.specs.PartFaults.{of_translation_fault}
 use Rattle.cc_compile.specs.SourceFaults.{HasProgram, HasFault}
 use Rattle.cc_compile.specs.declared.fault.BuildFault.{BuildFault}

@@ -1,4 +1,15 @@
-pub use Rattle.cc_image.proofs as cc_image
-pub use Rattle.cc_image.proofs.image_proof as image_proof
+pub use Rattle.image_proof.proofs as image_proof
+pub mod OneImage
+mod LayoutLemmas
+mod NameLemmas
+pub mod PieceLemmas
+mod MarkLemmas
+mod CallLemmas
+mod LinkLemmas
+mod TranslationLemmas
+mod AgreementLemmas
+mod WalkLemmas
+mod DirectLemmas
+mod SourceJobs
 pub mod OneFault
 pub mod FaultLemmas

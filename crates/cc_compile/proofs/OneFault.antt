@@ -13,9 +13,9 @@ use Rattle.c_parser.specs.declared.fault.ParseFault.{ParseFault}
 use Rattle.c_parser.specs.declared.fault.ParseFault.TheVariants as parse
 use Rattle.c_rules.specs.declared.fault.TypeFault.{TypeFault}
 use Rattle.c_rules.proofs.LawLemmas.{one_program, accepted}
-use Rattle.cc_image.specs.frame_layouts.declared.options.Options.{Options}
-use Rattle.cc_image.specs.Images.{source_jobs}
-use Rattle.cc_image.proofs.OneImage.{one_plan_fault, one_link_fault, plan_or_link, image_no_plan_fault, image_no_link_fault}
+use Rattle.frame_layouts.specs.declared.options.Options.{Options}
+use Rattle.cc_compile.specs.Images.{source_jobs}
+use Rattle.cc_compile.proofs.OneImage.{one_plan_fault, one_link_fault, plan_or_link, image_no_plan_fault, image_no_link_fault}
 use Rattle.cc_compile.specs.SourceFaults.{HasFault, HasNoProgramFor, HasProgram, HasTree, IsTypedWith, IsLexFault, IsParseFault, IsSameFault, IsAccepted, IsUntyped, IsOfTypes}
 use Rattle.cc_compile.specs.declared.fault.BuildFault.{BuildFault}
 use Rattle.cc_compile.specs.declared.fault.BuildFault.TheVariants.{Lex, Parse, Types, Plan, Link, NoMemory}

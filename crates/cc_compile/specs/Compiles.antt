@@ -10,9 +10,9 @@ use Rattle.c_tree.specs.TypedTree.{ProgramTree}
 use Rattle.c_rules.specs.Checked.{IsTyped}
 use Rattle.c25_isa.specs.Agrees.{Agrees}
 use Rattle.c25_isa.specs.Image.{Contents}
-use Rattle.cc_image.specs.lay_cert.Frames.{Frame}
-use Rattle.cc_image.specs.frame_layouts.declared.options.Options.{Options}
-use Rattle.cc_image.specs.Images.{AccessAs, AreWalked, EndsWithin, HasFrames, HasImage, IsDirect, KeepsRuns, TreeKeepsRuns, source_jobs}
+use Rattle.frame_layouts.specs.lay_cert.Frames.{Frame}
+use Rattle.frame_layouts.specs.declared.options.Options.{Options}
+use Rattle.cc_compile.specs.Images.{AccessAs, AreWalked, EndsWithin, HasFrames, HasImage, IsDirect, KeepsRuns, TreeKeepsRuns, source_jobs}
 
 -- the bytes have a tree, this a typed program, and that has the image, which is linked from its pieces and the routines, and the frames, which are
 -- laid out as is chosen. The words do what the program does

@@ -1,14 +1,17 @@
-pub use Rattle.cc_image.specs as cc_image
 pub use Rattle.c_lexer.specs as c_lexer
 pub use Rattle.c_parser.specs as c_parser
 pub use Rattle.c_rules.specs as c_rules
 pub use Rattle.c_syntax.specs as c_syntax
 pub use Rattle.c_tree.specs as c_tree
-pub use Rattle.cc_image.specs.frame_emit as frame_emit
-pub use Rattle.cc_image.specs.frame_layouts as frame_layouts
-pub use Rattle.cc_image.specs.image_proof as image_proof
-pub use Rattle.cc_image.specs.tree_code_proof as tree_code_proof
-pub use Rattle.cc_image.specs.lay_cert as lay_cert
+pub use Rattle.c25_link.specs as c25_link
+pub use Rattle.frame_layouts.specs as frame_layouts
+pub use Rattle.frame_layouts.specs.lay_cert as lay_cert
+pub use Rattle.image_proof.specs as image_proof
+pub use Rattle.image_proof.specs.frame_emit as frame_emit
+pub use Rattle.image_proof.specs.tree_code_proof as tree_code_proof
+pub mod Images
+pub mod TranslationFaults
+pub mod Selections
 pub mod PartFaults
 pub mod SourceFaults
 pub mod Compiles

@@ -6,8 +6,8 @@ use Rattle.c_parser.specs.declared.fault.ParseFault.TheVariants as parse
 use Rattle.c_rules.specs.declared.fault.TypeFault.{TypeFault}
 use Rattle.c_rules.specs.declared.fault.TypeFault.TheVariants as types
 use Rattle.cc_compile.specs.declared.fault.BuildFault.{BuildFault}
-use Rattle.cc_image.specs.declared.fault.TranslationFault.{TranslationFault}
-use Rattle.cc_image.specs.declared.fault.TranslationFault.TheVariants as translation
+use Rattle.cc_compile.specs.declared.translation_fault.TranslationFault.{TranslationFault}
+use Rattle.cc_compile.specs.declared.translation_fault.TranslationFault.TheVariants as translation
 use Rattle.cc_compile.specs.declared.fault.BuildFault.TheVariants.{Lex, Parse, Types, Plan, Link, NoMemory}
 
 abbrev pub of_lex_fault : LexFault → BuildFault

@@ -15,8 +15,8 @@ use Rattle.c_rules.specs.Faults as rules
 use Rattle.c_rules.specs.declared.fault.TypeFault.{TypeFault}
 use Rattle.c_rules.specs.declared.fault.TypeFault.TheVariants as types
 use Rattle.c25_isa.specs.Image.{Contents}
-use Rattle.cc_image.specs.frame_layouts.declared.options.Options.{Options}
-use Rattle.cc_image.specs.Images.{HasImage, HasPlanFault, HasLinkFault, source_jobs}
+use Rattle.frame_layouts.specs.declared.options.Options.{Options}
+use Rattle.cc_compile.specs.Images.{HasImage, HasPlanFault, HasLinkFault, source_jobs}
 use Rattle.cc_compile.specs.declared.fault.BuildFault.{BuildFault}
 use Rattle.cc_compile.specs.declared.fault.BuildFault.TheVariants.{Lex, Parse, Types, Plan, Link}
 

@@ -1,6 +1,6 @@
 //! The law of faults.
 ghost use Rattle.std.specs.Prelude.{ℕ, List};
-ghost use Rattle.cc_image.specs.frame_layouts.declared.options.Options.{Options};
+ghost use Rattle.frame_layouts.specs.declared.options.Options.{Options};
 ghost use Rattle.cc_compile.specs.declared.fault.BuildFault.{BuildFault};
 ghost use Rattle.cc_compile.specs.SourceFaults.{HasFault, IsAccepted, IsUntyped, IsOfTypes, IsSameFault};
 

@@ -1,10 +1,12 @@
 //! The faults of a source.
 ghost use Rattle.std.specs.Prelude.{◌≡◌};
 
+use crate::translation_fault::TranslationFault;
 use c_lexer::LexFault;
 use c_parser::ParseFault;
 use c_rules::TypeFault;
-use cc_image::{LinkFault, PlanFault, TranslationFault};
+use c25_link::LinkFault;
+use frame_layouts::PlanFault;
 use word_base::NoMemory;
 
 /// Why a source isn't compiled, in the order in which these are answered. A place is a byte offset in the source. Want of

@@ -2,7 +2,7 @@
 ghost use Rattle.std.specs.Prelude.{◌≤◌, ◌<◌, ℕ, ◌+◌, ◌*◌, List};
 ghost use Rattle.c_syntax.specs.Counts.{unit_count};
 ghost use Rattle.c25_link.specs.declared.fault.LinkFault.TheVariants.{CodeFull};
-ghost use Rattle.cc_image.specs.frame_layouts.declared.options.Options.{Options};
+ghost use Rattle.frame_layouts.specs.declared.options.Options.{Options};
 ghost use Rattle.cc_compile.specs.declared.fault.BuildFault.TheVariants.{Link};
 ghost use Rattle.cc_compile.specs.SourceFaults.{HasFault, HasTree};
 
@@ -14,6 +14,6 @@ pub fn full_code_is_large()
     c_syntax::functions_have_names();
     c_syntax::trees_are_small();
     c_types::typed_is_well_formed();
-    cc_image::code_is_bounded();
-    cc_image::programs_weigh_by_nodes();
+    crate::image_laws::code_is_bounded();
+    size_proof::programs_weigh_by_nodes();
 }

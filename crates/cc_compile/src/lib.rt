@@ -1,22 +1,28 @@
-//! The compiler: the phases from a source's bytes to an image, in a row, and why a source isn't compiled, with what each reason says of its bytes. It
-//! reads and writes no file.
+//! The compiler: the phases from a source's bytes to a typed program, and from that to its image and its certificate, each in a row; and why a source
+//! isn't compiled, with what each reason says of its bytes. It reads and writes no file.
 #![tactic(auto)]
 
 mod cc_fault_laws;
 mod fault;
 mod front;
+mod image_laws;
 mod laws;
 mod phases;
+mod translation;
+mod translation_fault;
 
+pub use c25_link::LinkFault;
 pub use cc_fault_laws::one_source_fault;
 pub use c_lexer::LexFault;
 pub use c_parser::ParseFault;
 pub use c_rules::TypeFault;
-pub use cc_image::{
-    CertFault, Certificate, Job, LinkFault, Options, PlanFault, Selection, TranslationFault,
-    code_is_bounded, functions, programs_weigh_by_nodes, runs_tell, select, translate_by_jobs,
-};
 pub use fault::BuildFault;
+pub use frame_layouts::{CertFault, Certificate, Job, Options, PlanFault};
 pub use front::typed_program;
+pub use image_laws::{code_is_bounded, one_image};
+pub use image_proof::runs_tell;
 pub use laws::full_code_is_large;
 pub use phases::{Built, compile};
+pub use size_proof::programs_weigh_by_nodes;
+pub use translation::{Selection, Translated, functions, select, translate, translate_by_jobs};
+pub use translation_fault::TranslationFault;

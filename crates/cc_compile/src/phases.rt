@@ -3,14 +3,15 @@ ghost use Rattle.std.specs.Prelude.{◌≡◌, ◌≢◌, ◌<◌, ◌^◌, leng
 ghost use Rattle.cc_compile.specs.declared.fault.BuildFault.TheVariants as faults;
 ghost use Rattle.cc_compile.specs.SourceFaults.{HasFault};
 ghost use Rattle.cc_compile.specs.Compiles.{IsBuilt};
-ghost use Rattle.cc_image.specs.frame_layouts.Frames.{AreOptions, ClaimsHold};
-ghost use Rattle.cc_image.specs.frame_layouts.Rows.{row_of};
+ghost use Rattle.frame_layouts.specs.Frames.{AreOptions, ClaimsHold};
+ghost use Rattle.frame_layouts.specs.Rows.{row_of};
 
 use crate::BuildFault;
 use crate::front::typed_program;
+use crate::translation::{Translated, translate};
 use c25_isa::Image;
-use cc_image::{Certificate, Options, Translated, report_rows, translate};
 use cc_report::ReportRow;
+use frame_layouts::{Certificate, Options, report_rows};
 use std::alloc::Global;
 use std::thread::Threads;
 use word_base::{Gate, NoMemory};
@@ -61,8 +62,8 @@ pub fn compile<R: Threads + Sync, G: Gate + Sync>(
     // A refusal has its cause, unless memory is wanting.
     ensures refused { IfErr result (λ why. why ≢ faults.NoMemory → HasFault options source.now why) }
 {
-    cc_image::code_is_bounded();
-    cc_image::programs_weigh_by_nodes();
+    crate::image_laws::code_is_bounded();
+    size_proof::programs_weigh_by_nodes();
     let program = typed_program(alloc, source)?;
     let translated = translate(rt, alloc, gate, options, &program)?;
     Ok(with_rows(alloc, translated)?)

@@ -3,8 +3,8 @@ use Rattle.std.proofs.Common.{◌≡◌, ◌∷◌, [], ℕ, List, ap, ap₂, ma
 use Rattle.std.specs.Prelude.{Some, string_bytes}
 use Rattle.c25_isa.specs.Image.{Contents}
 use Rattle.c25_image.specs.ImageText.{image_text}
-use Rattle.lay_cert.specs.Frames.{Frame}
-use Rattle.lay_cert.specs.CertText.{cert_text}
+use Rattle.cc_check.specs.lay_cert.Frames.{Frame}
+use Rattle.cc_check.specs.lay_cert.CertText.{cert_text}
 use Rattle.cc_report.specs.Report.{report_lines}
 use Rattle.cc_files.specs.frame_layouts.Frames.{AreOptions}
 use Rattle.cc_files.specs.frame_layouts.Rows.{row_of}

@@ -24,11 +24,11 @@ use Rattle.c25_asm.specs.AssemblerText.{assembled}
 use Rattle.c25_asm.specs.declared.fault.AsmFault.{AsmFault}
 use Rattle.lay_text.proofs.Exact.{sequences_same, says_not_read}
 use Rattle.lay_tree.specs.Search.{search_answer}
-use Rattle.cc_files.specs.cc_image.Images.{HasImage, HasFrames, source_jobs}
-use Rattle.lay_cert.specs.Frames.{Frame}
-use Rattle.lay_cert.proofs.Exact.{reads_same as certificates_same, says_not_read as no_certificate}
+use Rattle.cc_files.specs.cc_compile.Images.{HasImage, HasFrames, source_jobs}
+use Rattle.cc_check.specs.lay_cert.Frames.{Frame}
+use Rattle.cc_check.proofs.lay_cert.Exact.{reads_same as certificates_same, says_not_read as no_certificate}
 use Rattle.cc_files.specs.frame_layouts.declared.options.Options.{Options}
-use Rattle.cc_files.proofs.cc_image.OneImage.{one as one_image, frames_same}
+use Rattle.cc_files.proofs.cc_compile.OneImage.{one as one_image, frames_same}
 use Rattle.cc_files.specs.cc_compile.SourceFaults.{HasProgram, IsAccepted}
 use Rattle.cc_files.proofs.cc_compile.OneFault.{accepted_no_fault, program_no_fault, same_program}
 use Rattle.cc_files.specs.cc_compile.Compiles.{IsBuilt}

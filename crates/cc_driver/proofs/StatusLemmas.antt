@@ -16,7 +16,7 @@ use Rattle.cc_answers.specs.RunText.{stop_status}
 use Rattle.cc_answers.specs.GenText.{gen_answer}
 use Rattle.cc_answers.specs.MeansText.{outcome_status}
 use Rattle.cc_files.specs.World.{Sinks}
-use Rattle.lay_cert.specs.Frames.{Frame}
+use Rattle.cc_check.specs.lay_cert.Frames.{Frame}
 use Rattle.cc_driver.specs.Build.{report_of}
 use Rattle.cc_driver.specs.Check.{check_answer}
 use Rattle.cc_files.specs.Puts.{IsStatus, PutsText, PutWhole, PutPart, PutNothing}

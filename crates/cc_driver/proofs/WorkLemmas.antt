@@ -14,9 +14,9 @@ use Rattle.c25_image.specs.declared.fault.PortFault.TheVariants as port_faults
 use Rattle.lay_text.specs.SequenceReading.{Says as SequenceSays}
 use Rattle.lay_text.specs.declared.fault.SeqFault.{SeqFault}
 use Rattle.lay_text.specs.declared.fault.SeqFault.TheVariants as sequence_faults
-use Rattle.lay_cert.specs.CertReading.{Says as CertificateSays}
-use Rattle.lay_cert.specs.declared.fault.CertFault.{CertFault}
-use Rattle.lay_cert.specs.declared.fault.CertFault.TheVariants as certificate_faults
+use Rattle.cc_check.specs.lay_cert.CertReading.{Says as CertificateSays}
+use Rattle.cc_check.specs.lay_cert.declared.fault.CertFault.{CertFault}
+use Rattle.cc_check.specs.lay_cert.declared.fault.CertFault.TheVariants as certificate_faults
 use Rattle.cc_files.specs.cc_compile.declared.fault.BuildFault.{BuildFault}
 use Rattle.cc_files.specs.cc_compile.declared.fault.BuildFault.TheVariants as build_faults
 use Rattle.cc_files.specs.c_macro.declared.fault.MacroFault.{MacroFault}

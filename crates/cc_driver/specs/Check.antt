@@ -1,10 +1,10 @@
 -- What `check` makes of its files (docs/COMMANDS.md, "check").
 use Rattle.std.specs.Prelude.{◌≡◌, ◌≢◌, ℕ, List, All, Some, if◌then◌else◌}
 use Rattle.c25_isa.specs.Image.{Contents}
-use Rattle.lay_cert.specs.Frames.{Frame}
-use Rattle.lay_cert.specs.CertReading.{Reads, Says}
-use Rattle.lay_cert.specs.declared.fault.CertFault.{CertFault}
-use Rattle.lay_cert.specs.declared.fault.CertFault.TheVariants as certificate_faults
+use Rattle.cc_check.specs.lay_cert.Frames.{Frame}
+use Rattle.cc_check.specs.lay_cert.CertReading.{Reads, Says}
+use Rattle.cc_check.specs.lay_cert.declared.fault.CertFault.{CertFault}
+use Rattle.cc_check.specs.lay_cert.declared.fault.CertFault.TheVariants as certificate_faults
 use Rattle.cc_check.specs.CheckText.{check_text, all_pass}
 use Rattle.cc_check.specs.Checks.{OptimalHolds}
 use Rattle.cc_files.specs.cc_text.declared.refusal.FileFault.TheVariants.{Certificate}

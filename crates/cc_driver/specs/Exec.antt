@@ -2,7 +2,7 @@
 use Rattle.std.specs.Prelude.{◌≡◌, ℕ, List}
 use Rattle.c25_isa.specs.Image.{Contents}
 use Rattle.c25_image.specs.PortText.{PortText}
-use Rattle.lay_cert.specs.Frames.{Frame}
+use Rattle.cc_check.specs.lay_cert.Frames.{Frame}
 use Rattle.cc_files.specs.cc_compile.declared.fault.BuildFault.{BuildFault}
 use Rattle.cc_files.specs.cc_compile.SourceFaults.{HasFault}
 use Rattle.cc_files.specs.cc_compile.Compiles.{IsBuilt}

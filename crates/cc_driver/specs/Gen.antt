@@ -3,7 +3,7 @@ use Rattle.std.specs.Prelude.{◌≡◌, ℕ, List, [], length}
 use Rattle.word_base.specs.Ports.{Outputs}
 use Rattle.c25_isa.specs.declared.event.Stop.{Stop}
 use Rattle.c25_isa.specs.Image.{Contents}
-use Rattle.lay_cert.specs.Frames.{Frame}
+use Rattle.cc_check.specs.lay_cert.Frames.{Frame}
 use Rattle.cc_files.specs.cc_compile.Compiles.{IsBuilt}
 use Rattle.cc_gen.specs.Generated.{generated}
 use Rattle.cc_answers.specs.Answers.{Answered}

@@ -1,5 +1,4 @@
 pub use Rattle.cc_compile.specs as cc_compile
-pub use Rattle.cc_compile.specs.cc_image as cc_image
 pub use Rattle.cc_compile.specs.frame_emit as frame_emit
 pub use Rattle.cc_compile.specs.frame_layouts as frame_layouts
 pub use Rattle.cc_compile.specs.image_proof as image_proof

@@ -8,10 +8,10 @@ use Rattle.c_units.specs.c_rules.declared.fault.LimitName.{LimitName}
 use Rattle.c_units.specs.c_rules.declared.fault.LimitName.TheVariants as limits
 use Rattle.c_units.specs.c_rules.declared.fault.TypeFault.{TypeFault}
 use Rattle.c_units.specs.c_rules.declared.fault.TypeFault.TheVariants as type_faults
-use Rattle.mem_plan.specs.declared.data_plan.PlanFault.{PlanFault}
-use Rattle.mem_plan.specs.declared.data_plan.PlanFault.TheVariants as plan_faults
-use Rattle.c25_link.specs.declared.fault.LinkFault.{LinkFault}
-use Rattle.c25_link.specs.declared.fault.LinkFault.TheVariants as link_faults
+use Rattle.cc_compile.specs.frame_layouts.mem_plan.declared.data_plan.PlanFault.{PlanFault}
+use Rattle.cc_compile.specs.frame_layouts.mem_plan.declared.data_plan.PlanFault.TheVariants as plan_faults
+use Rattle.cc_compile.specs.c25_link.declared.fault.LinkFault.{LinkFault}
+use Rattle.cc_compile.specs.c25_link.declared.fault.LinkFault.TheVariants as link_faults
 use Rattle.cc_compile.specs.declared.fault.BuildFault.{BuildFault}
 use Rattle.cc_compile.specs.declared.fault.BuildFault.TheVariants.{Lex, Parse, Types, Plan, Link, NoMemory}
 

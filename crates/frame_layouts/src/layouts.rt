@@ -50,7 +50,11 @@ pub fn lay_out<R: Threads + Sync, G: Gate + Sync>(
 }
 
 /// What is to be searched for each function as it is compiled: a layout for its accesses, each block of which counts once.
-pub fn jobs_of(alloc: Global, options: Options, functions: &[AccFunction]) -> Result<Vec<Job>, NoMemory>
+pub fn jobs_of(
+    alloc: Global,
+    options: Options,
+    functions: &[AccFunction],
+) -> Result<Vec<Job>, NoMemory>
     requires options { AreOptions options }
     requires in_frames { All (λ f. IsInFrame (function_items_of f)) functions.now }
     ensures jobs { IfOk result (λ jobs. jobs.items ≡ map (job_of options) (map function_items_of functions.now)) }

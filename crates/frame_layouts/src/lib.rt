@@ -12,5 +12,6 @@ pub use laws::{claims_hold, frames_are_arranged, layouts_are_arranged};
 pub use lay_cert::{CertFault, Certificate};
 pub use lay_par::Job;
 pub use layouts::{Finding, Layouts, jobs_of, lay_out};
+pub use mem_plan::{DataPlan, PlanFault, plan};
 pub use options::Options;
 pub use rows::report_rows;

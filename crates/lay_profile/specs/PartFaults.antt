@@ -3,8 +3,8 @@ use Rattle.c25_walk.specs.declared.fault.WalkFault.{WalkFault}
 use Rattle.c25_walk.specs.declared.fault.WalkFault.TheVariants as walk
 use Rattle.cc_compile.specs.declared.fault.BuildFault.{BuildFault}
 use Rattle.cc_compile.specs.declared.fault.BuildFault.TheVariants as build
-use Rattle.cc_compile.specs.cc_image.declared.fault.TranslationFault.{TranslationFault}
-use Rattle.cc_compile.specs.cc_image.declared.fault.TranslationFault.TheVariants as translation
+use Rattle.cc_compile.specs.declared.translation_fault.TranslationFault.{TranslationFault}
+use Rattle.cc_compile.specs.declared.translation_fault.TranslationFault.TheVariants as translation
 use Rattle.lay_profile.specs.declared.fault.ProfileFault.{ProfileFault}
 use Rattle.lay_profile.specs.declared.fault.ProfileFault.TheVariants.{Lex, Parse, Types, OtherSource, Plan, Link, NoMemory}
 

@@ -12,7 +12,7 @@ use Rattle.cc_compile.specs.c_syntax.SyntaxTree.{UnitTree}
 use Rattle.cc_compile.specs.c_syntax.declared.token.Token.{Token}
 use Rattle.cc_compile.specs.c_tree.SourceRun.{source_run}
 use Rattle.cc_compile.specs.c_tree.TypedTree.{ProgramTree}
-use Rattle.cc_compile.specs.cc_image.Images.{AreWalkedAs, EndsWithin, FrameJobs, HasFrames, HasImage, HasLinkFault, HasPlanFault, IsDirect, KeepsRuns, TreeKeepsRuns}
+use Rattle.cc_compile.specs.Images.{AreWalkedAs, EndsWithin, FrameJobs, HasFrames, HasImage, HasLinkFault, HasPlanFault, IsDirect, KeepsRuns, TreeKeepsRuns}
 use Rattle.cc_compile.specs.declared.fault.BuildFault.TheVariants as build
 use Rattle.cc_compile.specs.lay_cert.Frames.{Frame}
 use Rattle.cc_compile.specs.lay_cert.declared.certificate.Claim.TheVariants.{Optimal}

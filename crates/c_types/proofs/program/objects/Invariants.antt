@@ -2,7 +2,7 @@ use Rattle.std.proofs.Common.{◌≡◌, ◌++◌, map}
 use Rattle.std.specs.Vec.Iter.{into_iter_items}
 use Rattle.c_tree.specs.View.{object_of}
 use Rattle.c_rules.specs.Programs.{object_tree}
-use Rattle.c_bodies.specs.c_names.Statics.{static_tree_of}
+use Rattle.c_scopes.specs.c_names.Statics.{static_tree_of}
 use Rattle.c_types.proofs.program.objects.Given as goal
 
 abbrev pub invariant-loop-object : goal.invariant-loop-object

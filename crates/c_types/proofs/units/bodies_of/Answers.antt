@@ -1,6 +1,6 @@
 use Rattle.std.proofs.Common.{◌+◌, ◌∙◌, ap, sym, drop}
 use Rattle.c_syntax.specs.SyntaxView.{unit_of}
-use Rattle.c_bodies.specs.c_scopes.Tables.{key_names}
+use Rattle.c_scopes.specs.Tables.{key_names}
 use Rattle.c_rules.specs.Units.{bodies_behind}
 use Rattle.c_types.proofs.UnitLemmas.{function_passed, declaration_passed}
 use Rattle.c_types.proofs.units.bodies_of.Goals.{in-Function+in_ok-insert, in_default}

@@ -2,8 +2,8 @@ use Rattle.std.proofs.Common.{◌∙◌, ap, sym, map}
 use Rattle.c_syntax.specs.SyntaxView.{declaration_of, body_of}
 use Rattle.c_rules.specs.LocalView.{local_tree_of}
 use Rattle.c_rules.specs.Statements.{typed_body}
-use Rattle.c_bodies.specs.c_scopes.Tables.{around_of, scope_of}
-use Rattle.c_bodies.proofs.c_scopes.ScopesKept.{closed_again}
+use Rattle.c_scopes.specs.Tables.{around_of, scope_of}
+use Rattle.c_scopes.proofs.ScopesKept.{closed_again}
 use Rattle.c_types.proofs.units.typed_body.Goals as goal
 
 pub returns-clause-follows : goal.returns-clause-follows

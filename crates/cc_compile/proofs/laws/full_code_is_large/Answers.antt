@@ -1,5 +1,5 @@
 use Rattle.std.proofs.Common.{arith}
-use Rattle.cc_image.specs.Images.{source_jobs}
+use Rattle.cc_compile.specs.Images.{source_jobs}
 use Rattle.cc_compile.proofs.laws.full_code_is_large.Goals as goal
 
 pub returns : goal.returns

@@ -4,9 +4,9 @@ use Rattle.c_tree.specs.ProgramView.{program_of}
 use Rattle.c_tree.specs.SourceRun.{source_run}
 use Rattle.c25_isa.specs.Agrees.{Agrees}
 use Rattle.c25_isa.specs.Image.{Contents}
-use Rattle.cc_image.specs.lay_cert.Frames.{Frame}
-use Rattle.cc_image.specs.frame_layouts.Frames.{ClaimsHold}
-use Rattle.cc_image.specs.Images.{AccessAs, AreWalked, EndsWithin, HasFrames, HasImage, IsDirect, source_jobs}
+use Rattle.frame_layouts.specs.lay_cert.Frames.{Frame}
+use Rattle.frame_layouts.specs.Frames.{ClaimsHold}
+use Rattle.cc_compile.specs.Images.{AccessAs, AreWalked, EndsWithin, HasFrames, HasImage, IsDirect, source_jobs}
 use Rattle.cc_compile.specs.PartFaults.{of_translation_fault}
 use Rattle.cc_compile.specs.SourceFaults.{HasFault}
 use Rattle.cc_compile.specs.declared.fault.BuildFault.{BuildFault}

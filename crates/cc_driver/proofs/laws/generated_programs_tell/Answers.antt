@@ -5,7 +5,7 @@ use Rattle.word_base.specs.Ports.{input_of}
 use Rattle.tree_code.specs.Lowered.{lowered_program}
 use Rattle.c25_sim.specs.Taken.{of_sixteen}
 use Rattle.cc_files.proofs.image_proof.ExecWords.{text_input}
-use Rattle.cc_files.specs.cc_image.Images.{all_pieces, source_jobs}
+use Rattle.cc_files.specs.cc_compile.Images.{all_pieces, source_jobs}
 use Rattle.cc_answers.specs.Answers.{Answered}
 use Rattle.cc_driver.specs.Build.{plain_options}
 use Rattle.cc_driver.specs.Gen.{gen_steps}

@@ -3,8 +3,8 @@ use Rattle.c_syntax.specs.SyntaxView.{function_syntax_of, parameter_of}
 use Rattle.c_rules.specs.LocalView.{local_tree_of}
 use Rattle.c_rules.specs.Scopes.{open_scope}
 use Rattle.c_rules.specs.Units.{with_parameters, parameter_locals}
-use Rattle.c_bodies.specs.c_scopes.Tables.{around_of, scope_of}
-use Rattle.c_bodies.proofs.c_scopes.ScopesKept.{innermost}
+use Rattle.c_scopes.specs.Tables.{around_of, scope_of}
+use Rattle.c_scopes.proofs.ScopesKept.{innermost}
 use Rattle.c_types.specs.View.{typed_body_of, file_of}
 use Rattle.c_types.proofs.UnitLemmas.{body_typed, function_pushed}
 use Rattle.c_types.proofs.units.File.body.Goals as goal

@@ -11,8 +11,8 @@ use Rattle.c_rules.specs.Outcome.{Is}
 use Rattle.c_rules.specs.Scopes.{open_scope}
 use Rattle.c_rules.specs.Typing.{bodies_before}
 use Rattle.c_rules.specs.Units.{File, file_function, with_body}
-use Rattle.c_bodies.specs.c_scopes.Tables.{scope_of}
-use Rattle.c_bodies.proofs.c_scopes.ScopesKept.{innermost}
+use Rattle.c_scopes.specs.Tables.{scope_of}
+use Rattle.c_scopes.proofs.ScopesKept.{innermost}
 use Rattle.c_types.specs.View.{file_of}
 use Rattle.c_types.proofs.FunctionLemmas.{body_refused, function_twice, function_typed}
 use Rattle.c_types.proofs.UnitLemmas.{not_allowed, allowed_twice, allowed_once}

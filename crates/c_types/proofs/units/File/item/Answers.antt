@@ -3,9 +3,9 @@ use Rattle.c_syntax.specs.SyntaxView.{item_of}
 use Rattle.c_rules.specs.declared.meaning.Declared.TheVariants as declares
 use Rattle.c_rules.specs.Outcome.{Is}
 use Rattle.c_limits.specs.FunctionView.{typed_function_of}
-use Rattle.c_bodies.proofs.c_scopes.ScopesKept.{innermost}
+use Rattle.c_scopes.proofs.ScopesKept.{innermost}
 use Rattle.c_types.specs.View.{file_of}
-use Rattle.c_bodies.specs.c_names.Statics.{static_tree_of}
+use Rattle.c_scopes.specs.c_names.Statics.{static_tree_of}
 use Rattle.c_types.proofs.UnitLemmas.{item_follows}
 use Rattle.c_types.proofs.units.File.item.Goals as goal
 

@@ -3,10 +3,10 @@ use Rattle.std.proofs.lemmas.List.{length-map}
 use Rattle.c_syntax.specs.SyntaxView.{item_of}
 use Rattle.c_rules.specs.declared.meaning.Declared.TheVariants as declares
 use Rattle.c_rules.specs.Answers.{Refuses}
-use Rattle.c_bodies.specs.c_scopes.Tables.{scope_of}
+use Rattle.c_scopes.specs.Tables.{scope_of}
 use Rattle.c_rules.specs.Units.{item_as, static_list}
 use Rattle.c_types.specs.View.{file_of}
-use Rattle.c_bodies.specs.c_names.Statics.{static_tree_of}
+use Rattle.c_scopes.specs.c_names.Statics.{static_tree_of}
 use Rattle.c_objects.specs.InitialiserView.{starts_of}
 use Rattle.c_types.proofs.UnitLemmas.{starts_refused, redeclared_refused, declared_refused, not_allowed, allowed_twice, allowed_once, refused_first}
 use Rattle.c_types.proofs.units.File.object.Goals.{then-not-allowed-via-then-not-allowed, then-not-allowed-via-else-not-allowed+then-is_twice}

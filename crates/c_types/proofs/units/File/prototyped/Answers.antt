@@ -4,7 +4,7 @@ use Rattle.c_rules.specs.declared.meaning.Declared.TheVariants as declares
 use Rattle.c_rules.specs.declared.fault.Rule.TheVariants.{Mismatch}
 use Rattle.c_rules.specs.Answers.{Refuses}
 use Rattle.c_rules.specs.Outcome.{Is, breaks}
-use Rattle.c_bodies.specs.c_scopes.Tables.{scope_of}
+use Rattle.c_scopes.specs.Tables.{scope_of}
 use Rattle.c_rules.specs.Units.{item_as}
 use Rattle.c_types.specs.View.{file_of}
 use Rattle.c_objects.specs.InitialiserView.{starts_of}

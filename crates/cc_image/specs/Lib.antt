@@ -1,8 +1,0 @@
-pub use Rattle.frame_emit.specs as frame_emit
-pub use Rattle.frame_layouts.specs as frame_layouts
-pub use Rattle.frame_layouts.specs.lay_cert as lay_cert
-pub use Rattle.image_proof.specs as image_proof
-pub use Rattle.image_proof.specs.tree_code_proof as tree_code_proof
-pub mod Images
-pub mod Faults
-pub mod Selections
