@@ -6,6 +6,7 @@ pub mod JoinedLemmas
 pub mod OneOutcome
 pub mod ListLemmas
 pub mod NumberLemmas
+pub mod EndLemmas
 pub mod SpellingLemmas
 pub mod StaticLemmas
 pub mod FreshLemmas
