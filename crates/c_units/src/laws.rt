@@ -4,6 +4,10 @@ ghost use Rattle.c_tree.specs.c_syntax.declared.token.Token.{Token};
 ghost use Rattle.c_tree.specs.c_syntax.declared.token.TokenKind.TheVariants.{Name};
 ghost use Rattle.c_tree.specs.TypedTree.{ProgramTree};
 ghost use Rattle.c_renaming.specs.RenamedTokens.{renamed_kind};
+ghost use Rattle.c_tree.specs.c_syntax.Source.{IsSource};
+ghost use Rattle.c_tree.specs.c_syntax.SyntaxTree.{UnitTree};
+ghost use Rattle.c_units.specs.Externs.{AtStart, without_externs, extern_places};
+ghost use Rattle.c_units.specs.Prefixes.{Prefixed};
 ghost use Rattle.c_units.specs.Statics.{static_name, ends_in_number, EndsInNumber};
 ghost use Rattle.c_units.specs.Files.{FileTree, AreFiles};
 ghost use Rattle.c_units.specs.declared.fault.UnitFault.{UnitFault};
@@ -38,6 +42,16 @@ pub fn answers_are_typed_with_any_names()
         → length sources ≤ 16 → IsFresh choice joins.files → Joined choice joins.files others
         → ((program : ProgramTree) → HasProgram tokens program → HasRenamed joins.files static_name choice others program)
         × ((program : ProgramTree) → HasProgram others program → HasRenamed joins.files choice static_name tokens program) }
+{}
+
+/// The `extern`s that are dropped are those in front of an external, by the grammar, and no others.
+pub fn externs_are_dropped_before_externals()
+    // Externals, some with an `extern` in front, are left without these.
+    ensures dropped { (all left : List Token) (places : List ℕ) → Prefixed all left places
+        → (without_externs all ≡ left) × (extern_places AtStart all ≡ places) }
+    // Tokens of which a source is left are such externals.
+    ensures only_these { (all : List Token) (unit : UnitTree) → IsSource (without_externs all) unit
+        → Prefixed all (without_externs all) (extern_places AtStart all) }
 {}
 
 /// A name is reserved in every file where it is something, `__` and at least one digit.
