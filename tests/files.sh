@@ -1,7 +1,7 @@
 #!/usr/bin/env bash
 # The built program's programs of several files: the cases of files.txt, each limit and one above it, large files with their times, files
 # that can't be read or written, and the programs in joined/ and examples/files. Expected values of these programs come from another C
-# compiler (joined/expected.sh), those of the rest from docs/ by hand.
+# compiler (joined/expected.sh). The cases were decided by hand, without the code, and so was the rest, from docs/.
 script=files
 . "$(dirname "${BASH_SOURCE[0]}")/common.sh"
 
@@ -167,7 +167,7 @@ large() {
         function id(number) { return sprintf("n%s%08d", seed, number) }
         BEGIN { for (i = 1; i <= 16; i++) { '"$2"' } }'
     mega "${all[@]}"
-    within 1500 stored "$1" "${all[@]}"
+    within 1000 stored "$1" "${all[@]}"
 }
 large 'sixteen files of 1 MiB' 'both("int a , b ;"); for (k = 0; k < 4165; k++) both("int a ;")'
 large '66,640 long names' 'both("int a , b ;"); for (k = 0; k < 4165; k++) both("int " id(5000 * i + k) " ;")'

@@ -40,8 +40,11 @@ separator (Mark OpenBrace) = 10
 separator (Mark CloseBrace) = 10
 separator kind = 32
 
+abbrev pub spelled : TokenKind → List ℕ
+spelled kind = kind_text kind ++ separator kind ∷ []
+
 abbrev pub tokens_text : List Token → List ℕ
-tokens_text tokens = flat_map (λ t. kind_text t.kind ++ separator t.kind ∷ []) tokens
+tokens_text tokens = flat_map (λ t. spelled t.kind) tokens
 
 -- tokens of the same kinds, as that text has them from a place on: each with its place and the length of its spelling
 abbrev pub placed_from : ℕ → List Token → List Token

@@ -22,4 +22,4 @@ pub use lexer::lex;
 pub use runs::name_run;
 pub use scanner::{Spelled, token};
 pub use words::word;
-pub use writing::token_text;
+pub use writing::{push_token_text, token_text};

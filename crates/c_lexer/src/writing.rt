@@ -3,7 +3,7 @@ ghost use Rattle.std.specs.Prelude.{◌≡◌, ◌++◌, ◌≤◌, ◌<◌, len
 ghost use Rattle.text_base.specs.Hex.{hex_digit, hex4};
 ghost use Rattle.c_syntax.specs.Lexes.{Lexes, most_tokens};
 ghost use Rattle.c_lexer.specs.TokenText as texts;
-ghost use Rattle.c_lexer.specs.TokenText.{hexadecimal, number_text, suffix_text, kind_text, tokens_text, placed_from, HasSpelling};
+ghost use Rattle.c_lexer.specs.TokenText.{hexadecimal, number_text, suffix_text, kind_text, spelled, tokens_text, placed_from, HasSpelling};
 
 use c_fixed_texts::{keyword_text, mark_text};
 use c_syntax::{Punct, Token, TokenKind};
@@ -99,6 +99,15 @@ fn separator(kind: &TokenKind) -> u8
     }
 }
 
+/// Adds what `token_text` gives of one token.
+pub fn push_token_text(text: &mut Vec<u8>, kind: &TokenKind) -> Result<(), NoMemory>
+    ensures { OnOk result (text.new.items ≡ text.old.items ++ spelled kind.now) }
+{
+    push_kind(text, kind)?;
+    text.push(separator(kind))?;
+    Ok(())
+}
+
 /// The text of tokens: a spelling of each, and behind it a line feed where that is `;`, `{` or `}`, and else one space. A
 /// decimal number is the digits of its value, and another one `0x` and lower-case hexadecimal digits without leading zeros,
 /// each with a `u` where it is marked. A character is `'\x`, four such digits of its value and `'`. Names, keywords and marks
@@ -113,8 +122,7 @@ pub fn token_text(alloc: Global, tokens: &[Token]) -> Result<Vec<u8>, NoMemory>
 {
     let mut text = Vec::new(alloc);
     for token in tokens {
-        push_kind(&mut text, &token.kind)?;
-        text.push(separator(&token.kind))?;
+        push_token_text(&mut text, &token.kind)?;
     }
     Ok(text)
 }

@@ -33,9 +33,10 @@ pub fn behind_end(bytes: &[u8]) -> Option<&[u8]>
 pub fn behind_blank(bytes: &[u8]) -> Option<&[u8]>
     ensures { MatchOption result (HasNoBlank bytes.now) (λ rest. IsBehindBlank bytes.now rest.now) }
 {
-    if let Some(inside) = behind(bytes, b"/*") {
-        return behind_end(inside);
-    }
     let (first, rest) = bytes.split_first()?;
-    if is_space(*first) { Some(rest) } else { None }
+    if is_space(*first) {
+        return Some(rest);
+    }
+    let inside = behind(bytes, b"/*")?;
+    behind_end(inside)
 }

@@ -1,19 +1,18 @@
--- The tokens of all files, counted and joined.
-use Rattle.std.proofs.Common.{◌≡◌, ◌∙◌, ◌≤◌, ◌<◌, ℕ, ◌+◌, ◌*◌, suc, List, [], ◌∷◌, ◌++◌, length, map, drop, get_or, Option, Some, None, Ok, Err, option_map, sym, ap, append_assoc, append-nil, arith}
+-- The tokens of all files, counted, and their text.
+use Rattle.std.proofs.Common.{◌≡◌, ◌∙◌, ◌≤◌, ◌<◌, ℕ, ◌+◌, ◌*◌, suc, List, [], ◌∷◌, ◌++◌, length, map, drop, get_or, Option, Some, None, Ok, Err, option_map, sym, ap, append_assoc, arith}
 use Rattle.std.specs.Prelude.{All, Result, OnOk}
 use Rattle.std.specs.Option.{option_or}
 use Rattle.std.specs.List.{AllByRecursion}
-use Rattle.std.proofs.lemmas.List.{map-append}
+use Rattle.std.proofs.lemmas.Grind.{flat_map-append}
 use Rattle.std.proofs.lemmas.List.Sums.{sum_by-cons}
-use Rattle.c_tree.specs.c_syntax.declared.token.Token.{Token}
-use Rattle.c_tree.specs.c_syntax.declared.token.TokenKind.{TokenKind}
+use Rattle.c_lexer.specs.TokenText.{spelled}
 use Rattle.std.proofs.lemmas.List.Elements.{recursion_from_All}
 use Rattle.c_rules.proofs.Turns.{first_left}
 use Rattle.c_units.specs.declared.fault.UnitFault.{UnitFault}
 use Rattle.c_units.specs.declared.fault.UnitFault.TheVariants.{Reserved}
 use Rattle.c_units.specs.Files.{FileTree}
 use Rattle.c_units.specs.Statics.{statics_of, static_name, reserved_at}
-use Rattle.c_units.specs.Joining.{token_count, file_kinds, joined_kinds, reserved_fault}
+use Rattle.c_units.specs.Joining.{token_count, file_kinds, joined_kinds, kinds_text, reserved_fault}
 
 -- a file of a turn, with those that are left
 pub count_left : {A : Type 0} (f : A → FileTree) (list : List A) (i : ℕ) (x : A) → x ≡ get_or list i x → i < length list
@@ -55,38 +54,20 @@ one_reserved f whole list i x at is below so_far found =
     ∙ ap (λ l. reserved_fault (i + 1) (map f l)) (first_left list i x is below)
     ∙ ap (λ own. option_or (option_map (Reserved (i + 1)) own) (reserved_fault (suc (i + 1)) (map f (drop (i + 1) list)))) found
 
--- ---- kinds
-
--- a token of a turn
-pub kind_turn : (f : TokenKind → TokenKind) (whole : List TokenKind) (made new left after : List Token) (t u : Token)
-    → map (λ x. x.kind) made ++ map (λ x. f x.kind) left ≡ whole → left ≡ t ∷ after → new ≡ made ++ u ∷ [] → u.kind ≡ f t.kind
-    → map (λ x. x.kind) new ++ map (λ x. f x.kind) after ≡ whole
-kind_turn f whole made new left after t u so_far split pushed is =
-    ap (λ (l : List Token). map (λ x. x.kind) l ++ map (λ x. f x.kind) after) pushed
-    ∙ ap (λ (l : List TokenKind). l ++ map (λ x. f x.kind) after) (map-append (λ (x : Token). x.kind) made (u ∷ []))
-    ∙ append_assoc (map (λ (x : Token). x.kind) made) (u.kind ∷ []) (map (λ x. f x.kind) after)
-    ∙ ap (λ (k : TokenKind). map (λ (x : Token). x.kind) made ++ k ∷ map (λ x. f x.kind) after) is
-    ∙ ap (λ (l : List Token). map (λ (x : Token). x.kind) made ++ map (λ x. f x.kind) l) (sym split)
-    ∙ so_far
-
-pub kinds_end : (f : TokenKind → TokenKind) (whole : List TokenKind) (made left : List Token) → map (λ x. x.kind) made ++ map (λ x. f x.kind) left ≡ whole → left ≡ [] → map (λ x. x.kind) made ≡ whole
-kinds_end f whole made left so_far none =
-    sym (append-nil (map (λ (x : Token). x.kind) made)) ∙ ap (λ (l : List Token). map (λ (x : Token). x.kind) made ++ map (λ x. f x.kind) l) (sym none) ∙ so_far
+-- ---- the text
 
 -- a file of a turn, of this number
-pub kinds_turn : {A : Type 0} (g : A → FileTree) (n : ℕ) (whole made new : List TokenKind) (left after : List A) (x : A)
-    → made ++ joined_kinds static_name (n + 1) (map g left) ≡ whole → left ≡ x ∷ after → new ≡ made ++ file_kinds static_name (n + 1) (g x)
-    → new ++ joined_kinds static_name (n + 1 + 1) (map g after) ≡ whole
-kinds_turn g n whole made new left after x so_far split pushed =
-    let next : n + 1 + 1 ≡ suc (n + 1) = omega arith in
-    ap (λ l. l ++ joined_kinds static_name (n + 1 + 1) (map g after)) pushed
-    ∙ append_assoc made (file_kinds static_name (n + 1) (g x)) _
-    ∙ ap (λ m. made ++ (file_kinds static_name (n + 1) (g x) ++ joined_kinds static_name m (map g after))) next
-    ∙ ap (λ l. made ++ joined_kinds static_name (n + 1) (map g l)) (sym split)
+pub text_turn : {A : Type 0} (g : A → FileTree) (n : ℕ) (whole made new : List ℕ) (list : List A) (i : ℕ) (x : A) → x ≡ get_or list i x → i < length list
+    → made ++ kinds_text (joined_kinds static_name n (map g (drop i list))) ≡ whole → new ≡ made ++ kinds_text (file_kinds static_name n (g x))
+    → new ++ kinds_text (joined_kinds static_name (n + 1) (map g (drop (i + 1) list))) ≡ whole
+text_turn g n whole made new list i x is below so_far pushed =
+    let next : n + 1 ≡ suc n = omega arith in
+    ap (λ l. l ++ kinds_text (joined_kinds static_name (n + 1) (map g (drop (i + 1) list)))) pushed
+    ∙ append_assoc made (kinds_text (file_kinds static_name n (g x))) _
+    ∙ ap (λ m. made ++ (kinds_text (file_kinds static_name n (g x)) ++ kinds_text (joined_kinds static_name m (map g (drop (i + 1) list))))) next
+    ∙ ap (λ l. made ++ l) (sym (flat_map-append spelled (file_kinds static_name n (g x)) (joined_kinds static_name (suc n) (map g (drop (i + 1) list)))))
+    ∙ ap (λ l. made ++ kinds_text (joined_kinds static_name n (map g l))) (sym (first_left list i x is below))
     ∙ so_far
-
-pub files_end : {A : Type 0} (g : A → FileTree) (n : ℕ) (whole made : List TokenKind) (left : List A) → made ++ joined_kinds static_name n (map g left) ≡ whole → left ≡ [] → made ≡ whole
-files_end g n whole made left so_far none = sym (append-nil made) ∙ ap (λ l. made ++ joined_kinds static_name n (map g l)) (sym none) ∙ so_far
 
 pub then_ok : {A E : Type 0} {P Q : Type 0} (r : Result A E) → (P → Q) → OnOk r P → OnOk r Q
 then_ok (Ok x) f h = f h

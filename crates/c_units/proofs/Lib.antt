@@ -5,7 +5,12 @@ pub mod CountLemmas
 pub mod JoinedLemmas
 pub mod OneOutcome
 pub mod ListLemmas
+pub mod CalmLemmas
+pub mod PositionLemmas
+pub mod ExternalLemmas
+pub mod PrefixLemmas
 pub mod NumberLemmas
+pub mod EndLemmas
 pub mod SpellingLemmas
 pub mod StaticLemmas
 pub mod FreshLemmas

@@ -13,7 +13,7 @@ use Rattle.c_tree.specs.c_syntax.FixedTexts.{keyword_text}
 use Rattle.c_units.specs.Statics.{is_digit, ends_in_underscores, marked_before_digits, ends_in_number, static_name}
 
 -- a text that is read from its end
-abbrev from_end : List ℕ → Bool
+abbrev pub from_end : List ℕ → Bool
 from_end [] = false
 from_end (code ∷ front) = is_digit code && marked_before_digits front
 
@@ -22,16 +22,16 @@ ends_from name = refl
 
 -- ---- digits
 
-abbrev IsDigitCode : ℕ → Type 0
+abbrev pub IsDigitCode : ℕ → Type 0
 IsDigitCode c = (48 ≤ c) × (c ≤ 57)
 
-abbrev AreDigitCodes : List ℕ → Type 0
+abbrev pub AreDigitCodes : List ℕ → Type 0
 AreDigitCodes text = AllByRecursion IsDigitCode text
 
 digit_true : (c : ℕ) → IsDigitCode c → is_digit c ≡ true
 digit_true c d = grind (arith, nat_tests, d)
 
-digits_push : (text : List ℕ) (c : ℕ) → AreDigitCodes text → IsDigitCode c → AreDigitCodes (text ++ c ∷ [])
+pub digits_push : (text : List ℕ) (c : ℕ) → AreDigitCodes text → IsDigitCode c → AreDigitCodes (text ++ c ∷ [])
 digits_push [] c h d = (d, tt {0})
 digits_push (x ∷ text) c h d = (h.0, digits_push text c h.1 d)
 
@@ -51,7 +51,7 @@ marked_digits [] rest are marked = marked
 marked_digits (c ∷ digits) rest are marked =
     ap (λ b. if b then marked_before_digits (digits ++ rest) else ends_in_underscores (c ∷ digits ++ rest)) (digit_true c are.0) ∙ marked_digits digits rest are.1 marked
 
-from_digits : (digits rest : List ℕ) → 0 < length digits → AreDigitCodes digits → marked_before_digits rest ≡ true → from_end (digits ++ rest) ≡ true
+pub from_digits : (digits rest : List ℕ) → 0 < length digits → AreDigitCodes digits → marked_before_digits rest ≡ true → from_end (digits ++ rest) ≡ true
 from_digits [] rest some are marked = absurd (omega arith)
 from_digits (c ∷ digits) rest some are marked = ap (λ b. b && marked_before_digits (digits ++ rest)) (digit_true c are.0) ∙ marked_digits digits rest are.1 marked
 

@@ -21,7 +21,8 @@ use Rattle.c_units.specs.Externs.{AtStart, without_externs, extern_places}
 use Rattle.c_units.specs.Files.{FileTree, HasTokens, HasTree, IsFile, AreFiles, IsSyntaxFault, BreaksRule, HasOwnFault, OfTokens, OfSyntax, OfTypes, HasFileFault}
 use Rattle.c_units.specs.Statics.{static_name}
 use Rattle.c_units.proofs.SpellingLemmas.{placed_by_kinds}
-use Rattle.c_units.specs.Joining.{Joined, Joins, joint_fault, HasFault, IsSameFault}
+use Rattle.c_lexer.specs.TokenText.{tokens_text}
+use Rattle.c_units.specs.Joining.{Joined, Joins, IsJoined, joint_fault, HasFault, IsSameFault}
 
 -- ---- one file
 
@@ -186,3 +187,18 @@ pub fault_answered : (sources : List (List ℕ)) (result : Result (Vec Token Glo
     → IfErr result (λ fault. fault ≢ NoMemory → HasFault sources fault) → HasFault sources cause → MatchResult result (λ found. ⊥) (λ fault. fault ≢ NoMemory → IsSameFault cause fault)
 fault_answered sources (Ok found) cause ok err has = joined_not sources found.items cause ok has
 fault_answered sources (Err fault) cause ok err has = λ some. one_fault sources cause fault has (err some)
+
+-- and of texts
+
+one_text : (sources : List (List ℕ)) (text : List ℕ) (tokens : List Token) → IsJoined sources text → Joins sources tokens → text ≡ tokens_text tokens
+one_text sources text tokens joined joins = joined.is ∙ ap tokens_text (one_joined sources joined.tokens tokens joined.joins joins)
+
+pub text_answered : (sources : List (List ℕ)) (result : Result (Vec ℕ Global) UnitFault) (tokens : List Token) → IfOk result (λ text. IsJoined sources text.items)
+    → IfErr result (λ fault. fault ≢ NoMemory → HasFault sources fault) → Joins sources tokens → MatchResult result (λ text. text.items ≡ tokens_text tokens) (λ fault. fault ≡ NoMemory)
+text_answered sources (Ok text) tokens ok err joins = one_text sources text.items tokens ok joins
+text_answered sources (Err fault) tokens ok err joins = memory_only fault (λ some. joined_not sources tokens fault joins (err some))
+
+pub text_refused : (sources : List (List ℕ)) (result : Result (Vec ℕ Global) UnitFault) (cause : UnitFault) → IfOk result (λ text. IsJoined sources text.items)
+    → IfErr result (λ fault. fault ≢ NoMemory → HasFault sources fault) → HasFault sources cause → MatchResult result (λ text. ⊥) (λ fault. fault ≢ NoMemory → IsSameFault cause fault)
+text_refused sources (Ok text) cause ok err has = joined_not sources ok.tokens cause ok.joins has
+text_refused sources (Err fault) cause ok err has = λ some. one_fault sources cause fault has (err some)

@@ -1,5 +1,6 @@
 -- Tables of names and places, and the turns of loops over lists.
-use Rattle.std.proofs.Common.{◌≡◌, ◌∙◌, ◌||◌, ◌==◌, ℕ, flat_map, ◌+◌, ◌<◌, Bool, true, false, cond, List, [], ◌∷◌, ◌++◌, map, drop, get_or, length, refl, sym, ap, append_assoc, nat_eq}
+use Rattle.std.proofs.Common.{◌≡◌, ◌∙◌, ◌||◌, ◌==◌, ℕ, flat_map, ◌+◌, ◌<◌, ◌≤◌, Bool, true, false, cond, List, [], ◌∷◌, ◌++◌, map, drop, get_or, length, refl, sym, ap, append_assoc, append-nil, nat_eq}
+use Rattle.std.proofs.lemmas.List.{drop_all}
 use Rattle.std.specs.Str.{bytes_eq}
 use Rattle.std.proofs.lemmas.Cmp.{nat_eq_equiv}
 use Rattle.c_rules.specs.Units.{is_name_among}
@@ -74,3 +75,7 @@ names_turn g f whole has new other list i x is below so_far h =
     ∙ ap (λ b. has || b) (sym (among_append other (f (g x)) (flat_map f (map g (drop (i + 1) list)))))
     ∙ ap (λ l. has || is_name_among other (flat_map f (map g l))) (sym (first_left list i x is below))
     ∙ so_far
+
+-- nothing is left
+pub list_end : {A B C : Type 0} (g : A → B) (f : B → List C) (whole made : List C) (list : List A) (i : ℕ) → length list ≤ i → made ++ flat_map f (map g (drop i list)) ≡ whole → made ≡ whole
+list_end g f whole made list i all so_far = sym (append-nil made) ∙ ap (λ l. made ++ flat_map f (map g l)) (sym (drop_all i list all)) ∙ so_far

@@ -1,11 +1,11 @@
 -- The tokens of several files in one list, and the fault that keeps files from being joined (docs/LANGUAGE.md, "Programs of several
 -- files").
-use Rattle.std.specs.Prelude.{◌≡◌, ◌⊎◌, ℕ, suc, nat_lt, if◌then◌else◌, List, [], ◌∷◌, ◌++◌, length, sum_by, map, option_map, Option, Some, None}
+use Rattle.std.specs.Prelude.{◌≡◌, ◌⊎◌, ℕ, suc, nat_lt, if◌then◌else◌, List, [], ◌∷◌, ◌++◌, length, sum_by, flat_map, map, option_map, Option, Some, None}
 use Rattle.std.specs.Option.{option_or}
 use Rattle.c_tree.specs.c_syntax.declared.token.Token.{Token}
 use Rattle.c_tree.specs.c_syntax.declared.token.TokenKind.{TokenKind}
-use Rattle.c_tree.specs.c_syntax.Lexes.{most_tokens}
-use Rattle.c_lexer.specs.TokenText.{placed_from}
+use Rattle.c_tree.specs.c_syntax.Lexes.{Lexes, most_tokens}
+use Rattle.c_lexer.specs.TokenText.{spelled, tokens_text, placed_from}
 use Rattle.c_rules.specs.Units.{is_name_among}
 use Rattle.c_renaming.specs.Renaming.{Renaming}
 use Rattle.c_renaming.specs.RenamedTokens.{renamed_kind}
@@ -34,6 +34,10 @@ file_kinds choice number file = map (λ t. renamed_kind (renaming_of choice numb
 abbrev pub joined_kinds : Choice → ℕ → List FileTree → List TokenKind
 joined_kinds choice number [] = []
 joined_kinds choice number (file ∷ files) = file_kinds choice number file ++ joined_kinds choice (suc number) files
+
+-- what is written of tokens of these kinds
+abbrev pub kinds_text : List TokenKind → List ℕ
+kinds_text kinds = flat_map spelled kinds
 
 -- tokens of the files, joined, with the places and lengths that their text gives them
 pub record Joined (choice : Choice) (files : List FileTree) (tokens : List Token) : Type 0 where
@@ -75,6 +79,13 @@ pub record Joins (sources : List (List ℕ)) (tokens : List Token) : Type 0 wher
   pub are : AreFiles sources files
   pub no_fault : joint_fault files ≡ None
   pub joined : Joined static_name files tokens
+
+-- a text is that of the tokens of the files, joined, and it has these tokens
+pub record IsJoined (sources : List (List ℕ)) (text : List ℕ) : Type 0 where
+  pub tokens : List Token
+  pub joins : Joins sources tokens
+  pub is : text ≡ tokens_text tokens
+  pub lexes : Lexes text tokens
 
 -- both are one fault, but for the place that one of syntax names
 abbrev pub IsSameFault : UnitFault → UnitFault → Type 0

@@ -4,6 +4,7 @@ pub use Rattle.c_rules.specs as c_rules
 pub use Rattle.c_lexer.specs as c_lexer
 pub use Rattle.c_parser.specs as c_parser
 pub mod Externs
+pub mod Prefixes
 pub mod Views
 pub mod Statics
 pub mod Files

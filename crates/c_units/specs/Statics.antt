@@ -1,9 +1,10 @@
 -- The statics of a file, the names that they get, and names that are reserved for these (docs/LANGUAGE.md, "Programs of several
 -- files"; ISO 9899:1990 6.1.2.2).
-use Rattle.std.specs.Prelude.{ℕ, ◌==◌, ◌&&◌, ◌||◌, nat_lt, nat_le, Bool, false, if◌then◌else◌, List, [], ◌∷◌, ◌++◌, length, map, flat_map, reverse, codes, decimal, Option, Some, None}
+use Rattle.std.specs.Prelude.{◌≡◌, ◌≢◌, ℕ, ◌==◌, ◌&&◌, ◌||◌, nat_lt, nat_le, Bool, false, if◌then◌else◌, List, [], ◌∷◌, ◌++◌, length, map, flat_map, reverse, codes, decimal, Option, Some, None, All}
 use Rattle.c_tree.specs.c_syntax.declared.token.Token.{Token}
 use Rattle.c_tree.specs.c_syntax.declared.token.TokenKind.{TokenKind}
 use Rattle.c_tree.specs.c_syntax.declared.token.TokenKind.TheVariants.{Name}
+use Rattle.c_tree.specs.c_syntax.Spelling.{IsDigit}
 use Rattle.c_tree.specs.c_syntax.SyntaxTree.{ExternalTree, Defined, Declared, UnitTree}
 use Rattle.c_tree.specs.c_syntax.declared.syntax.SpecWord.TheVariants.{Static}
 use Rattle.c_rules.specs.Typing.{has}
@@ -40,6 +41,14 @@ ends_in_number name = from_end (reverse name)
     from_end : List ℕ → Bool
     from_end [] = false
     from_end (code ∷ front) = is_digit code && marked_before_digits front
+
+-- the same, apart from a reading: the name is `__` and digits, at least one, behind something
+pub record EndsInNumber (name : List ℕ) : Type 0 where
+  pub front : List ℕ
+  pub digits : List ℕ
+  pub is : name ≡ front ++ (codes "__" ++ digits)
+  pub some : digits ≢ []
+  pub each : All IsDigit digits
 
 -- a name that none may have in a file with these statics: it ends in `__` and digits, or is that of a static and is too long to get
 -- another

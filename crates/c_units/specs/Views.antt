@@ -11,10 +11,12 @@ use Rattle.c_tree.specs.c_syntax.SyntaxView.{unit_of}
 use Rattle.c_units.specs.declared.externs.Position.TheVariants as position
 use Rattle.c_units.specs.declared.externs.Position as code
 use Rattle.c_units.specs.declared.files.SourceFile as files
+use Rattle.c_units.specs.declared.tables.NamedFile as tables
 use Rattle.c_units.specs.declared.objects.DeclaredObject as objects
 use Rattle.c_units.specs.declared.names.Names as names
 use Rattle.c_units.specs.Externs.{Position, AtStart, Within, Braced}
 use Rattle.c_units.specs.Files.{FileTree}
+use Rattle.c_units.specs.Statics.{statics_of}
 use Rattle.c_units.specs.Objects.{ObjectTree, is_place_among}
 
 abbrev pub position_of : code.Position → Position
@@ -45,3 +47,10 @@ AreNames s list = (name : List ℕ) → has_name s name ≡ is_name_among name l
 -- and another one the places of a list
 abbrev pub ArePlaces : IndexSet ℕ (BuildHasherDefault FoldHasher) → List ℕ → Type 0
 ArePlaces s list = (place : ℕ) → contains nat_eq s place ≡ is_place_among place list
+
+abbrev pub tree_of : tables.NamedFile → FileTree
+tree_of f = file_of f.file.now
+
+-- the table of a file has the names of its statics
+abbrev pub HasTable : tables.NamedFile → Type 0
+HasTable f = AreNames f.statics (statics_of (tree_of f).unit)

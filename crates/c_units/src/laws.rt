@@ -1,10 +1,14 @@
 //! The laws of statics. The calls do nothing: their clauses say what was proved.
-ghost use Rattle.std.specs.Prelude.{◌≡◌, ◌↔◌, ◌≤◌, ◌+◌, ℕ, List, ◌∷◌, ◌++◌, length, Contains, None};
+ghost use Rattle.std.specs.Prelude.{◌≡◌, ◌↔◌, ◌≤◌, ◌+◌, ℕ, List, ◌∷◌, ◌++◌, length, Contains, None, true};
 ghost use Rattle.c_tree.specs.c_syntax.declared.token.Token.{Token};
 ghost use Rattle.c_tree.specs.c_syntax.declared.token.TokenKind.TheVariants.{Name};
 ghost use Rattle.c_tree.specs.TypedTree.{ProgramTree};
 ghost use Rattle.c_renaming.specs.RenamedTokens.{renamed_kind};
-ghost use Rattle.c_units.specs.Statics.{static_name};
+ghost use Rattle.c_tree.specs.c_syntax.Source.{IsSource};
+ghost use Rattle.c_tree.specs.c_syntax.SyntaxTree.{UnitTree};
+ghost use Rattle.c_units.specs.Externs.{AtStart, without_externs, extern_places};
+ghost use Rattle.c_units.specs.Prefixes.{Prefixed};
+ghost use Rattle.c_units.specs.Statics.{static_name, ends_in_number, EndsInNumber};
 ghost use Rattle.c_units.specs.Files.{FileTree, AreFiles};
 ghost use Rattle.c_units.specs.declared.fault.UnitFault.{UnitFault};
 ghost use Rattle.c_units.specs.Joining.{Choice, renaming_of, Joined, reserved_fault, Joins, HasFault, IsSameFault};
@@ -38,6 +42,21 @@ pub fn answers_are_typed_with_any_names()
         → length sources ≤ 16 → IsFresh choice joins.files → Joined choice joins.files others
         → ((program : ProgramTree) → HasProgram tokens program → HasRenamed joins.files static_name choice others program)
         × ((program : ProgramTree) → HasProgram others program → HasRenamed joins.files choice static_name tokens program) }
+{}
+
+/// The `extern`s that are dropped are those in front of an external, by the grammar, and no others.
+pub fn externs_are_dropped_before_externals()
+    // Externals, some with an `extern` in front, are left without these.
+    ensures dropped { (all left : List Token) (places : List ℕ) → Prefixed all left places
+        → (without_externs all ≡ left) × (extern_places AtStart all ≡ places) }
+    // Tokens of which a source is left are such externals.
+    ensures only_these { (all : List Token) (unit : UnitTree) → IsSource (without_externs all) unit
+        → Prefixed all (without_externs all) (extern_places AtStart all) }
+{}
+
+/// A name is reserved in every file where it is something, `__` and at least one digit.
+pub fn reserved_names_end_in_numbers()
+    ensures { (name : List ℕ) → (ends_in_number name ≡ true) ↔ EndsInNumber name }
 {}
 
 /// Files have at most one list of joined tokens, at most one fault but for the place that one of syntax names, and not

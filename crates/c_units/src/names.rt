@@ -32,6 +32,6 @@ impl<'a> Names<'a> {
     pub(crate) fn contains(&self, name: &str) -> bool
         ensures { result ≡ has_name self.now name.now }
     {
-        self.names.contains(name)
+        !self.names.is_empty() && self.names.contains(name)
     }
 }

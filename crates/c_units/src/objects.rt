@@ -1,17 +1,17 @@
 //! The objects that files declare.
-ghost use Rattle.std.specs.Prelude.{◌≡◌, ◌≢◌, ◌≤◌, ◌++◌, ◌∷◌, [], Some, None, List, ℕ, option_map, length, map, IfOk, OnOk, IfErr, nat_eq};
+ghost use Rattle.std.specs.Prelude.{◌≡◌, ◌≢◌, ◌||◌, ◌≤◌, ◌++◌, ◌∷◌, [], Some, None, List, ℕ, option_map, length, map, All, IfOk, OnOk, IfErr, nat_eq};
 ghost use Rattle.std.specs.HashSet.{contains};
 ghost use Rattle.c_tree.specs.c_syntax.SyntaxView.{unit_of, item_of, external_of};
 ghost use Rattle.c_units.specs.declared.fault.UnitFault.TheVariants as faults;
 ghost use Rattle.c_units.specs.Joining.{undefined_fault};
 ghost use Rattle.c_units.specs.Objects.{is_place_among, objects_of, objects_in, file_objects, all_objects, undefined_name};
 ghost use Rattle.c_units.specs.Objects as definitions;
-ghost use Rattle.c_units.specs.Views.{file_of, object_of, AreNames, ArePlaces};
+ghost use Rattle.c_units.specs.Views.{tree_of, object_of, AreNames, ArePlaces, HasTable, has_name};
 
 use crate::fault::UnitFault;
-use crate::files::SourceFile;
 use crate::names::Names;
-use crate::statics::{static_name, statics_of};
+use crate::statics::static_name;
+use crate::tables::NamedFile;
 use c_syntax::{External, Item, ItemKind};
 use indexmap::IndexSet;
 use std::alloc::Global;
@@ -32,7 +32,7 @@ pub(crate) struct DeclaredObject<'a> {
 #[derive(Drop)]
 pub(crate) struct Declaring<'a> {
     pub(crate) number: u8,
-    pub(crate) statics: Names<'a>,
+    pub(crate) statics: &'a Names<'a>,
     pub(crate) externs: IndexSet<u32>,
 }
 
@@ -49,7 +49,7 @@ fn places_of(alloc: Global, places: &[u32]) -> Result<IndexSet<u32>, NoMemory>
 
 // The name in the joined text of one that a file has.
 fn joined_name(alloc: Global, file: &Declaring<'_>, name: &str) -> Result<Text, NoMemory>
-    ensures { IfOk result (λ text. (list : List (List ℕ)) → AreNames file.now.statics list
+    ensures { IfOk result (λ text. (list : List (List ℕ)) → AreNames file.now.statics.now list
         → text ≡ definitions.joined_name file.now.number list name.now) }
 {
     if file.statics.contains(name) {
@@ -67,7 +67,7 @@ fn push_item<'a>(
     item: &'a Item,
     objects: &mut Vec<DeclaredObject<'a>>,
 ) -> Result<(), NoMemory>
-    ensures { OnOk result ((list : List (List ℕ)) → AreNames file.now.statics list
+    ensures { OnOk result ((list : List (List ℕ)) → AreNames file.now.statics.now list
         → map object_of objects.new.items ≡ map object_of objects.old.items ++ objects_of file.now.number list is_extern (item_of item.now ∷ [])) }
 {
     if let ItemKind::Function(_) = item.kind {
@@ -89,7 +89,7 @@ fn push_items<'a>(
     items: &'a [Item],
     objects: &mut Vec<DeclaredObject<'a>>,
 ) -> Result<(), NoMemory>
-    ensures { OnOk result ((list : List (List ℕ)) → AreNames file.now.statics list
+    ensures { OnOk result ((list : List (List ℕ)) → AreNames file.now.statics.now list
         → map object_of objects.new.items ≡ map object_of objects.old.items ++ objects_of file.now.number list is_extern (map item_of items.now)) }
 {
     for item in items {
@@ -104,7 +104,7 @@ fn push_external<'a>(
     external: &'a External,
     objects: &mut Vec<DeclaredObject<'a>>,
 ) -> Result<(), NoMemory>
-    ensures { OnOk result ((list : List (List ℕ)) (places : List ℕ) → AreNames file.now.statics list → ArePlaces file.now.externs places
+    ensures { OnOk result ((list : List (List ℕ)) (places : List ℕ) → AreNames file.now.statics.now list → ArePlaces file.now.externs places
         → map object_of objects.new.items ≡ map object_of objects.old.items ++ objects_in file.now.number list places (external_of external.now)) }
 {
     match external {
@@ -120,26 +120,31 @@ fn push_external<'a>(
 fn push_file<'a>(
     alloc: Global,
     number: u8,
-    file: &'a SourceFile,
+    named: &'a NamedFile<'a>,
     objects: &mut Vec<DeclaredObject<'a>>,
 ) -> Result<(), NoMemory>
-    ensures { OnOk result (map object_of objects.new.items ≡ map object_of objects.old.items ++ file_objects number (file_of file.now)) }
+    requires table { HasTable named.now }
+    ensures { OnOk result (map object_of objects.new.items ≡ map object_of objects.old.items ++ file_objects number (tree_of named.now)) }
 {
     let declaring = Declaring {
         number,
-        statics: statics_of(alloc, &file.unit)?,
-        externs: places_of(alloc, &file.externs)?,
+        statics: &named.statics,
+        externs: places_of(alloc, &named.file.externs)?,
     };
-    for external in file.unit.externals() {
+    for external in named.file.unit.externals() {
         push_external(alloc, &declaring, external, objects)?;
     }
     Ok(())
 }
 
 // The objects that the files declare.
-fn declared(alloc: Global, files: &[SourceFile]) -> Result<Vec<DeclaredObject<'_>>, NoMemory>
+fn declared<'a>(
+    alloc: Global,
+    files: &'a [NamedFile<'a>],
+) -> Result<Vec<DeclaredObject<'a>>, NoMemory>
     requires few { length files.now ≤ 16 }
-    ensures { IfOk result (λ objects. map object_of objects.items ≡ all_objects 1 (map file_of files.now)) }
+    requires tables { All HasTable files.now }
+    ensures { IfOk result (λ objects. map object_of objects.items ≡ all_objects 1 (map tree_of files.now)) }
 {
     let mut objects = Vec::new(alloc);
     let mut number = 0;
@@ -163,13 +168,20 @@ fn defined<'a>(alloc: Global, objects: &'a [DeclaredObject<'_>]) -> Result<Names
     Ok(names)
 }
 
+// Whether an object is defined, where these are the names of those that are.
+fn is_defined(names: &Names<'_>, object: &DeclaredObject<'_>) -> bool
+    ensures { result ≡ (object.now.defines || has_name names.now object.now.joined) }
+{
+    object.defines || names.contains(object.joined.as_str())
+}
+
 // The name of the first that isn't among them.
 fn first_undefined<'a>(names: &Names<'_>, objects: &[DeclaredObject<'a>]) -> Option<&'a str>
     ensures { AreNames names.now (definitions.defined_names (map object_of objects.now))
         → option_map (λ name. name.now) result ≡ undefined_name (map object_of objects.now) }
 {
     for object in objects {
-        if !names.contains(object.joined.as_str()) {
+        if !is_defined(names, object) {
             return Some(object.name);
         }
     }
@@ -177,10 +189,11 @@ fn first_undefined<'a>(names: &Names<'_>, objects: &[DeclaredObject<'a>]) -> Opt
 }
 
 /// Refuses the first object of the files, at most sixteen, that is declared and not defined.
-pub(crate) fn check_defined(alloc: Global, files: &[SourceFile]) -> Result<(), UnitFault>
+pub(crate) fn check_defined(alloc: Global, files: &[NamedFile<'_>]) -> Result<(), UnitFault>
     requires few { length files.now ≤ 16 }
-    ensures none { OnOk result (undefined_fault (map file_of files.now) ≡ None) }
-    ensures fault { IfErr result (λ fault. fault ≢ faults.NoMemory → undefined_fault (map file_of files.now) ≡ Some fault) }
+    requires tables { All HasTable files.now }
+    ensures none { OnOk result (undefined_fault (map tree_of files.now) ≡ None) }
+    ensures fault { IfErr result (λ fault. fault ≢ faults.NoMemory → undefined_fault (map tree_of files.now) ≡ Some fault) }
 {
     let objects = declared(alloc, files)?;
     let names = defined(alloc, &objects)?;

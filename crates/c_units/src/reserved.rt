@@ -1,18 +1,13 @@
 //! Names that are reserved for statics.
-ghost use Rattle.std.specs.Prelude.{◌≡◌, ◌≢◌, ◌≤◌, reverse, Some, None, List, ℕ, length, map, IfOk, OnOk, IfErr};
-ghost use Rattle.c_tree.specs.c_syntax.SyntaxView.{unit_of};
-ghost use Rattle.c_units.specs.declared.fault.UnitFault.TheVariants as faults;
+ghost use Rattle.std.specs.Prelude.{◌≡◌, ◌≤◌, reverse, Some, None, List, ℕ, length, map, All, OnOk, IfErr};
 ghost use Rattle.c_units.specs.Statics as names;
 ghost use Rattle.c_units.specs.Joining.{reserved_fault};
-ghost use Rattle.c_units.specs.Views.{file_of, AreNames};
+ghost use Rattle.c_units.specs.Views.{tree_of, AreNames, HasTable};
 
 use crate::fault::UnitFault;
-use crate::files::SourceFile;
 use crate::names::Names;
-use crate::statics::statics_of;
+use crate::tables::NamedFile;
 use c_syntax::{Token, TokenKind};
-use std::alloc::Global;
-use word_base::NoMemory;
 
 /// The most characters of a static's name.
 const LONGEST_STATIC: usize = 120;
@@ -61,7 +56,7 @@ fn is_reserved(statics: &Names<'_>, kind: &TokenKind) -> bool
     match kind {
         TokenKind::Name(name) => {
             let name = name.as_str();
-            ends_in_number(name) || (statics.contains(name) && name.len() > LONGEST_STATIC)
+            ends_in_number(name) || (name.len() > LONGEST_STATIC && statics.contains(name))
         }
         TokenKind::Word(_) | TokenKind::Number { .. } | TokenKind::Char(_) | TokenKind::Mark(_) => {
             false
@@ -82,23 +77,24 @@ fn reserved_at(statics: &Names<'_>, tokens: &[Token]) -> Option<u32>
 }
 
 // The place of the first reserved name of a file, in bytes.
-fn reserved_in(alloc: Global, file: &SourceFile) -> Result<Option<u32>, NoMemory>
-    ensures { IfOk result (λ at. at ≡ names.reserved_at (names.statics_of (unit_of file.now.unit)) file.now.tokens.items) }
+fn reserved_in(named: &NamedFile<'_>) -> Option<u32>
+    requires table { HasTable named.now }
+    ensures { result ≡ names.reserved_at (names.statics_of (tree_of named.now).unit) (tree_of named.now).tokens }
 {
-    let statics = statics_of(alloc, &file.unit)?;
-    Ok(reserved_at(&statics, &file.tokens))
+    reserved_at(&named.statics, &named.file.tokens)
 }
 
 /// Refuses the first reserved name of the files, at most sixteen.
-pub(crate) fn check_reserved(alloc: Global, files: &[SourceFile]) -> Result<(), UnitFault>
+pub(crate) fn check_reserved(files: &[NamedFile<'_>]) -> Result<(), UnitFault>
     requires few { length files.now ≤ 16 }
-    ensures none { OnOk result (reserved_fault 1 (map file_of files.now) ≡ None) }
-    ensures fault { IfErr result (λ fault. fault ≢ faults.NoMemory → reserved_fault 1 (map file_of files.now) ≡ Some fault) }
+    requires tables { All HasTable files.now }
+    ensures none { OnOk result (reserved_fault 1 (map tree_of files.now) ≡ None) }
+    ensures fault { IfErr result (λ fault. reserved_fault 1 (map tree_of files.now) ≡ Some fault) }
 {
     let mut file = 0;
     for source in files {
         file += 1;
-        if let Some(at) = reserved_in(alloc, source)? {
+        if let Some(at) = reserved_in(source) {
             return Err(UnitFault::Reserved { file, at });
         }
     }

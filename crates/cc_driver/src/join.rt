@@ -14,7 +14,7 @@ ghost use Rattle.cc_driver.specs.Commands.{files_of, stores_under};
 ghost use Rattle.cc_driver.specs.Work.{WorkDone, WorkRefused};
 
 use cc_answers::Answer;
-use cc_files::{Refusal, SOURCE_LIMIT, fetch_all, join_units, store, token_text};
+use cc_files::{Refusal, SOURCE_LIMIT, fetch_all, join_text, store};
 use cc_shelf::Shelf;
 use cc_words::Join;
 use std::alloc::Global;
@@ -46,8 +46,7 @@ fn joined<'a>(alloc: Global, asked: &Join<'a>, sources: &[Vec<u8>]) -> Result<Ve
     // A refusal has its cause, unless memory is wanting.
     ensures refused { IfErr result (λ r. why_of r ≢ OfMemory → JoinRefused (contents_of sources.now) (why_of r)) }
 {
-    let tokens = join_units(alloc, sources)?;
-    Ok(token_text(alloc, &tokens)?)
+    Ok(join_text(alloc, sources)?)
 }
 
 /// Joins sources, and stores the text of what comes of them.

@@ -6,7 +6,7 @@ mod output;
 mod shelf;
 
 pub use cc_text::{
-    Built, Options, Refusal, compile, expand, expansions_have_spellings, join_units, runs_tell,
+    Built, Options, Refusal, compile, expand, expansions_have_spellings, join_text, runs_tell,
     token_text, typed_program,
 };
 pub use output::{put, refuse, say};

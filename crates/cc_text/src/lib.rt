@@ -8,7 +8,7 @@ mod source_text;
 mod unit_text;
 
 pub use c_macro::{expand, expansions_have_spellings};
-pub use c_units::{join_units, token_text};
+pub use c_units::{join_text, token_text};
 pub use cc_compile::{Built, Options, compile, runs_tell, typed_program};
 pub use macro_text::macro_line;
 pub use refusal::{FileFault, Refusal};

@@ -6,6 +6,6 @@ use Rattle.c_units.proofs.objects.push_items.Given as goal
 
 -- the objects so far and those that are left
 abbrev pub invariant-loop-item : goal.invariant-loop-item
-invariant-loop-item l = (list : List (List ℕ)) → AreNames l.file.statics list
+invariant-loop-item l = (list : List (List ℕ)) → AreNames l.file.statics.now list
     → map object_of l.objects.items ++ objects_of l.file.number list l.is_extern (map item_of (drop l.item-index l.items))
     ≡ map object_of l.fn.objects.items ++ objects_of l.file.number list l.is_extern (map item_of l.items)

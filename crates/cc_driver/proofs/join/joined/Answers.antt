@@ -5,10 +5,10 @@ use Rattle.cc_driver.specs.Join.{JoinRefused}
 use Rattle.cc_driver.proofs.WorkLemmas.{unit_fault_of, passed_for}
 use Rattle.cc_driver.proofs.join.joined.Goals as goal
 
-pub returns-in_err-tokens-clause-refused : goal.returns-in_err-tokens-clause-refused
-returns-in_err-tokens-clause-refused c =
-    let fault = c.in_err-tokens.field-0.0 in
+pub returns-in_err-join_text-clause-refused : goal.returns-in_err-join_text-clause-refused
+returns-in_err-join_text-clause-refused c =
+    let fault = c.in_err-join_text.field-0.0 in
     passed_for c.from_residual.result (of_unit_fault fault) (λ why. why ≢ OfMemory → JoinRefused (contents_of c.args.sources.now) why) c.from_residual.ensures.1
     (λ some.
     let is = unit_fault_of fault (of_unit_fault fault) refl some in
-    record { fault = fault; some = is.0; has = c.in_err-tokens.ensures.fault is.0; is = is.1 })
+    record { fault = fault; some = is.0; has = c.in_err-join_text.ensures.fault is.0; is = is.1 })
