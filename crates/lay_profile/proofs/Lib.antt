@@ -1,3 +1,4 @@
+pub use Rattle.cc_compile.proofs as cc_compile
 mod Examples
 pub mod Counts
 pub mod Together
@@ -6,3 +7,8 @@ mod SameLists
 mod ShapeLemmas
 pub mod Differ
 mod FaultLemmas
+pub mod Short
+pub mod BuiltShapes
+mod Recordeds
+mod Profiling
+mod Kept

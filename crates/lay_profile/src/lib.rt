@@ -6,6 +6,8 @@ mod block_places;
 mod fault;
 mod laws;
 mod options;
+mod profile;
+mod recorded;
 mod recording;
 mod shapes;
 #[cfg(test)]
@@ -13,8 +15,16 @@ mod tests;
 mod weighing;
 
 pub use block_places::places;
+pub use cc_compile::{
+    BuildFault, Built, CertFault, Certificate, LinkFault, Options, PlanFault, compile, runs_tell,
+    typed_program,
+};
 pub use fault::ProfileFault;
-pub use laws::{places_differ, weighed_costs_the_run, weighed_is_a_sequence};
+pub use laws::{
+    built_images_have_the_shape, places_differ, shapes_are_short, weighed_costs_the_run,
+    weighed_is_a_sequence,
+};
 pub use options::ProfileOptions;
+pub use profile::{Profiled, profile_build};
 pub use recording::entries;
 pub use weighing::weigh;
