@@ -11,11 +11,11 @@ mod phases;
 mod translation;
 mod translation_fault;
 
-pub use c25_link::LinkFault;
-pub use cc_fault_laws::one_source_fault;
 pub use c_lexer::LexFault;
 pub use c_parser::ParseFault;
 pub use c_rules::TypeFault;
+pub use c25_link::LinkFault;
+pub use cc_fault_laws::one_source_fault;
 pub use fault::BuildFault;
 pub use frame_layouts::{CertFault, Certificate, Job, Options, PlanFault};
 pub use front::typed_program;

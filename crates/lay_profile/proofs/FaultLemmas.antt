@@ -1,5 +1,5 @@
 -- Faults that are passed on.
-use Rattle.std.proofs.Common.{◌≡◌, ◌≢◌, Ok, Err, refl, sym, subst}
+use Rattle.std.proofs.Common.{◌≡◌, Ok, Err, sym, subst}
 use Rattle.std.specs.Prelude.{Result, IfErr, IsErrAnd}
 
 -- what a fault that is passed on says

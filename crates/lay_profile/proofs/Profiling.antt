@@ -1,7 +1,7 @@
 -- A program that is laid out for a recorded run.
 use Rattle.std.proofs.Common.{◌≡◌, ◌≢◌, ◌≤◌, Ok, Err, ◌+◌, ◌∙◌, ℕ, zero, suc, List, [], ◌∷◌, length, map, refl, sym, ap, subst, arith}
 use Rattle.std.specs.Prelude.{All, slice_get, Some, Result, IfOk}
-use Rattle.std.proofs.lemmas.Option.{same_Some, slice_get_within}
+use Rattle.std.proofs.lemmas.Option.{same_Some}
 use Rattle.acc_code.specs.AccTree.{FunctionItems}
 use Rattle.lay_model.specs.Sequences.{Sequence}
 use Rattle.lay_cost.specs.Cost.{arranged_cost, cost_of, Least}
@@ -16,7 +16,6 @@ use Rattle.cc_compile.specs.frame_layouts.declared.options.Options.{Options}
 use Rattle.cc_compile.specs.frame_layouts.lay_par.Jobs.{Job}
 use Rattle.cc_compile.specs.image_proof.acc_select_proof.SourceSequences.{at_step}
 use Rattle.cc_compile.specs.lay_cert.Frames.{Frame}
-use Rattle.cc_compile.specs.lay_cert.declared.certificate.Claim.TheVariants.{Optimal}
 use Rattle.lay_profile.specs.declared.fault.ProfileFault.TheVariants as faults
 use Rattle.lay_profile.specs.declared.options.ProfileOptions.{ProfileOptions}
 use Rattle.lay_profile.specs.declared.shapes.Shaped.{Shaped}
@@ -24,7 +23,6 @@ use Rattle.lay_profile.specs.PartFaults.{of_translation_fault}
 use Rattle.lay_profile.specs.Shapes.{HasShapeOf, accesses_of}
 use Rattle.lay_profile.specs.Profiles.{HasLayoutFault, HasRunCost, HaveRunCosts, searched}
 use Rattle.lay_profile.specs.Recordings.{Recording, counts_of, search_options, weighed_from}
-use Rattle.lay_profile.specs.ShapedFunctions.{AreShaped}
 use Rattle.lay_profile.specs.Weighing.{arranged_run_cost, run_cost, weighed}
 
 -- the accesses of shaped functions are those of the functions

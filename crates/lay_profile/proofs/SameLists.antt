@@ -1,5 +1,5 @@
 -- Two lists whose elements are compared one by one, by what functions give of them.
-use Rattle.std.proofs.Common.{◌≡◌, ◌≢◌, ◌<◌, ◌≤◌, ◌+◌, ◌++◌, ◌∙◌, ℕ, zero, suc, Bool, true, false, not, List, [], ◌∷◌, length, map, take, refl, sym, ap, ap₂, arith}
+use Rattle.std.proofs.Common.{◌≡◌, ◌≢◌, ◌<◌, ◌≤◌, ◌+◌, ◌∙◌, ℕ, zero, suc, Bool, true, false, not, List, [], ◌∷◌, length, map, take, refl, sym, ap, ap₂, arith}
 use Rattle.std.specs.Prelude.{slice_index_or}
 use Rattle.std.specs.Str.{bytes_eq}
 use Rattle.std.proofs.lemmas.Bool.{true≢false}
@@ -22,6 +22,7 @@ same_further f g (x ∷ xs) (y ∷ ys) (suc n) d e first second before here =
   where
     heads : {C : Type 0} (a b : C) (l m : List C) → (a ∷ l) ≡ (b ∷ m) → a ≡ b
     heads a b l m same = cc
+
     tails : {C : Type 0} (a b : C) (l m : List C) → (a ∷ l) ≡ (b ∷ m) → l ≡ m
     tails a b l m same = cc
 

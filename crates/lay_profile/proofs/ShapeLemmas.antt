@@ -51,6 +51,7 @@ one_more_shaped image fs all k f s long are is = record {
     longer [] (t ∷ all) f s same = absurd (omega (arith, same))
     longer (g ∷ fs) [] f s same = absurd (omega (arith, same))
     longer (g ∷ fs) (t ∷ all) f s same = ap suc (longer fs all f s (omega (arith, same)))
+
     by : (j : ℕ) (g : FunctionItems) (t : Shaped) → At fs f j g → At all s j t → IsShaped image j g t
     by j g t (Before h) (Before i) = are.each j g t h i
     by j g t (Before h) (Last e i) = absurd (omega (arith, slice_get_within fs j g h, e, are.count))

@@ -18,7 +18,7 @@ use Rattle.cc_compile.specs.lay_cert.Frames.{Frame}
 use Rattle.cc_compile.specs.lay_cert.declared.certificate.Claim.TheVariants.{Optimal}
 use Rattle.cc_compile.specs.SourceFaults.{HasNoProgramFor, HasTree, IsTypedWith}
 use Rattle.lay_profile.specs.declared.fault.ProfileFault.{ProfileFault}
-use Rattle.lay_profile.specs.declared.fault.ProfileFault.TheVariants.{Lex, Parse, Types, OtherSource, Plan, Link, NoMemory}
+use Rattle.lay_profile.specs.declared.fault.ProfileFault.TheVariants.{Lex, Parse, Types, OtherSource, Plan, Link}
 use Rattle.lay_profile.specs.declared.options.ProfileOptions.{ProfileOptions}
 use Rattle.lay_profile.specs.Recordings.{Recording, counts_of, entered_from, recorded_jobs, search_options, weighed_from}
 use Rattle.lay_profile.specs.Shapes.{HasShapeOf, accesses_of}

@@ -1,8 +1,10 @@
 //! Why no layouts are found for a recorded run.
 ghost use Rattle.std.specs.Prelude.{◌≡◌};
 
-use cc_compile::{BuildFault, LexFault, LinkFault, ParseFault, PlanFault, TranslationFault, TypeFault};
 use c25_walk::WalkFault;
+use cc_compile::{
+    BuildFault, LexFault, LinkFault, ParseFault, PlanFault, TranslationFault, TypeFault,
+};
 use std::alloc::{AllocError, AllocFailed};
 use word_base::NoMemory;
 
@@ -94,7 +96,8 @@ impl From<WalkFault> for ProfileFault {
     fn from(fault: WalkFault) -> Self {
         match fault {
             WalkFault::NoMemory => ProfileFault::NoMemory,
-            WalkFault::BadWord { .. } | WalkFault::UnknownAddress { .. } => ProfileFault::OtherSource,
+            WalkFault::BadWord { .. } | WalkFault::UnknownAddress { .. } =>
+                ProfileFault::OtherSource,
         }
     }
 }

@@ -9,9 +9,9 @@ ghost use Rattle.lay_profile.specs.ShapedFunctions.{IsShaped, AreShaped};
 ghost use Rattle.lay_profile.specs.declared.fault.ProfileFault.TheVariants as faults;
 
 use crate::fault::ProfileFault;
+use acc_code::{AccFunction, sequence};
 use c25_isa::Image;
 use c25_walk::{AddressBlock, walk};
-use acc_code::{AccFunction, sequence};
 use lay_model::Sequence;
 use std::alloc::Global;
 

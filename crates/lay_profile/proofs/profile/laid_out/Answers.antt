@@ -1,10 +1,8 @@
-use Rattle.std.proofs.Common.{◌≡◌, ◌≢◌, ◌∙◌, ◌≤◌, List, map, ap, sym, subst}
-use Rattle.std.specs.Prelude.{All}
-use Rattle.acc_code.specs.AccTree.{FunctionItems}
+use Rattle.std.proofs.Common.{◌≢◌, ◌∙◌, List, map, ap, sym, subst}
 use Rattle.acc_code.specs.AccView.{function_items_of, functions_of}
 use Rattle.acc_code.specs.declared.program.AccFunction.{AccFunction}
 use Rattle.lay_model.specs.Sequences.{Sequence}
-use Rattle.cc_compile.specs.Images.{EndsWithin, FrameJobs, HasFrames, HasImage, IsDirect, KeepsRuns, TreeKeepsRuns, jobs_at}
+use Rattle.cc_compile.specs.Images.{EndsWithin, FrameJobs, HasFrames, HasImage, IsDirect, KeepsRuns, TreeKeepsRuns}
 use Rattle.cc_compile.specs.TranslationFaults.{Says}
 use Rattle.cc_compile.specs.frame_layouts.Frames.{job_with}
 use Rattle.cc_compile.specs.frame_layouts.lay_par.Jobs.{Job}
@@ -87,8 +85,8 @@ returns-clause-laid_out g c = λ t is.
     let kept = searched_jobs o r t _ c.in_ok-recorded.recorded.jobs.items (seqs ∙ alike) c.in_ok-recorded.ensures.jobs in
     let made = c.in_ok-translated.translated in
     let sequences =
-        c.in_ok-translated.ensures.sequences ∙ ap (map (λ (job : Job). job.sequence)) (ap (λ (x : FrameJobs). x.jobs) kept)
-        ∙ sequences_of (search_options o) _ in
+    c.in_ok-translated.ensures.sequences ∙ ap (map (λ (job : Job). job.sequence)) (ap (λ (x : FrameJobs). x.jobs) kept)
+    ∙ sequences_of (search_options o) _ in
     record {
       shape = shapes_kept c.args.first.now _ _ t names (ap (map (at_step 1)) c.functions.ensures.same ∙ alike) c.in_ok-shaped.ensures.shapes;
       has = subst (λ (x : FrameJobs). HasImage x t made.image) kept (c.in_ok-translated.ensures.image t is);

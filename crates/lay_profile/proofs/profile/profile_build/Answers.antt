@@ -1,4 +1,4 @@
-use Rattle.std.proofs.Common.{◌≡◌, arith}
+use Rattle.std.proofs.Common.{arith}
 use Rattle.cc_compile.specs.c_tree.ProgramView.{program_of}
 use Rattle.lay_profile.specs.Profiles.{searched}
 use Rattle.lay_profile.specs.Recordings.{recording_of}

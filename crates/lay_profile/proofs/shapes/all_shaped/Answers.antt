@@ -1,4 +1,4 @@
-use Rattle.std.proofs.Common.{◌≡◌, ◌≢◌, ◌∙◌, ◌++◌, ◌∷◌, [], map, take, length, ap, ap₂, sym, subst, arith}
+use Rattle.std.proofs.Common.{◌≢◌, ◌++◌, ◌∷◌, [], map, take, sym, subst, arith}
 use Rattle.acc_code.specs.AccSequence.{IsInFrame}
 use Rattle.acc_code.specs.AccView.{function_items_of}
 use Rattle.acc_code.specs.declared.program.AccFunction.{AccFunction}
@@ -38,7 +38,7 @@ loop-index-preserved c =
     let x = c.index-functions-index.result in
     let within = c.loop-index-test.true in
     let made = one_more_shaped c.args.image.now (map function_items_of (take i fs)) c.loop-index.all.items i (function_items_of x) c.in_ok-function_shape.field-0
-        (taken_count function_items_of fs i (omega (arith, within))) c.loop-index.invariant c.in_ok-function_shape.ensures.shaped in
+    (taken_count function_items_of fs i (omega (arith, within))) c.loop-index.invariant c.in_ok-function_shape.ensures.shaped in
     subst (λ gs. AreShaped c.args.image.now gs c.push.new.self.items) (taken_further function_items_of fs i x within c.index-functions-index.is)
     (subst (λ all. AreShaped c.args.image.now (map function_items_of (take i fs) ++ function_items_of x ∷ []) all) (sym c.in_ok-push.ensures.items) made)
 

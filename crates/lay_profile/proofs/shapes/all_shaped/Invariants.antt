@@ -1,5 +1,5 @@
 -- The image has the shape of the functions before this one.
-use Rattle.std.proofs.Common.{◌≡◌, map, take}
+use Rattle.std.proofs.Common.{map, take}
 use Rattle.acc_code.specs.AccView.{function_items_of}
 use Rattle.lay_profile.specs.ShapedFunctions.{AreShaped}
 use Rattle.lay_profile.proofs.shapes.all_shaped.Given as goal

@@ -8,11 +8,12 @@ use Rattle.lay_profile.proofs.shapes.has_names.Goals.{then-ranges-functions-via-
 use Rattle.lay_profile.proofs.shapes.has_names.Goals as goal
 
 pub returns-then-ne-clause-same : goal.returns-then-ne-clause-same
-returns-then-ne-clause-same c =
-    ((λ t. absurd (false≢true t)),
-    (λ same. absurd (texts_differ (λ (f : FunctionRange). f.name) (λ (f : AccFunction). f.name) c.functions-ranges.result.now c.args.image.now.functions c.args.functions.now c.loop-index.index
-    c.index-ranges-index.result c.index-functions-index.result c.as_str.result.now c.as_str-in-loop-index.result.now
-    c.functions-ranges.ensures c.if-ranges-functions.false c.loop-index-test.true c.as_str.ensures (c.as_str-in-loop-index.ensures ∙ ap (λ (f : AccFunction). f.name) c.index-functions-index.is) c.if-ne.ensures same)))
+returns-then-ne-clause-same c = (
+  (λ t. absurd (false≢true t)),
+  (λ same. absurd (texts_differ (λ (f : FunctionRange). f.name) (λ (f : AccFunction). f.name) c.functions-ranges.result.now c.args.image.now.functions c.args.functions.now c.loop-index.index
+      c.index-ranges-index.result c.index-functions-index.result c.as_str.result.now c.as_str-in-loop-index.result.now
+      c.functions-ranges.ensures c.if-ranges-functions.false c.loop-index-test.true c.as_str.ensures (c.as_str-in-loop-index.ensures ∙ ap (λ (f : AccFunction). f.name) c.index-functions-index.is) c.if-ne.ensures same)),
+)
 
 pub loop-index-preserved : goal.loop-index-preserved
 loop-index-preserved c =
@@ -21,12 +22,13 @@ loop-index-preserved c =
     c.functions-ranges.ensures c.if-ranges-functions.false c.loop-index-test.true c.as_str.ensures (c.as_str-in-loop-index.ensures ∙ ap (λ (f : AccFunction). f.name) c.index-functions-index.is) c.if-ne.ensures c.loop-index.invariant
 
 pub returns-then-ranges-functions-clause-same : goal.returns-then-ranges-functions-clause-same
-returns-then-ranges-functions-clause-same c =
-    ((λ t. absurd (false≢true t)),
-    (λ same.
-    let long = lengths_same (λ (f : FunctionRange). f.name) (λ (f : AccFunction). f.name) c.args.image.now.functions c.args.functions.now same in
-    elim c.then-ranges-functions.branch [
-      | then-ranges-functions-via-then-ranges-functions w ↦ absurd (w.if-ranges-functions.true (ap length c.functions-ranges.ensures ∙ long))
-      | then-ranges-functions-via-else-ranges-functions+then-functions-words w ↦
-        absurd (omega (arith, w.if-functions-words.true, ap length w.words.ensures.words, long, range_count 0 _ c.args.image.now.functions w.words.ensures.image.ranges (omega arith)))
-    ]))
+returns-then-ranges-functions-clause-same c = (
+  (λ t. absurd (false≢true t)),
+  (λ same.
+      let long = lengths_same (λ (f : FunctionRange). f.name) (λ (f : AccFunction). f.name) c.args.image.now.functions c.args.functions.now same in
+      elim c.then-ranges-functions.branch [
+        | then-ranges-functions-via-then-ranges-functions w ↦ absurd (w.if-ranges-functions.true (ap length c.functions-ranges.ensures ∙ long))
+        | then-ranges-functions-via-else-ranges-functions+then-functions-words w ↦
+            absurd (omega (arith, w.if-functions-words.true, ap length w.words.ensures.words, long, range_count 0 _ c.args.image.now.functions w.words.ensures.image.ranges (omega arith)))
+      ]),
+)
