@@ -5,7 +5,8 @@ use Rattle.std.specs.Prelude.{option_map, option_and_then}
 use Rattle.std.specs.Str.{bytes_eq}
 use Rattle.clap.specs.Words.{App, Row, Text, first_of, matches_of}
 pub use Rattle.cc_options.specs.Options.{is_number_to, is_taken, names_of, names_under, number_of, number_to, texts_of}
-use Rattle.cc_words.specs.Commands.{asm_app, build_app, check_app, debug_app, dis_app, exec_app, gen_app, join_app, layout_app, means_app, pbuild_app, pre_app, run_app}
+use Rattle.cc_words.specs.Commands.{asm_app, build_app, check_app, debug_app, dis_app, exec_app, gen_app}
+use Rattle.cc_words.specs.Commands.{join_app, layout_app, means_app, pbuild_app, pre_app, run_app}
 use Rattle.cc_words.specs.Commands.{greatest_budget, greatest_program, greatest_registers, greatest_step}
 use Rattle.cc_words.specs.Commands.{greatest_steps, greatest_turns, most_sources}
 use Rattle.cc_words.specs.declared.name.Name.{Name}

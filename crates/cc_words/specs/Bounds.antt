@@ -1,7 +1,8 @@
 -- The ranges of the numbers that are asked for.
 use Rattle.std.specs.Prelude.{◌≤◌, ⊤, List, length, IfSome}
 use Rattle.clap.specs.Words.{Text}
-use Rattle.cc_words.specs.Asked.{Asked, ToBuild, ToRun, ToEvaluate, ToExecute, ToLayOut, ToCheck, ToAssemble, ToList, ToGenerate, ToDebug, ToExpand, ToJoin, ToPbuild}
+use Rattle.cc_words.specs.Asked.{Asked, ToBuild, ToRun, ToEvaluate, ToExecute, ToLayOut, ToCheck, ToAssemble}
+use Rattle.cc_words.specs.Asked.{ToList, ToGenerate, ToDebug, ToExpand, ToJoin, ToPbuild}
 use Rattle.cc_words.specs.Asked.{asked}
 use Rattle.cc_words.specs.Commands.{greatest_budget, greatest_program, greatest_registers, greatest_step}
 use Rattle.cc_words.specs.Commands.{greatest_steps, greatest_turns, most_sources}

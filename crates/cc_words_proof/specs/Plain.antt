@@ -2,7 +2,8 @@
 use Rattle.std.specs.Prelude.{◌≡◌, ◌≢◌, ◌≤◌, ◌<◌, ◌++◌, ℕ, true, false, List, [], ◌∷◌, length, All, codes}
 use Rattle.std.specs.Str.Parse.{digits_value, without_leading_plus}
 use Rattle.clap.specs.Words.{Text}
-use Rattle.cc_words.specs.Asked.{Asked, ToBuild, ToRun, ToEvaluate, ToExecute, ToLayOut, ToCheck, ToAssemble, ToList, ToGenerate, ToDebug, ToExpand, ToJoin, ToPbuild}
+use Rattle.cc_words.specs.Asked.{Asked, ToBuild, ToRun, ToEvaluate, ToExecute, ToLayOut, ToCheck, ToAssemble}
+use Rattle.cc_words.specs.Asked.{ToList, ToGenerate, ToDebug, ToExpand, ToJoin, ToPbuild}
 use Rattle.cc_words.specs.Asked.{Asks, AsksNothing, is_number_to, is_plain_word}
 use Rattle.cc_words.specs.Commands.{greatest_budget, greatest_program, greatest_registers, greatest_step}
 use Rattle.cc_words.specs.Commands.{greatest_steps, greatest_turns, most_sources}
@@ -310,8 +311,8 @@ PbuildsNoOtherNames = AsksNothing (codes "pbuild" ∷ [])
     × OnFourPlain (λ a b c e. (word : Text) (rest : List Text) → is_plain_word word ≡ true
     → AsksNothing (codes "pbuild" ∷ a ∷ b ∷ c ∷ e ∷ word ∷ rest))
 
--- the words ask for layouts of a recorded run for the registers, within the budget and for the steps that three texts write, and for
--- nothing where one of them writes no number of its range
+-- the words ask for layouts for a recorded run, over the registers, within the budget and for the steps
+-- that three texts write, and for nothing where one of them writes no number of its range
 abbrev pub PbuildsFor : Text → Text → Text → Text → Text → Text → Text → List Text → Type 0
 PbuildsFor a b c e registers budget steps words = WithNumber greatest_registers (λ n.
     WithNumber greatest_budget (λ m. AsksFor greatest_steps (ToPbuild a b c e n m) steps words)

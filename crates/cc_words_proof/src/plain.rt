@@ -17,8 +17,8 @@ ghost use Rattle.cc_words_proof.specs.Plain.{LaysOutWithBudgetAttached, LaysOutW
 /// ask for a run of other than 1 to 100,000,000 steps, for an evaluation of other than 1 to 1,000,000
 /// turns, for a layout or an image for other than 1 to 4 registers or within a budget of other than 1 to
 /// 1,000,000 nodes, for an image at a step of other than 1 to 8, for a program from a number other than
-/// 1 to 200, to join other than 1 to 16 sources, or for layouts for a recorded run with numbers other than those of `layout` and
-/// `run`. It does nothing: its clauses are what callers cite.
+/// 1 to 200, to join other than 1 to 16 sources, or for layouts for a recorded run with numbers other than
+/// `layout` and `run` have. It does nothing: its clauses are what callers cite.
 pub fn plain_words()
     ensures build { BuildsTwoNames }
     ensures build_other { BuildsNoOtherNames }
