@@ -19,8 +19,8 @@ pub struct ReportRow {
     pub optimal: bool,
 }
 
-// A number and the word behind it.
-fn push_count(text: &mut Vec<u8>, number: u64, word: &[u8]) -> Result<(), NoMemory>
+/// A number and the word behind it.
+pub(crate) fn push_count(text: &mut Vec<u8>, number: u64, word: &[u8]) -> Result<(), NoMemory>
     ensures { OnOk result (text.new.items ≡ text.old.items ++ report.count number word.now) }
 {
     push_decimal(text, number)?;
@@ -28,8 +28,8 @@ fn push_count(text: &mut Vec<u8>, number: u64, word: &[u8]) -> Result<(), NoMemo
     Ok(())
 }
 
-// What is told of a layout.
-fn claim(optimal: bool) -> &'static [u8]
+/// What is told of a layout.
+pub(crate) fn claim(optimal: bool) -> &'static [u8]
     ensures { result.now ≡ report.claim optimal }
 {
     if optimal { b"optimal" } else { b"best" }

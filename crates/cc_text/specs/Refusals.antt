@@ -19,7 +19,7 @@ use Rattle.c_macro.specs.declared.fault.MacroFault.TheVariants as macro_faults
 use Rattle.c_units.specs.declared.fault.UnitFault.{UnitFault}
 use Rattle.c_units.specs.declared.fault.UnitFault.TheVariants as unit_faults
 use Rattle.cc_text.specs.declared.refusal.FileFault.{FileFault}
-use Rattle.cc_text.specs.declared.refusal.FileFault.TheVariants.{Read, TooLong, Image, Ports, Sequence, Certificate, Assembly, Script}
+use Rattle.cc_text.specs.declared.refusal.FileFault.TheVariants.{Read, TooLong, Image, Ports, Sequence, Certificate, Assembly, Script, OtherSource}
 use Rattle.cc_text.specs.declared.refusal.Refusal.{Refusal}
 use Rattle.cc_text.specs.declared.refusal.Refusal.TheVariants as refusal
 
@@ -129,6 +129,7 @@ file_line name (Sequence why) = sequence_line name why
 file_line name (Certificate why) = certificate_line name why
 file_line name (Assembly why) = assembly_line name why
 file_line name (Script why) = script_line name why
+file_line name OtherSource = codes "file refused: " ++ (name ++ codes " other source\n")
 
 -- 3 for a file that can't be read, and else 9
 abbrev pub file_status : FileFault → ℕ
@@ -140,6 +141,7 @@ file_status (Sequence why) = 9
 file_status (Certificate why) = 9
 file_status (Assembly why) = 9
 file_status (Script why) = 9
+file_status OtherSource = 9
 
 abbrev pub refusal_status : Why → ℕ
 refusal_status (OfFile name why) = file_status why

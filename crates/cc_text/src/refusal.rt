@@ -30,6 +30,8 @@ pub enum FileFault {
     Assembly(AsmFault),
     /// It is no script.
     Script(ScriptFault),
+    /// It is the image of another source.
+    OtherSource,
 }
 
 impl FileFault {
@@ -44,7 +46,8 @@ impl FileFault {
             | FileFault::Sequence(_)
             | FileFault::Certificate(_)
             | FileFault::Assembly(_)
-            | FileFault::Script(_) => 9,
+            | FileFault::Script(_)
+            | FileFault::OtherSource => 9,
         }
     }
 }

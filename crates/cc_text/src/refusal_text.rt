@@ -126,5 +126,6 @@ pub fn file_line(alloc: Global, name: &str, fault: FileFault) -> Result<String, 
         FileFault::Certificate(why) => certificate_line(alloc, name, why),
         FileFault::Assembly(why) => assembly_line(alloc, name, why),
         FileFault::Script(why) => script_line(alloc, name, why),
+        FileFault::OtherSource => Ok(format!(in alloc; "file refused: {name} other source\n")?),
     }
 }
