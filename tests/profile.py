@@ -1,16 +1,14 @@
 #!/usr/bin/env python3
-"""What `pbuild` has to answer, by a second reading of docs/: the machine, the walk over words, costs and the search, as docs/MACHINE.md,
-docs/LAYOUT.md and docs/FORMATS.md say them. Nothing here is taken from the compiler. Bounds are computed from scratch at each node.
+"""What `pbuild` has to answer, by a second reading of docs/: the machine, the walk over words, costs and the search, as
+docs/MACHINE.md, docs/LAYOUT.md and docs/FORMATS.md say them. Nothing here is taken from the compiler.
 
-    profile.py run IMG PORTS STEPS                      what `run` puts
-    profile.py counts IMG PORTS STEPS                   per function its name and how often each of its blocks was entered
-    profile.py lines IMG0 CERT PORTS STEPS REGISTERS BUDGET        the lines that `pbuild` puts
-    profile.py frames IMG0 CERT PORTS STEPS REGISTERS BUDGET       the text that it stores under IMG.prf
+    profile.py run IMG PORTS STEPS
+        puts what `run` puts.
     profile.py judge IMG0 CERT PORTS STEPS REGISTERS BUDGET IMG LINES
-                                                        whether IMG, IMG.prf and what it put, in the file LINES, are right
-    profile.py bare CERT                                an image of which `check` finds each frame of CERT true, but for its log
-
-CERT is the certificate that `build` stored beside IMG0. The sequences are taken from it, with the blocks in the order of the walk.
+        says what is wrong with IMG, with the text of IMG.prf and with what `pbuild` put, which is in the file LINES.
+        CERT is the certificate that `build` stored beside IMG0; the sequences of the functions are taken from it.
+    profile.py bare CERT
+        puts an image of which `check` finds each frame of CERT true where its log fits.
 """
 
 import sys
@@ -250,7 +248,7 @@ class Machine:
     def add(self, value):
         self.acc = (self.acc + value) & 0xFFFFFFFF
 
-    # Each row has its number, the address of its operand and the address behind it. It answers where to go on, or None for behind it.
+    # Each row is given its number, the address of its operand and the one behind it, and answers where to go on, or None.
 
     def LAC(self, s, at, _): self.acc = self.ext(self.data[at]) << s & 0xFFFFFFFF
     def LACT(self, _s, at, _): self.acc = self.ext(self.data[at]) << (self.t & 15) & 0xFFFFFFFF
@@ -335,7 +333,7 @@ class Machine:
 
 
 def record(image, inputs, steps):
-    """A run of at most so many steps: its outputs, the line of its end, and at how many of its states before a step PC was where."""
+    """A run of at most so many steps: its outputs, the line of its end, and for each address how many steps began there."""
     machine, entries = Machine(image, inputs), {}
     try:
         for _ in range(steps):
@@ -363,8 +361,8 @@ def instructions(image, function):
 
 
 def walk(image, function):
-    """The stretches that have an access through AR2 to AR5, each with the address of the first such instruction, and how many address
-    instructions there are."""
+    """The stretches that have an access through AR2 to AR5, each with the address of the first such instruction, and how
+    many address instructions there are."""
     stretches, count = [], 0
     code = list(instructions(image, function))
     targets = {image.words[at + 1] for at, instr in code if instr.row in JUMPS.values() and instr.row != "CALL"}
@@ -667,28 +665,18 @@ def bare(frames):
 def main():
     command, *words = sys.argv[1:]
     if command == "bare":
-        sys.stdout.write(bare(read_certificate(words[0])))
+        print(bare(read_certificate(words[0])), end="")
         return 0
     image = read_image(words[0])
-    if command in ("run", "counts"):
-        outs, last, entries = record(image, read_ports(words[1]), int(words[2]))
-        if command == "run":
-            print("\n".join([*outs, last]))
-        else:
-            for function in image.functions:
-                print(function.name, *(entries.get(stretch.place, 0) for stretch in walk(image, function)[0]))
+    if command == "run":
+        outs, last, _ = record(image, read_ports(words[1]), int(words[2]))
+        print("\n".join([*outs, last]))
         return 0
     frames = read_certificate(words[1])
     wanted = list(weighted(image, frames, words[2], *map(int, words[3:6])))
-    if command == "lines":
-        sys.stdout.write("".join(line(*pair) for pair in wanted))
-    elif command == "frames":
-        sys.stdout.write(certificate_text([frame for frame, _ in wanted]))
-    else:
-        faults = list(judge(image, frames, wanted, *words[6:8]))
-        print("\n".join(faults), end="")
-        return 1 if faults else 0
-    return 0
+    faults = list(judge(image, frames, wanted, *words[6:8]))
+    print("\n".join(faults), end="")
+    return 1 if faults else 0
 
 
 if __name__ == "__main__":

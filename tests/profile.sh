@@ -128,6 +128,18 @@ for row in 'none 2' 'four 3' 'words 5'; do
     wants 0 "$(cat wanted)" run o ${row% *}
 done
 
+# Blocks that aren't entered are left out, and their scalars are laid out all the same.
+echo 'int main(void){int a; int b; a = __in(0); if (a) b = a; else b = 3; return b;}' > parts.c
+builds 'main: 2 scalars, 1 registers, 6 accesses, 4 address instructions, optimal' parts.c parts.img
+echo '0 0' > zero
+profiles 'main: 2 scalars, 1 registers, 3 entries, 3 weighted, optimal' parts.c parts.img zero o
+frames o 'frame main' 'registers 1' 'step 1' 'scalars 2' 'block 1 0 0' 'block 1 1' 'block 1 1' 'list 0310 0 1' 'cost 3' 'claim optimal' \
+    'marks 1' c endframe
+profiles 'main: 2 scalars, 1 registers, 3 entries, 3 weighted, optimal' parts.c parts.img four o
+frames o 'frame main' 'registers 1' 'step 1' 'scalars 2' 'block 1 0 0' 'block 1 0 1' 'block 1 1' 'list 0310 0 1' 'cost 3' 'claim optimal' \
+    'marks 3' bcc endframe
+for ports in four zero; do wants 0 "returned 000$([ $ports = four ] && echo 4 || echo 3)" run o $ports; done
+
 # Functions that are never entered, and the frames of those that call them.
 echo 'int f(int a){int b; b = a; return b;} int main(void){if (__in(0)) f(1); return 0;}' > calls.c
 printf '%s\n' 'f: 2 scalars, 1 registers, 3 accesses, 1 address instructions, optimal' \
@@ -135,7 +147,6 @@ printf '%s\n' 'f: 2 scalars, 1 registers, 3 accesses, 1 address instructions, op
 builds "$(cat report)" calls.c calls.img
 main='main: 0 scalars, 1 registers, 0 entries, 0 weighted, optimal'
 main_frame=('frame main' 'registers 1' 'step 1' 'scalars 0' "${empty[@]}")
-echo '0 0' > zero
 for ports in none zero; do
     profiles "f: 2 scalars, 1 registers, 0 entries, 0 weighted, optimal"$'\n'"$main" calls.c calls.img $ports o
     frames o 'frame f' 'registers 1' 'step 1' 'scalars 2' 'list 0311 0 1' "${empty[@]}" "${main_frame[@]}"
@@ -188,20 +199,21 @@ alike 0002 "${f/return b/return a} $main"
 alike 0008 "$f ${main/2/7}"
 alike 0003 "int g(void); int k[9] = {1}; $f ${main/x;/x; int n[3];}"
 
-# Images by hand, of a source with one block of one access.
+# Images by hand, of a source with one block of one access, and of one where it has two.
 echo 'int main(void){int a; a = 5; return 0;}' > one.c
+echo 'int main(void){int a; a = 5; a = 6; return 0;}' > two.c
 # named FIRST LAST WORD..: an image with the range of main.
 named() { image "${@:3}"; echo "func main $1 $2"; echo end; }
-# entries COUNT FIRST LAST WORD..: so often the block of main is entered. OPTIONS and PORTS are those of the call.
-options=() ports=none
+# entries COUNT FIRST LAST WORD..: so often the block of main is entered. The options, the ports and the source are those of the call.
+options=() ports=none source=one.c accesses=0
 entries() {
     local line="main: 1 scalars, 1 registers, $1 entries, $1 weighted, optimal"
     named "${@:2}" > hand.img
-    profiles "$line" one.c hand.img $ports o "${options[@]}"
+    profiles "$line" $source hand.img $ports o "${options[@]}"
     if [ "$1" -eq 0 ]; then
         frames o 'frame main' 'registers 1' 'step 1' 'scalars 1' 'list 0310 0' "${empty[@]}"
     else
-        frames o 'frame main' 'registers 1' 'step 1' 'scalars 1' "block $1 0" 'list 0310 0' "cost $1" 'claim optimal' 'marks 1' c endframe
+        frames o 'frame main' 'registers 1' 'step 1' 'scalars 1' "block $1 $accesses" 'list 0310 0' "cost $1" 'claim optimal' 'marks 1' c endframe
     fi
     wants 0 'returned 0000' run o none
 }
@@ -216,11 +228,21 @@ entries 0 0002 0006 c806 8000 d200 0400 558a 60a0 ce1f
 entries 0 0002 0006 ff80 0006 d200 0400 558a 60a0 ce1f
 # A jump from outside of the range to the access makes no cut. It traps there, since nothing has loaded the register.
 entries 1 0003 0007 c806 ff80 0006 d200 0400 558a 6080 ce1f
+# The data that a run begins with is 0, so a jump on that is taken.
+entries 1 0005 0009 c806 2010 f680 0005 ce1f d200 0400 558a 6080 ce1f
+# A block is entered where its first access is done, no matter what happens behind it, and not where something happens in front of it.
+entries 0 0000 0005 d200 0400 558a 2000 60a0 ce1f
+source=two.c accesses='0 0'
+entries 1 0000 0006 d200 0400 558a 60a0 2000 6080 ce1f
+entries 0 0002 0007 ff80 0006 d200 0400 558a 60a0 6080 ce1f
+source=one.c accesses=0
 # The step that traps or ends is one of the states, where it is that of the access.
 entries 1 0000 0004 d200 0100 558a 2080 ce1f
 entries 1 0000 0004 d200 0400 558a 8380 ce1f
 echo '3 7' > three.words
-ports=three.words entries 1 0000 0004 d200 0400 558a 8380 ce1f
+ports=three.words
+entries 1 0000 0004 d200 0400 558a 8380 ce1f
+ports=none
 # A loop of four steps, in which the access is the third.
 for row in '1 0' '2 0' '3 1' '4 1' '6 1' '7 2' '8 2' '1000 250' '1000000 250000' '100000000 25000000'; do
     options=(--steps ${row% *})
@@ -287,9 +309,10 @@ echo >> long.img
 { cat longest.ports; echo; } > long.ports
 [ "$(wc -c < longest.ports) $(wc -c < long.ports)" = '16777216 16777217' ] || fail 'the ports have another length'
 rm -f o o.prf
+left=$(ls -A)
 while IFS=';' read -r status line words; do
     wants "$status" "$line" pbuild $words
-    [ ! -e o ] && [ ! -e o.prf ] && [ ! -e o.crt ] || { fail "'pbuild $words' stored something"; rm -f o o.prf o.crt; }
+    [ "$(ls -A)" = "$left" ] || { fail "'pbuild $words' stored something"; left=$(ls -A); }
 done <<'ROWS'
 2;words refused;
 2;words refused;absent
@@ -424,10 +447,10 @@ rm -f o o.prf o.crt
 
 # Each number of steps up to the end of a run, with the outputs of which nothing is put.
 for ((steps = 1; steps < 90; steps++)); do
-    wants 0 "$(second lines turns.img turns.img.crt none $steps 1 200000)" pbuild turns.c turns.img none o --steps $steps
+    judged turns.c turns.img none $steps 1 200000 o
     wants 0 'returned 0003' run o none
+    [ $steps -ne 40 ] || ! grep -q ' 0 entries\| 12 entries' lines || fail 'forty steps enter none or all'
 done
-second lines turns.img turns.img.crt none 40 1 200000 | grep -q ' 0 entries\| 12 entries' && fail 'forty steps enter none or all'
 
 # IMG0 may be built with any options, or for another recorded run: where the run ends its blocks are entered as often.
 for options in '-r 2' '-r 4' '--step 2' '--step 8 -r 3' '--budget 1'; do
@@ -492,6 +515,15 @@ modem=$top/examples/files/modem
 profiled modem.c "$modem"/modem.{in,out}
 filter=$top/examples/profile/filter
 profiled "$filter".{c,in,out}
+# By the table of accesses in docs/TRANSLATION.md, and how often each loop is gone through for 28 samples.
+{ printf '%s\n' 'C25 CERTIFICATE 2' 'frame main' 'registers 1' 'step 1' 'scalars 7' 'block 1 0 2' 'block 17 2' 'block 16 2' 'block 8 2' 'block 8 2' \
+    'block 16 4 2 4 0 4 0' 'block 16 2 2' 'block 1 1 2' 'block 17 2' 'block 16 2 0' 'block 16 4 2 4 1 4 1' 'block 16 2 2' 'block 1 2' 'block 9 1' \
+    'block 8 2 1 1' 'block 8 2 2' 'block 1 3' 'block 29 3 5 5 0 2' 'block 476 2' 'block 448 0 5 2 6 3 6 5 0 3 3' 'block 448 2 2' 'block 28 0 3 3' \
+    'list 0332 1 4 2 5 0 3 6' 'cost 2632' 'claim optimal' 'marks 545'; } > wanted
+sed '/^marks/q' keep.prf | cmp -s - wanted || fail "the frame of the example is: $(sed '/^marks/q' keep.prf)"
+builds 'main: 7 scalars, 1 registers, 56 accesses, 32 address instructions, optimal' "$filter.c" x
+profiles 'main: 7 scalars, 1 registers, 1604 entries, 2632 weighted, optimal' "$filter.c" x "$filter.in" o
+profiles 'main: 7 scalars, 2 registers, 1604 entries, 2151 weighted, optimal' "$filter.c" x "$filter.in" o -r 2
 wants 0 "$(cat "$filter.out")" means "$filter.c" "$filter.in"
 wants 0 "$(cat "$filter.out")" exec "$filter.c" "$filter.in"
 [ "$examples" -ge 15 ] || fail "there are $examples examples"
@@ -506,8 +538,8 @@ within() {
 }
 bash "$top/tests/many_functions.sh" 200 > many.c
 "$program" build many.c many.img > report
-second lines many.img many.img.crt none 1000000 1 200000 > wanted.lines
-within 1000 profiles "$(cat wanted.lines)" many.c many.img none o
+judged many.c many.img none 1000000 1 200000 o
+within 1000 profiles "$(cat lines)" many.c many.img none o
 judged many.c many.img none 1000000 2 1000 o
 wants 0 "$(bash "$top/tests/many_functions.sh" 200 lines)" run o none
 awk 'BEGIN { printf "int main(void){int x; x = 1; "; for (i = 0; i < 16000; i++) printf "x=x+x+1;"; print "return x;}" }' > much.c
@@ -530,8 +562,26 @@ long 'main: 3 scalars, 1 registers, 13504003 entries, 13504003 weighted, optimal
 [ "$(cat got)" = 'returned aa20' ] || fail "a long run gave: $(cat got)"
 frames o 'frame main' 'registers 1' 'step 1' 'scalars 3' 'block 1 2 0' 'block 1001 0' 'block 1000 1' 'block 4501000 1' 'block 4500000 2 2' \
     'block 4500000 1 1' 'block 1000 0 0' 'block 1 2' 'list 0310 0 2 1' 'cost 13504003' 'claim optimal' 'marks 6' bcbccc endframe
+# What an image isn't run for is refused at once.
+"$program" build first.c first.img > report
+named 0000 0005 d200 0400 558a 6080 ff80 0000 > hand.img
+within 1000 refused 1 'source refused: bad constant at byte 22' lex.c hand.img none p --steps 100000000
+within 1000 refused 9 'file refused: hand.img other source' first.c hand.img none p --steps 100000000
 long 'main: 0 scalars, 1 registers, 0 entries, 0 weighted, optimal' 'int main(void){for (;;);}'
 [ "$(cat got)" = 'running after 100000000 steps' ] || fail "a loop gave: $(cat got)"
+
+# Costs that have more than 32 bits: of each 336 steps of the image 256 repeat the first of 76 accesses, so often is the block entered.
+{ printf 'int main(void){int s0'; for i in {1..19}; do printf ', s%d' $i; done; printf ';'; for i in {1..19} {1..19}; do printf 's0=1;s%d=1;' $i; done
+    echo 'return 0;}'; } > star.c
+named 0005 0057 d200 0400 558a ff80 0009 d200 0400 558a d001 cbff $(yes 0080 | head -n 76) ff80 0000 > star.img
+for row in '10000 7676' '100000000 76190476'; do
+    read -r steps count <<< "$row"
+    [ "$count" -eq $((steps / 336 * 256 + (steps % 336 > 260 ? 256 : steps % 336 > 4 ? steps % 336 - 4 : 0))) ] || fail "another count for $steps steps"
+    within 20000 profiles "main: 20 scalars, 1 registers, $count entries, $((68 * count)) weighted, best" star.c star.img none o --budget 20 --steps $steps
+    sed '/^list/,$d' o.prf | tail -n 1 | grep -qx "block $count $(for i in {1..19} {1..19}; do printf '%s' "0 $i "; done | sed 's/ $//')" || fail 'another block'
+    sed -n '/^list/,$p' o.prf | cmp -s - <(printf '%s\n' 'list 0310 1 0 2 3 4 5 6 7 8 9 10 11 12 13 14 15 16 17 18 19' "cost $((68 * count))" \
+        'claim best 0 1' 'marks 1' b endframe end) || fail "another layout: $(sed -n '/^list/,$p' o.prf)"
+done
 
 [ "$failed" -eq 0 ] && echo 'profile: all passed'
 exit "$failed"
