@@ -5,6 +5,7 @@
 script=profile
 . "$(dirname "${BASH_SOURCE[0]}")/common.sh"
 : > none
+command -v python3 > /dev/null || { fail 'python3 is not there'; exit 1; }
 
 second() { python3 "$top/tests/profile.py" "$@"; }
 # builds LINES SOURCE IMG OPTION..: a build puts these lines.
@@ -180,6 +181,12 @@ done
 unlike "$f ${main/return x/x = x + 1; return x}"
 unlike "$f ${main/return x/return 0}"
 unlike "$f ${main/x = f(2); return x/f(2); return 0}"
+# As many blocks, and as many accesses in all, but not in each block.
+echo "int f(int a){int b; b = a / 2; return b;} $main" > g.c
+echo "int f(int a){int b; if (1) b = a; return b;} $main" > h.c
+for source in g h; do "$program" build $source.c $source.img > report || fail "no build of $source.c"; done
+other g.c h.img
+other h.c g.img
 # What is done with the accesses doesn't matter, and neither do objects that aren't among them, nor functions without a body.
 # alike RETURNED SOURCE: the image of f.c does for this source as its own does.
 alike() {
@@ -219,7 +226,7 @@ entries() {
 }
 entries 1 0000 0004 d200 0400 558a 60a0 ce1f
 entries 1 0000 0004 d500 ffff 558d 6080 ce1f
-# Words outside of the range, and other functions' registers, don't matter; a run may end in front of the block, or never come to it.
+# Words outside of the range don't matter. A run may end or trap in front of the block, or never come to it.
 entries 1 0000 0004 d200 0400 558a 60a0 ce1f ce00 ffff
 entries 0 0001 0005 ce1f d200 0400 558a 60a0 ce1f
 entries 0 0001 0005 ce00 d200 0400 558a 60a0 ce1f
@@ -236,7 +243,7 @@ source=two.c accesses='0 0'
 entries 1 0000 0006 d200 0400 558a 60a0 2000 6080 ce1f
 entries 0 0002 0007 ff80 0006 d200 0400 558a 60a0 6080 ce1f
 source=one.c accesses=0
-# The step that traps or ends is one of the states, where it is that of the access.
+# An access that traps, or ends the run, counts too.
 entries 1 0000 0004 d200 0100 558a 2080 ce1f
 entries 1 0000 0004 d200 0400 558a 8380 ce1f
 echo '3 7' > three.words
@@ -250,7 +257,7 @@ for row in '1 0' '2 0' '3 1' '4 1' '6 1' '7 2' '8 2' '1000 250' '1000000 250000'
 done
 options=()
 entries 250000 0000 0005 d200 0400 558a 6080 ff80 0000
-# A repeat of four times, from a second word in front of the access: each time is a state.
+# A repeat of four times, by a jump into the second word in front of the access: each time counts.
 repeated=(0005 000b d200 0400 558a ff80 0009 d200 0400 558a d001 cb03 0080 ce1f)
 entries 4 "${repeated[@]}"
 for row in '4 0' '5 1' '6 2' '7 3' '8 4' '9 4'; do
@@ -562,6 +569,7 @@ long 'main: 3 scalars, 1 registers, 13504003 entries, 13504003 weighted, optimal
 [ "$(cat got)" = 'returned aa20' ] || fail "a long run gave: $(cat got)"
 frames o 'frame main' 'registers 1' 'step 1' 'scalars 3' 'block 1 2 0' 'block 1001 0' 'block 1000 1' 'block 4501000 1' 'block 4500000 2 2' \
     'block 4500000 1 1' 'block 1000 0 0' 'block 1 2' 'list 0310 0 2 1' 'cost 13504003' 'claim optimal' 'marks 6' bcbccc endframe
+wants 0 'returned aa20' run o none --steps 100000000
 # What an image isn't run for is refused at once.
 "$program" build first.c first.img > report
 named 0000 0005 d200 0400 558a 6080 ff80 0000 > hand.img
