@@ -20,7 +20,7 @@ pub use fault::BuildFault;
 pub use frame_layouts::{CertFault, Certificate, Job, Options, PlanFault};
 pub use front::typed_program;
 pub use image_laws::{code_is_bounded, one_image};
-pub use image_proof::runs_tell;
+pub use image_proof::{accesses_are_kept, runs_tell};
 pub use laws::full_code_is_large;
 pub use phases::{Built, compile};
 pub use size_proof::programs_weigh_by_nodes;

@@ -38,8 +38,27 @@ HaveRunCosts r sequences frames = (k : ℕ) (accesses : Sequence) (f : Frame) �
 abbrev pub searched : ProfileOptions → Recording → ProgramTree → FrameJobs
 searched o r t = recorded_jobs (search_options o) r t
 
--- the bytes have a tree, this a typed program whose shape the recorded image has, and that has the image and the frames, which are laid out for the
--- run. The words do what the program does
+-- a typed program, whose shape the recorded image has, has the image and the frames, which are laid out for the run. The words do what the program does
+pub record IsLaidOut (o : ProfileOptions) (r : Recording) (t : ProgramTree) (image : Contents) (frames : List Frame) (entered : List ℕ) : Type 0 where
+  pub shape : HasShapeOf r.image t
+  pub has : HasImage (searched o r t) t image
+  pub framed : HasFrames (searched o r t) t frames
+  -- each frame is laid out for the accesses of its function in the source, weighed by how often the run enters their blocks
+  pub sequences : map (λ (f : Frame). f.seq) frames ≡ weighed_from r 0 (accesses_of t)
+  pub costs : HaveRunCosts r (accesses_of t) frames
+  -- what its accumulator code and its word tree do is what the program does
+  pub keeps : ∥ KeepsRuns (searched o r t) t ∥₁
+  pub tree : ∥ TreeKeepsRuns (searched o r t) t ∥₁
+  -- and so is what the image does, wherever C defines what the program does; where the program ends, in time
+  pub agrees : ∥ Agrees (source_run t) image.words ∥₁
+  pub in_time : ∥ EndsWithin (searched o r t) t image ∥₁
+  -- the words of each function access what the source says, where its frame says
+  pub walked : ∥ AreWalkedAs image (accesses_of t) frames ∥₁
+  -- no direct operand of them names a word of its scalars
+  pub direct : ∥ IsDirect (searched o r t) t image ∥₁
+  pub is_entered : entered ≡ entered_from r 0 (accesses_of t)
+
+-- the bytes have a tree, and this a typed program that is laid out so
 pub record IsProfiled (o : ProfileOptions) (bytes : List ℕ) (r : Recording) (image : Contents) (frames : List Frame) (entered : List ℕ) : Type 0 where
   pub tokens : List Token
   pub source : UnitTree
@@ -47,32 +66,20 @@ pub record IsProfiled (o : ProfileOptions) (bytes : List ℕ) (r : Recording) (i
   pub lexes : Lexes bytes tokens
   pub is_source : IsSource tokens source
   pub typed : IsTyped source program
-  pub shape : HasShapeOf r.image program
-  pub has : HasImage (searched o r program) program image
+  pub laid_out : IsLaidOut o r program image frames entered
   -- of few words for its expressions, statements and declared items
   pub short : length image.words ≤ 1000 + 64 * unit_count source
-  pub framed : HasFrames (searched o r program) program frames
-  -- each frame is laid out for the accesses of its function in the source, weighed by how often the run enters their blocks
-  pub sequences : map (λ (f : Frame). f.seq) frames ≡ weighed_from r 0 (accesses_of program)
-  pub costs : HaveRunCosts r (accesses_of program) frames
-  -- what its accumulator code and its word tree do is what the program does
-  pub keeps : ∥ KeepsRuns (searched o r program) program ∥₁
-  pub tree : ∥ TreeKeepsRuns (searched o r program) program ∥₁
-  -- and so is what the image does, wherever C defines what the program does; where the program ends, in time
-  pub agrees : ∥ Agrees (source_run program) image.words ∥₁
-  pub in_time : ∥ EndsWithin (searched o r program) program image ∥₁
-  -- the words of each function access what the source says, where its frame says
-  pub walked : ∥ AreWalkedAs image (accesses_of program) frames ∥₁
-  -- no direct operand of them names a word of its scalars
-  pub direct : ∥ IsDirect (searched o r program) program image ∥₁
-  pub is_entered : entered ≡ entered_from r 0 (accesses_of program)
+
+-- what each fault says of a typed program
+abbrev pub HasLayoutFault : ProfileOptions → Recording → ProgramTree → ProfileFault → Type 0
+HasLayoutFault o r t OtherSource = ¬ HasShapeOf r.image t
+HasLayoutFault o r t (Plan why) = HasShapeOf r.image t × HasPlanFault t why
+HasLayoutFault o r t (Link why) = HasShapeOf r.image t × HasLinkFault (searched o r t) t why
+HasLayoutFault o r t why = ⊥
 
 -- what each fault says of the bytes of a source and of the recorded image. Want of memory is no fault of them.
 abbrev pub HasFault : ProfileOptions → List ℕ → Recording → ProfileFault → Type 0
 HasFault o bytes r (Lex why) = HasNoProgramFor (build.Lex why) bytes
 HasFault o bytes r (Parse why) = HasNoProgramFor (build.Parse why) bytes
 HasFault o bytes r (Types why) = HasNoProgramFor (build.Types why) bytes
-HasFault o bytes r OtherSource = HasTree bytes (IsTypedWith (λ program. ¬ HasShapeOf r.image program))
-HasFault o bytes r (Plan why) = HasTree bytes (IsTypedWith (λ program. HasShapeOf r.image program × HasPlanFault program why))
-HasFault o bytes r (Link why) = HasTree bytes (IsTypedWith (λ program. HasShapeOf r.image program × HasLinkFault (searched o r program) program why))
-HasFault o bytes r NoMemory = ⊥
+HasFault o bytes r why = HasTree bytes (IsTypedWith (λ program. HasLayoutFault o r program why))

@@ -1,6 +1,7 @@
 -- What a recorded run says of a program's functions, and what is searched for them (docs/LAYOUT.md, "Recorded runs").
 use Rattle.std.specs.Prelude.{ℕ, ◌≤◌, suc, List, [], ◌∷◌, map, sum, Option, Some, None}
-use Rattle.word_base.specs.Ports.{Input}
+use Rattle.word_base.specs.Ports.{Input, input_of}
+use Rattle.c25_sim.specs.Taken.{of_sixteen}
 use Rattle.c25_isa.specs.Image.{Contents}
 use Rattle.c25_walk.specs.Places.{places_of}
 use Rattle.lay_model.specs.Sequences.{Sequence}
@@ -53,3 +54,7 @@ pub record AreProfileOptions (o : ProfileOptions) : Type 0 where
 -- what a search of layouts is given of these; the step is 1
 abbrev pub search_options : ProfileOptions → Options
 search_options o = record { registers = o.registers; step = 1; budget = o.budget }
+
+-- the run of an image on port lines
+abbrev pub recording_of : Contents → List (ℕ × ℕ) → ℕ → Recording
+recording_of image lines steps = record { image = image; input = of_sixteen (input_of lines); steps = steps }

@@ -6,6 +6,8 @@ mod block_places;
 mod fault;
 mod laws;
 mod options;
+mod profile;
+mod recorded;
 mod recording;
 mod shapes;
 #[cfg(test)]
@@ -16,5 +18,6 @@ pub use block_places::places;
 pub use fault::ProfileFault;
 pub use laws::{places_differ, weighed_costs_the_run, weighed_is_a_sequence};
 pub use options::ProfileOptions;
+pub use profile::{Profiled, profile_build};
 pub use recording::entries;
 pub use weighing::weigh;
