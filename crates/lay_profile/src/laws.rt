@@ -7,6 +7,7 @@ ghost use Rattle.lay_cost.specs.Placements.{Placement, IsPlacement};
 ghost use Rattle.lay_cost.specs.Cost.{cost_of, arranged_cost};
 ghost use Rattle.lay_cost.specs.Parts.{StandOnce};
 ghost use Rattle.lay_profile.specs.Places.{ArePlaces};
+ghost use Rattle.lay_profile.specs.Shapes.{HasShape};
 ghost use Rattle.lay_profile.specs.Weighing.{weighed, accesses_in, run_cost, arranged_run_cost};
 
 /// A sequence weighed by such counts is a sequence.
@@ -28,4 +29,10 @@ pub fn weighed_costs_the_run()
 /// No program address is the place of two blocks, whether of one function or of two.
 pub fn places_differ()
     ensures { (image : Contents) (lists : List (List ℕ)) → IsImage image.words image.functions → ArePlaces image lists → StandOnce (concat lists) }
+{}
+
+/// A function of an image that has the shape of a sequence has at most 65,536 accesses, an access for each program word at most.
+pub fn shapes_are_short()
+    ensures { (image : Contents) (k : ℕ) (accesses : Sequence) → IsImage image.words image.functions → HasShape image k accesses
+        → accesses_in accesses.blocks ≤ 65536 }
 {}

@@ -14,8 +14,7 @@ mod weighing;
 
 pub use block_places::places;
 pub use fault::ProfileFault;
-pub use laws::{weighed_costs_the_run, weighed_is_a_sequence};
+pub use laws::{places_differ, shapes_are_short, weighed_costs_the_run, weighed_is_a_sequence};
 pub use options::ProfileOptions;
-pub use laws::{places_differ, weighed_costs_the_run, weighed_is_a_sequence};
 pub use recording::entries;
 pub use weighing::weigh;
