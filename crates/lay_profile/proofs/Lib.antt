@@ -6,3 +6,4 @@ mod SameLists
 mod ShapeLemmas
 pub mod Differ
 pub mod Short
+pub mod BuiltShapes
