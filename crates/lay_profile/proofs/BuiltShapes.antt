@@ -53,7 +53,8 @@ IsUnlisted p = p.listed ≡ false
 abbrev range_where : Bool → List ℕ → ℕ → ℕ → List FunctionRange
 range_where b name at size = if b then range_of name at size ∷ [] else []
 
-one_listed : (b : Bool) (name : List ℕ) (at size : ℕ) (rs : List FunctionRange) (ns : List (List ℕ)) → b ≡ true → map range_name rs ≡ ns → map range_name (range_where b name at size ++ rs) ≡ name ∷ ns
+one_listed : (b : Bool) (name : List ℕ) (at size : ℕ) (rs : List FunctionRange) (ns : List (List ℕ)) → b ≡ true
+    → map range_name rs ≡ ns → map range_name (range_where b name at size ++ rs) ≡ name ∷ ns
 one_listed true name at size rs ns is rest = ap (λ l. name ∷ l) rest
 one_listed false name at size rs ns is rest = absurd cc
 
@@ -64,9 +65,11 @@ one_unlisted false name at size rs is rest = rest
 none_listed : (at : ℕ) (ps : List Piece) → All IsUnlisted ps → listed_ranges at ps ≡ []
 none_listed at [] all = refl
 none_listed at (p ∷ ps) all =
-    one_unlisted p.listed p.name at (items_size p.items) (listed_ranges (at + items_size p.items) ps) (All-head IsUnlisted p ps all) (none_listed (at + items_size p.items) ps (All-tail IsUnlisted p ps all))
+    one_unlisted p.listed p.name at (items_size p.items) (listed_ranges (at + items_size p.items) ps) (All-head IsUnlisted p ps all)
+    (none_listed (at + items_size p.items) ps (All-tail IsUnlisted p ps all))
 
-ranges_named : (at : ℕ) (ps rest : List Piece) → All IsListed ps → ((n : ℕ) → listed_ranges n rest ≡ []) → map range_name (listed_ranges at (ps ++ rest)) ≡ map piece_name ps
+ranges_named : (at : ℕ) (ps rest : List Piece) → All IsListed ps → ((n : ℕ) → listed_ranges n rest ≡ [])
+    → map range_name (listed_ranges at (ps ++ rest)) ≡ map piece_name ps
 ranges_named at [] rest all none = ap (map range_name) (none at)
 ranges_named at (p ∷ ps) rest all none =
     one_listed p.listed p.name at (items_size p.items) (listed_ranges (at + items_size p.items) (ps ++ rest)) (map piece_name ps) (All-head IsListed p ps all)
@@ -74,19 +77,23 @@ ranges_named at (p ∷ ps) rest all none =
 
 no_helper : (pieces : List Piece) (n : ℕ) → listed_ranges n (called_helper_pieces pieces) ≡ []
 no_helper pieces n =
-    none_listed n (called_helper_pieces pieces) (All-filter (λ (x : Piece). pieces_call x.name pieces) IsUnlisted helper_pieces (All-map IsUnlisted routine_piece all_routines (λ k d within. refl)))
+    none_listed n (called_helper_pieces pieces)
+    (All-filter (λ (x : Piece). pieces_call x.name pieces) IsUnlisted helper_pieces (All-map IsUnlisted routine_piece all_routines (λ k d within. refl)))
 
 -- those of pieces are those of the program
-frames_count : (start : ℕ) (begin : ℕ → ℕ) (n : ℕ) (fs : List FunctionCode) (arrangements : List (List (List ℕ))) → length arrangements ≡ length fs → length (frames_from start begin n fs arrangements) ≡ length fs
+frames_count : (start : ℕ) (begin : ℕ → ℕ) (n : ℕ) (fs : List FunctionCode) (arrangements : List (List (List ℕ)))
+    → length arrangements ≡ length fs → length (frames_from start begin n fs arrangements) ≡ length fs
 frames_count start begin n [] arrangements count = refl
 frames_count start begin n (f ∷ fs) [] count = absurd (omega (arith, count))
 frames_count start begin n (f ∷ fs) (lists ∷ rest) count = ap suc (frames_count start begin (suc n) fs rest (omega (arith, count)))
 
-program_names : (fs : List FunctionTree) → map (λ (g : FunctionItems). g.name) (map selected_function (map lowered_function fs)) ≡ map (λ (f : FunctionTree). f.name) fs
+program_names : (fs : List FunctionTree)
+    → map (λ (g : FunctionItems). g.name) (map selected_function (map lowered_function fs)) ≡ map (λ (f : FunctionTree). f.name) fs
 program_names [] = refl
 program_names (f ∷ fs) = ap (λ ns. f.name ∷ ns) (program_names fs)
 
-image_names : (o : FrameJobs) (t : ProgramTree) (image : Contents) → length o.jobs ≡ length t.functions → HasImage o t image → map range_name image.functions ≡ names_of t
+image_names : (o : FrameJobs) (t : ProgramTree) (image : Contents) → length o.jobs ≡ length t.functions
+    → HasImage o t image → map range_name image.functions ≡ names_of t
 image_names o t image each h =
     let p = lowered_program t in
     let plan = h.plan in
@@ -95,9 +102,11 @@ image_names o t image each h =
     let functions : length p.functions ≡ length t.functions = length-map t.functions lowered_function in
     let lists : length (layouts o) ≡ length p.functions = length-map o.jobs layout_of ∙ each ∙ sym functions in
     let count : length (selected p) ≡ length p.functions = length-map p.functions selected_function in
-    let frames : length plan.frames ≡ length p.functions = ap (λ (x : DataPlan). length x.frames) h.planned.is ∙ frames_count (frames_start p) h.planned.begin 0 p.functions (layouts o) lists in
+    let frames : length plan.frames ≡ length p.functions =
+    ap (λ (x : DataPlan). length x.frames) h.planned.is ∙ frames_count (frames_start p) h.planned.begin 0 p.functions (layouts o) lists in
     ap (map range_name) h.linked.functions
-    ∙ ranges_named (0 + items_size (startup_piece plan.statics p.statics).items) (behind_startup p (selected p) plan (layouts o) o.step) (called_helper_pieces (own_pieces o p plan))
+    ∙ ranges_named (0 + items_size (startup_piece plan.statics p.statics).items) (behind_startup p (selected p) plan (layouts o) o.step)
+    (called_helper_pieces (own_pieces o p plan))
     (all_listed plan o.step parameters names p.functions (selected p) plan.frames (layouts o)) (no_helper (own_pieces o p plan))
     ∙ their_names plan o.step parameters names p.functions (selected p) plan.frames (layouts o) count frames lists
     ∙ program_names t.functions
@@ -123,7 +132,7 @@ each_shape : (step : ℕ) (t : ProgramTree) (image : Contents) (frames : List Fr
 each_shape step t image frames same walks k accesses at =
     let f = listed_at (source_sequence 1) t.functions k accesses at in
     let here : slice_get (map (source_sequence step) t.functions) k ≡ Some (source_sequence step f.0) =
-        slice_get-map (source_sequence step) t.functions k ∙ ap (option_map (source_sequence step)) f.1 in
+    slice_get-map (source_sequence step) t.functions k ∙ ap (option_map (source_sequence step)) f.1 in
     let x = listed_at (λ (x : Frame). x.seq) frames k (source_sequence step f.0) (ap (λ l. slice_get l k) same ∙ here) in
     walked_shape image k x.0 accesses (ap (λ (s : Sequence). s.blocks) x.2 ∙ ap (λ (s : Sequence). s.blocks) f.2) (walks k x.0 x.1)
 
@@ -139,7 +148,8 @@ module _ (image : Contents) (k : ℕ) (accesses : Sequence) where
   abbrev wanted : List ℕ
   wanted = map (λ (b : Block). length b.accesses) accesses.blocks
 
-  by_lengths : (blocks : List (List ℕ)) → walk_of image k ≡ Some (Blocks blocks) → (b : Bool) → bytes_eq (map length blocks) wanted ≡ b → HasShape image k accesses ⊎ (HasShape image k accesses → ⊥)
+  by_lengths : (blocks : List (List ℕ)) → walk_of image k ≡ Some (Blocks blocks) → (b : Bool) → bytes_eq (map length blocks) wanted ≡ b
+      → HasShape image k accesses ⊎ (HasShape image k accesses → ⊥)
   by_lengths blocks is true e = inl (record { blocks = blocks; walks = is; lengths = (bytes_eq-Decides (map length blocks) wanted).0 e })
   by_lengths blocks is false e =
       inr (λ (h : HasShape image k accesses).
@@ -177,7 +187,8 @@ module _ (image : Contents) (k : ℕ) (accesses : Sequence) where
 pub has_shape : (o : Options) (bytes : List ℕ) (image : Contents) (frames : List Frame) (b : IsBuilt o bytes image frames) → HasShapeOf image b.program
 has_shape o bytes image frames b =
     let t = b.program in
-    let jobs : length (source_jobs o t).jobs ≡ length t.functions = length-map (map (source_sequence o.step) t.functions) (job_with o) ∙ length-map t.functions (source_sequence o.step) in
+    let jobs : length (source_jobs o t).jobs ≡ length t.functions =
+    length-map (map (source_sequence o.step) t.functions) (job_with o) ∙ length-map t.functions (source_sequence o.step) in
     record {
       named = image_names (source_jobs o t) t image jobs b.has;
       each = λ k accesses at. known_shape image k accesses (∥∥₁_map b.walked (λ walks. each_shape o.step t image frames b.accesses walks k accesses at));

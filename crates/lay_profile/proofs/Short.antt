@@ -70,7 +70,8 @@ along_few gives k (p ∷ ps) = one_more (gives k p) (along gives (known_behind k
 all_few : (gives : Known → Placed → Option ℕ) (ss : List (List Placed)) → total (map (along gives nothing_known) ss) ≤ total ss
 all_few gives [] = omega arith
 all_few gives (s ∷ ss) =
-    omega (arith, sum_by-cons length (along gives nothing_known s) (map (along gives nothing_known) ss), sum_by-cons length s ss, along_few gives nothing_known s, all_few gives ss)
+    let first = sum_by-cons length (along gives nothing_known s) (map (along gives nothing_known) ss) in
+    omega (arith, first, sum_by-cons length s ss, along_few gives nothing_known s, all_few gives ss)
 
 lists_few : (gives : Known → Placed → Option ℕ) (code : Code) → total (in_stretches gives code) ≤ length code.placed
 lists_few gives code = omega (arith, all_few gives (stretches code), cut_total (filter_map (λ p. jump_target p.instr) code.placed) code.placed)
@@ -88,9 +89,11 @@ blocks_are [] None lists blocks is = cc
 blocks_few : (code : Code) (blocks : List (List ℕ)) → walk_code code ≡ Blocks blocks → total blocks ≤ length code.placed
 blocks_few code blocks is =
     let lists = in_stretches (λ k p. listed (access k p.instr)) code in
-    subst (λ bs. total bs ≤ length code.placed) (blocks_are _ code.fault lists blocks is) (omega (arith, some_few lists, lists_few (λ k p. listed (access k p.instr)) code))
+    subst (λ bs. total bs ≤ length code.placed) (blocks_are _ code.fault lists blocks is)
+    (omega (arith, some_few lists, lists_few (λ k p. listed (access k p.instr)) code))
 
-walk_short : (words : List ℕ) (found : Option FunctionRange) (blocks : List (List ℕ)) → option_map (λ (f : FunctionRange). walk words f.first f.last) found ≡ Some (Blocks blocks) → total blocks ≤ length words
+walk_short : (words : List ℕ) (found : Option FunctionRange) (blocks : List (List ℕ))
+    → option_map (λ (f : FunctionRange). walk words f.first f.last) found ≡ Some (Blocks blocks) → total blocks ≤ length words
 walk_short words None blocks is = absurd cc
 walk_short words (Some f) blocks is =
     omega (arith, blocks_few (code_of words f.first f.last) blocks (same_Some (walk words f.first f.last) (Blocks blocks) is), code_short words f.first f.last)
@@ -100,11 +103,13 @@ walk_short words (Some f) blocks is =
 same_total : (lists : List (List ℕ)) (bs : List Block) → map length lists ≡ map (λ (b : Block). length b.accesses) bs → total lists ≡ accesses_in bs
 same_total lists bs same = sym (sum-map length lists) ∙ ap sum same ∙ sum-map (λ (b : Block). length b.accesses) bs
 
-pub shapes_are_short : (image : Contents) (k : ℕ) (accesses : Sequence) → IsImage image.words image.functions → HasShape image k accesses → accesses_in accesses.blocks ≤ 65536
+pub shapes_are_short : (image : Contents) (k : ℕ) (accesses : Sequence) → IsImage image.words image.functions
+    → HasShape image k accesses → accesses_in accesses.blocks ≤ 65536
 shapes_are_short image k accesses whole has =
     omega (arith, whole.short, walk_short image.words (slice_get image.functions k) has.blocks has.walks, same_total has.blocks accesses.blocks has.lengths)
 
-pub placed_of : (image : Contents) (fs : List FunctionItems) (all : List Shaped) → IsImage image.words image.functions → AreShaped image fs all → ArePlaced image all
+pub placed_of : (image : Contents) (fs : List FunctionItems) (all : List Shaped) → IsImage image.words image.functions
+    → AreShaped image fs all → ArePlaced image all
 placed_of image fs all whole are k s at =
     let f = there fs k (subst (λ n. k < n) are.count (slice_get_within all k s at)) in
     let is = are.each k f.0 s f.1 at in

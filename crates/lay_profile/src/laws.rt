@@ -34,14 +34,15 @@ pub fn places_differ()
     ensures { (image : Contents) (lists : List (List ℕ)) → IsImage image.words image.functions → ArePlaces image lists → StandOnce (concat lists) }
 {}
 
-/// A function of an image that has the shape of a sequence has at most 65,536 accesses, an access for each program word at most.
+/// Where a function of an image has the shape of a sequence, the sequence has 65,536 accesses at most: its walk finds one
+/// in a program word at most.
 pub fn shapes_are_short()
     ensures { (image : Contents) (k : ℕ) (accesses : Sequence) → IsImage image.words image.functions → HasShape image k accesses
         → accesses_in accesses.blocks ≤ 65536 }
 {}
 
-/// The image that a source is compiled to has the shape of the source's program, however its frames are laid out: its functions are those of the
-/// program, in order, and the walk of each finds as many blocks as the function has, each as long.
+/// The image that a source is compiled to has the shape of the source's program, however frames are laid out: its
+/// functions have the names of the program's, in order, and the walk of each finds as many blocks, each as long.
 pub fn built_images_have_the_shape()
     ensures { (o : Options) (bytes : List ℕ) (image : Contents) (frames : List Frame) (b : IsBuilt o bytes image frames) → HasShapeOf image b.program }
 {}

@@ -14,7 +14,10 @@ mod weighing;
 
 pub use block_places::places;
 pub use fault::ProfileFault;
-pub use laws::{built_images_have_the_shape, places_differ, shapes_are_short, weighed_costs_the_run, weighed_is_a_sequence};
+pub use laws::{
+    built_images_have_the_shape, places_differ, shapes_are_short, weighed_costs_the_run,
+    weighed_is_a_sequence,
+};
 pub use options::ProfileOptions;
 pub use recording::entries;
 pub use weighing::weigh;
