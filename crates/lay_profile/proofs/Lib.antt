@@ -6,3 +6,5 @@ mod SameLists
 mod ShapeLemmas
 pub mod Differ
 mod FaultLemmas
+pub mod Short
+pub mod BuiltShapes

@@ -58,12 +58,12 @@ one_more_shaped image fs all k f s long are is = record {
     by j g t (Last e h) (Last d i) = subst (λ n. IsShaped image n g t) (sym (e ∙ long)) (subst (λ x. IsShaped image k x t) h (subst (IsShaped image k f) i is))
 
 -- of a list and what is made of it
-listed_at : {A B : Type 0} (g : A → B) (xs : List A) (k : ℕ) (y : B) → slice_get (map g xs) k ≡ Some y → (x : A) × (slice_get xs k ≡ Some x) × (g x ≡ y)
+pub listed_at : {A B : Type 0} (g : A → B) (xs : List A) (k : ℕ) (y : B) → slice_get (map g xs) k ≡ Some y → (x : A) × (slice_get xs k ≡ Some x) × (g x ≡ y)
 listed_at g [] k y is = absurd cc
 listed_at g (x ∷ xs) zero y is = (x, refl, same_Some (g x) y is)
 listed_at g (x ∷ xs) (suc k) y is = listed_at g xs k y is
 
-there : {A : Type 0} (xs : List A) (k : ℕ) → k < length xs → (x : A) × (slice_get xs k ≡ Some x)
+pub there : {A : Type 0} (xs : List A) (k : ℕ) → k < length xs → (x : A) × (slice_get xs k ≡ Some x)
 there [] k less = absurd (omega (arith, less))
 there (x ∷ xs) zero less = (x, refl)
 there (x ∷ xs) (suc k) less = there xs k (omega (arith, less))

@@ -6,7 +6,11 @@ ghost use Rattle.lay_model.specs.Sequences.{Sequence, IsSequence};
 ghost use Rattle.lay_cost.specs.Placements.{Placement, IsPlacement};
 ghost use Rattle.lay_cost.specs.Cost.{cost_of, arranged_cost};
 ghost use Rattle.lay_cost.specs.Parts.{StandOnce};
+ghost use Rattle.cc_compile.specs.Compiles.{IsBuilt};
+ghost use Rattle.cc_compile.specs.frame_layouts.declared.options.Options.{Options};
+ghost use Rattle.cc_compile.specs.lay_cert.Frames.{Frame};
 ghost use Rattle.lay_profile.specs.Places.{ArePlaces};
+ghost use Rattle.lay_profile.specs.Shapes.{HasShape, HasShapeOf};
 ghost use Rattle.lay_profile.specs.Weighing.{weighed, accesses_in, run_cost, arranged_run_cost};
 
 /// A sequence weighed by such counts is a sequence.
@@ -28,4 +32,17 @@ pub fn weighed_costs_the_run()
 /// No program address is the place of two blocks, whether of one function or of two.
 pub fn places_differ()
     ensures { (image : Contents) (lists : List (List ℕ)) → IsImage image.words image.functions → ArePlaces image lists → StandOnce (concat lists) }
+{}
+
+/// Where a function of an image has the shape of a sequence, the sequence has 65,536 accesses at most: its walk finds one
+/// in a program word at most.
+pub fn shapes_are_short()
+    ensures { (image : Contents) (k : ℕ) (accesses : Sequence) → IsImage image.words image.functions → HasShape image k accesses
+        → accesses_in accesses.blocks ≤ 65536 }
+{}
+
+/// The image that a source is compiled to has the shape of the source's program, however frames are laid out: its
+/// functions have the names of the program's, in order, and the walk of each finds as many blocks, each as long.
+pub fn built_images_have_the_shape()
+    ensures { (o : Options) (bytes : List ℕ) (image : Contents) (frames : List Frame) (b : IsBuilt o bytes image frames) → HasShapeOf image b.program }
 {}

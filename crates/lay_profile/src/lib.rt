@@ -16,7 +16,10 @@ mod weighing;
 
 pub use block_places::places;
 pub use fault::ProfileFault;
-pub use laws::{places_differ, weighed_costs_the_run, weighed_is_a_sequence};
+pub use laws::{
+    built_images_have_the_shape, places_differ, shapes_are_short, weighed_costs_the_run,
+    weighed_is_a_sequence,
+};
 pub use options::ProfileOptions;
 pub use profile::{Profiled, profile_build};
 pub use recording::entries;
