@@ -5,3 +5,4 @@ pub mod Weighings
 mod SameLists
 mod ShapeLemmas
 pub mod Differ
+mod Recordeds

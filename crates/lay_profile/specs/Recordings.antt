@@ -1,7 +1,8 @@
 -- What a recorded run says of a program's functions, and what is searched for them (docs/LAYOUT.md, "Recorded runs").
 use Rattle.std.specs.Prelude.{ℕ, ◌≤◌, suc, List, [], ◌∷◌, map, sum, Option, Some, None}
-use Rattle.word_base.specs.Ports.{Input}
+use Rattle.word_base.specs.Ports.{Input, input_of}
 use Rattle.c25_isa.specs.Image.{Contents}
+use Rattle.c25_sim.specs.Taken.{of_sixteen}
 use Rattle.c25_walk.specs.Places.{places_of}
 use Rattle.lay_model.specs.Sequences.{Sequence}
 use Rattle.cc_compile.specs.c_tree.TypedTree.{ProgramTree}
@@ -19,6 +20,10 @@ pub record Recording : Type 0 where
   pub image : Contents
   pub input : Input
   pub steps : ℕ
+
+-- the run of an image on what its ports are given, by lines of a port and a word
+abbrev pub recording_of : Contents → List (ℕ × ℕ) → ℕ → Recording
+recording_of image lines steps = record { image = image; input = of_sixteen (input_of lines); steps = steps }
 
 -- where a list is, or none
 abbrev pub listed : Option (List ℕ) → List ℕ

@@ -6,6 +6,7 @@ mod block_places;
 mod fault;
 mod laws;
 mod options;
+mod recorded;
 mod recording;
 mod shapes;
 #[cfg(test)]
@@ -14,7 +15,6 @@ mod weighing;
 
 pub use block_places::places;
 pub use fault::ProfileFault;
-pub use laws::{weighed_costs_the_run, weighed_is_a_sequence};
 pub use options::ProfileOptions;
 pub use laws::{places_differ, weighed_costs_the_run, weighed_is_a_sequence};
 pub use recording::entries;

@@ -1,0 +1,108 @@
+-- What a recorded run says of functions, one function more.
+use Rattle.std.proofs.Common.{◌≡◌, ◌<◌, ◌≤◌, ◌+◌, ◌*◌, ◌^◌, ◌++◌, ◌∙◌, ℕ, zero, suc, List, [], ◌∷◌, length, map, take, drop, refl, sym, ap, subst, arith, append_assoc, append-nil, length-append}
+use Rattle.std.specs.Prelude.{All, slice_get, slice_index_or, Some, sum}
+use Rattle.std.specs.List.{flat_map}
+use Rattle.std.proofs.Math.Seq.{drop-append_seam, take-append_seam}
+use Rattle.std.proofs.lemmas.List.{at_drop_more, drop_all, length-map, map-append}
+use Rattle.std.proofs.lemmas.List.Elements.{All-head, All-tail}
+use Rattle.std.proofs.lemmas.List.Sums.{sum_by-cons, sum_by-le}
+use Rattle.c25_isa.specs.Image.{Contents}
+use Rattle.c25_walk.specs.Places.{places_of}
+use Rattle.lay_model.specs.Sequences.{Block, Sequence, IsBlock}
+use Rattle.cc_compile.specs.frame_layouts.lay_par.Jobs.{Job}
+use Rattle.lay_profile.specs.declared.shapes.Shaped.{Shaped}
+use Rattle.lay_profile.specs.Entries.{entries_of}
+use Rattle.lay_profile.specs.Recordings.{Recording, counts_of, listed}
+use Rattle.lay_profile.specs.ShapedFunctions.{ArePlaced, IsPlaced}
+use Rattle.lay_profile.specs.Weighing.{accesses_in}
+
+abbrev pub places_in : List Shaped → List ℕ
+places_in functions = flat_map (λ (s : Shaped). s.places.items) functions
+
+abbrev pub accesses_of : List Shaped → List Sequence
+accesses_of functions = map (λ (s : Shaped). s.accesses) functions
+
+-- how often a run enters the block at an address
+abbrev pub entry_count : Recording → ℕ → ℕ
+entry_count r place = entries_of r.image.words r.input r.steps place
+
+-- ---- the function of a number
+
+at_index : {A : Type 0} (xs : List A) (i : ℕ) (x : A) → i < length xs → x ≡ slice_index_or xs i x → slice_get xs i ≡ Some x
+at_index [] i x within is = absurd (omega (arith, within))
+at_index (y ∷ ys) zero x within is = ap Some (sym is)
+at_index (y ∷ ys) (suc i) x within is = at_index ys i x (omega (arith, within)) is
+
+pub placed_here : (image : Contents) (functions : List Shaped) (i : ℕ) (s : Shaped) → ArePlaced image functions → i < length functions → s ≡ slice_index_or functions i s → IsPlaced image i s
+placed_here image functions i s placed within is = placed i s (at_index functions i s within is)
+
+pub counts_here : (r : Recording) (i : ℕ) (s : Shaped) → IsPlaced r.image i s → map (entry_count r) s.places.items ≡ counts_of r i
+counts_here r i s placed = sym (ap (λ o. map (entry_count r) (listed o)) placed.places)
+
+-- ---- counts that are split off
+
+pub one_placed : (places : List ℕ) (functions : List Shaped) (i : ℕ) (s : Shaped) → i < length functions → s ≡ slice_index_or functions i s
+    → (places ++ s.places.items) ++ places_in (drop (i + 1) functions) ≡ places ++ places_in (drop i functions)
+one_placed places functions i s within is =
+    append_assoc places s.places.items (places_in (drop (i + 1) functions))
+    ∙ ap (λ x. places ++ places_in (x ∷ drop (i + 1) functions)) is
+    ∙ sym (at_drop_more (λ l. places ++ places_in l) functions i s within)
+
+module _ (e : ℕ → ℕ) (functions : List Shaped) (i : ℕ) (s : Shaped) (rest : List ℕ) (within : i < length functions) (here : s ≡ slice_index_or functions i s)
+    (is : rest ≡ map e (places_in (drop i functions))) where
+  cut : rest ≡ map e s.places.items ++ map e (places_in (drop (i + 1) functions))
+  cut =
+      is
+      ∙ at_drop_more (λ l. map e (places_in l)) functions i s within
+      ∙ ap (λ x. map e (places_in (x ∷ drop (i + 1) functions))) (sym here)
+      ∙ map-append e s.places.items (places_in (drop (i + 1) functions))
+
+  pub enough : length s.places.items ≤ length rest
+  enough = omega (arith, ap length cut, length-append (map e s.places.items) (map e (places_in (drop (i + 1) functions))), length-map s.places.items e)
+
+  pub own_counts : (own : List ℕ) (n : ℕ) → n ≡ length s.places.items → own ≡ take n rest → own ≡ map e s.places.items
+  own_counts own n long taken =
+      taken
+      ∙ ap (λ m. take m rest) (long ∙ sym (length-map s.places.items e))
+      ∙ ap (take (length (map e s.places.items))) cut
+      ∙ take-append_seam (map e s.places.items) (map e (places_in (drop (i + 1) functions)))
+
+  pub more_counts : (more : List ℕ) (n : ℕ) → n ≡ length s.places.items → more ≡ drop n rest → more ≡ map e (places_in (drop (i + 1) functions))
+  more_counts more n long dropped =
+      dropped
+      ∙ ap (λ m. drop m rest) (long ∙ sym (length-map s.places.items e))
+      ∙ ap (drop (length (map e s.places.items))) cut
+      ∙ drop-append_seam (map e s.places.items) (map e (places_in (drop (i + 1) functions)))
+
+-- ---- a list that is made function by function
+
+module _ {B : Type 0} (W : ℕ → List Sequence → List B) (functions : List Shaped) where
+  pub one_further : (g : ℕ → Sequence → B) → ((k : ℕ) (x : Sequence) (xs : List Sequence) → W k (x ∷ xs) ≡ g k x ∷ W (suc k) xs)
+      → (done : List B) (i : ℕ) (s : Shaped) (b : B) → i < length functions → s ≡ slice_index_or functions i s → b ≡ g i s.accesses
+      → (done ++ b ∷ []) ++ W (i + 1) (accesses_of (drop (i + 1) functions)) ≡ done ++ W i (accesses_of (drop i functions))
+  one_further g cons done i s b within here is =
+      let left = drop (i + 1) functions in
+      let next : i + 1 ≡ suc i = omega arith in
+      append_assoc done (b ∷ []) (W (i + 1) (accesses_of left))
+      ∙ ap (λ x. done ++ x ∷ W (i + 1) (accesses_of left)) is
+      ∙ ap (λ n. done ++ g i s.accesses ∷ W n (accesses_of left)) next
+      ∙ ap (λ l. done ++ l) (sym (cons i s.accesses (accesses_of left)))
+      ∙ ap (λ (x : Shaped). done ++ W i (accesses_of (x ∷ left))) here
+      ∙ sym (at_drop_more (λ l. done ++ W i (accesses_of l)) functions i s within)
+
+  pub all_made : ((k : ℕ) → W k [] ≡ []) → (done whole : List B) (i : ℕ) → length functions ≤ i → done ++ W i (accesses_of (drop i functions)) ≡ whole → done ≡ whole
+  all_made empty done whole i past is =
+      sym (append-nil done)
+      ∙ ap (λ l. done ++ l) (sym (empty i))
+      ∙ ap (λ l. done ++ W i (accesses_of l)) (sym (drop_all i functions past))
+      ∙ is
+
+-- ---- a sum that fits
+
+few_blocks : (blocks : List Block) → All IsBlock blocks → length blocks ≤ accesses_in blocks
+few_blocks [] are = omega arith
+few_blocks (b ∷ blocks) are =
+    omega (arith, sum_by-cons (λ (x : Block). length x.accesses) b blocks, (All-head IsBlock b blocks are).some, few_blocks blocks (All-tail IsBlock b blocks are))
+
+pub sum_fits : (blocks : List Block) (counts : List ℕ) → All IsBlock blocks → length counts ≡ length blocks → All (λ count. count ≤ 100000000) counts → accesses_in blocks < 2 ^ 32 → sum counts < 2 ^ 64
+sum_fits blocks counts are long few short = omega (arith, sum_by-le (λ x. x) 100000000 counts few, long, few_blocks blocks are, short)
