@@ -1,20 +1,22 @@
 -- What a recorded run says of functions, one function more.
-use Rattle.std.proofs.Common.{◌≡◌, ◌<◌, ◌≤◌, ◌+◌, ◌*◌, ◌^◌, ◌++◌, ◌∙◌, ℕ, zero, suc, List, [], ◌∷◌, length, map, take, drop, refl, sym, ap, subst, arith, append_assoc, append-nil, length-append}
+use Rattle.std.proofs.Common.{◌≡◌, ◌<◌, ◌≤◌, ◌+◌, ◌*◌, ◌^◌, ◌++◌, ◌∙◌, ℕ, zero, suc, List, [], ◌∷◌, length, map, take, drop, refl, sym, ap, subst, arith, append_assoc, append-nil}
 use Rattle.std.specs.Prelude.{All, slice_get, slice_index_or, Some, sum}
 use Rattle.std.specs.List.{flat_map}
 use Rattle.std.proofs.Math.Seq.{drop-append_seam, take-append_seam}
 use Rattle.std.proofs.lemmas.List.{at_drop_more, drop_all, length-map, map-append}
-use Rattle.std.proofs.lemmas.List.Elements.{All-head, All-tail}
+use Rattle.std.proofs.lemmas.List.Elements.{All-cons, All-head, All-nil, All-tail}
 use Rattle.std.proofs.lemmas.List.Sums.{sum_by-cons, sum_by-le}
 use Rattle.c25_isa.specs.Image.{Contents}
+use Rattle.c25_isa.specs.MachineRun.{reset}
+use Rattle.c25_isa.specs.State.{zero_start}
 use Rattle.c25_walk.specs.Places.{places_of}
 use Rattle.lay_model.specs.Sequences.{Block, Sequence, IsBlock}
-use Rattle.cc_compile.specs.frame_layouts.lay_par.Jobs.{Job}
 use Rattle.lay_profile.specs.declared.shapes.Shaped.{Shaped}
 use Rattle.lay_profile.specs.Entries.{entries_of}
 use Rattle.lay_profile.specs.Recordings.{Recording, counts_of, listed}
 use Rattle.lay_profile.specs.ShapedFunctions.{ArePlaced, IsPlaced}
 use Rattle.lay_profile.specs.Weighing.{accesses_in}
+use Rattle.lay_profile.proofs.Counts.{times_few}
 
 abbrev pub places_in : List Shaped → List ℕ
 places_in functions = flat_map (λ (s : Shaped). s.places.items) functions
@@ -33,10 +35,10 @@ at_index [] i x within is = absurd (omega (arith, within))
 at_index (y ∷ ys) zero x within is = ap Some (sym is)
 at_index (y ∷ ys) (suc i) x within is = at_index ys i x (omega (arith, within)) is
 
-pub placed_here : (image : Contents) (functions : List Shaped) (i : ℕ) (s : Shaped) → ArePlaced image functions → i < length functions → s ≡ slice_index_or functions i s → IsPlaced image i s
+placed_here : (image : Contents) (functions : List Shaped) (i : ℕ) (s : Shaped) → ArePlaced image functions → i < length functions → s ≡ slice_index_or functions i s → IsPlaced image i s
 placed_here image functions i s placed within is = placed i s (at_index functions i s within is)
 
-pub counts_here : (r : Recording) (i : ℕ) (s : Shaped) → IsPlaced r.image i s → map (entry_count r) s.places.items ≡ counts_of r i
+counts_here : (r : Recording) (i : ℕ) (s : Shaped) → IsPlaced r.image i s → map (entry_count r) s.places.items ≡ counts_of r i
 counts_here r i s placed = sym (ap (λ o. map (entry_count r) (listed o)) placed.places)
 
 -- ---- counts that are split off
@@ -57,10 +59,7 @@ module _ (e : ℕ → ℕ) (functions : List Shaped) (i : ℕ) (s : Shaped) (res
       ∙ ap (λ x. map e (places_in (x ∷ drop (i + 1) functions))) (sym here)
       ∙ map-append e s.places.items (places_in (drop (i + 1) functions))
 
-  pub enough : length s.places.items ≤ length rest
-  enough = omega (arith, ap length cut, length-append (map e s.places.items) (map e (places_in (drop (i + 1) functions))), length-map s.places.items e)
-
-  pub own_counts : (own : List ℕ) (n : ℕ) → n ≡ length s.places.items → own ≡ take n rest → own ≡ map e s.places.items
+  own_counts : (own : List ℕ) (n : ℕ) → n ≡ length s.places.items → own ≡ take n rest → own ≡ map e s.places.items
   own_counts own n long taken =
       taken
       ∙ ap (λ m. take m rest) (long ∙ sym (length-map s.places.items e))
@@ -73,6 +72,32 @@ module _ (e : ℕ → ℕ) (functions : List Shaped) (i : ℕ) (s : Shaped) (res
       ∙ ap (λ m. drop m rest) (long ∙ sym (length-map s.places.items e))
       ∙ ap (drop (length (map e s.places.items))) cut
       ∙ drop-append_seam (map e s.places.items) (map e (places_in (drop (i + 1) functions)))
+
+few_entries : (r : Recording) (places : List ℕ) → r.steps ≤ 100000000 → All (λ count. count ≤ 100000000) (map (entry_count r) places)
+few_entries r [] few = All-nil (λ count. count ≤ 100000000)
+few_entries r (place ∷ places) few =
+    All-cons (λ count. count ≤ 100000000) (entry_count r place) (map (entry_count r) places)
+    (omega (arith, few, times_few (reset (zero_start r.image.words) r.input) r.steps place))
+    (few_entries r places few)
+
+-- what the counts of the function of a number are
+pub record AreOwn (r : Recording) (i : ℕ) (s : Shaped) (own : List ℕ) : Type 0 where
+  pub counts : own ≡ counts_of r i
+  pub one_each : length own ≡ length s.accesses.blocks
+  pub few : All (λ count. count ≤ 100000000) own
+  pub short : accesses_in s.accesses.blocks < 2 ^ 32
+
+pub are_own : (r : Recording) (functions : List Shaped) (i : ℕ) (s : Shaped) (rest own : List ℕ) (n : ℕ) → r.steps ≤ 100000000 → ArePlaced r.image functions
+    → i < length functions → s ≡ slice_index_or functions i s → rest ≡ map (entry_count r) (places_in (drop i functions)) → n ≡ length s.places.items → own ≡ take n rest → AreOwn r i s own
+are_own r functions i s rest own n few placed within here is long taken =
+    let p : IsPlaced r.image i s = placed_here r.image functions i s placed within here in
+    let o : own ≡ map (entry_count r) s.places.items = own_counts (entry_count r) functions i s rest within here is own n long taken in
+    record {
+      counts = o ∙ counts_here r i s p;
+      one_each = ap length o ∙ length-map s.places.items (entry_count r) ∙ p.one_each;
+      few = subst (All (λ count. count ≤ 100000000)) (sym o) (few_entries r s.places.items few);
+      short = p.short;
+    }
 
 -- ---- a list that is made function by function
 

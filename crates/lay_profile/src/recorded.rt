@@ -12,7 +12,7 @@ use crate::shapes::Shaped;
 use crate::weighing::weigh;
 use c25_isa::Image;
 use cc_compile::Job;
-use lay_model::Sequence;
+use lay_model::{MOST_SCALARS, Sequence};
 use std::alloc::Global;
 use word_base::{NoMemory, Ports};
 
@@ -59,6 +59,9 @@ fn total(accesses: &Sequence, counts: &[u64]) -> u64
     requires short { accesses_in accesses.now.blocks < 2 ^ 32 }
     ensures { result ≡ sum counts.now }
 {
+    // A sequence has no block without accesses, so it has as many accesses as counts at least, and the sum fits.
+    let is_sequence = accesses.scalars() <= MOST_SCALARS;
+    prove!(is_sequence);
     let mut entered: u64 = 0;
     for count in counts {
         entered += *count;
