@@ -8,7 +8,6 @@ use Rattle.lay_model.specs.Sequences.{Sequence}
 use Rattle.cc_compile.specs.c_tree.TypedTree.{ProgramTree}
 use Rattle.cc_compile.specs.frame_layouts.Frames.{job_with}
 use Rattle.cc_compile.specs.frame_layouts.declared.options.Options.{Options}
-use Rattle.cc_compile.specs.frame_layouts.lay_par.Jobs.{Job}
 use Rattle.cc_compile.specs.cc_image.Images.{FrameJobs, jobs_at}
 use Rattle.lay_profile.specs.declared.options.ProfileOptions.{ProfileOptions}
 use Rattle.lay_profile.specs.Entries.{entries_of}

@@ -15,7 +15,7 @@ mod weighing;
 
 pub use block_places::places;
 pub use fault::ProfileFault;
-pub use options::ProfileOptions;
 pub use laws::{places_differ, weighed_costs_the_run, weighed_is_a_sequence};
+pub use options::ProfileOptions;
 pub use recording::entries;
 pub use weighing::weigh;

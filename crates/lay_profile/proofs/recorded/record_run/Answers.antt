@@ -1,4 +1,4 @@
-use Rattle.std.proofs.Common.{◌≡◌, ◌∙◌, ◌+◌, ◌++◌, ◌∷◌, [], ℕ, List, map, drop, length, refl, sym, ap, subst, arith}
+use Rattle.std.proofs.Common.{◌≡◌, ◌∙◌, ◌+◌, ◌++◌, [], map, drop, refl, sym, ap, subst, arith}
 use Rattle.std.specs.Prelude.{All, sum}
 use Rattle.std.proofs.lemmas.List.Elements.{All-append, All-cons, All-nil}
 use Rattle.lay_model.specs.Sequences.{Sequence}
@@ -6,7 +6,7 @@ use Rattle.cc_compile.specs.frame_layouts.Frames.{IsJob, job_with}
 use Rattle.cc_compile.specs.frame_layouts.lay_par.Jobs.{Job}
 use Rattle.lay_profile.specs.Recordings.{counts_of, entered_from, recording_of, search_options, weighed_from}
 use Rattle.lay_profile.specs.Weighing.{weighed}
-use Rattle.lay_profile.proofs.Recordeds.{AreOwn, accesses_of, are_own, entry_count, more_counts, one_further}
+use Rattle.lay_profile.proofs.Recordeds.{accesses_of, are_own, entry_count, more_counts, one_further}
 use Rattle.lay_profile.proofs.recorded.record_run.Goals as goal
 
 pub job_for-requires-clause-one_each : goal.job_for-requires-clause-one_each
