@@ -1,18 +1,18 @@
 -- What a recorded run says of functions, one function more.
-use Rattle.std.proofs.Common.{◌≡◌, ◌<◌, ◌≤◌, ◌+◌, ◌^◌, ◌++◌, ◌∙◌, ℕ, zero, suc, List, [], ◌∷◌, length, map, take, drop, sym, ap, subst, arith, append_assoc, append-nil}
+use Rattle.std.proofs.Common.{◌≡◌, ◌<◌, ◌≤◌, ◌+◌, ◌^◌, ◌++◌, ◌∙◌, ℕ, zero, suc, List, [], ◌∷◌, length, map, take, drop, sym, ap, subst, arith, append_assoc}
 use Rattle.std.specs.Prelude.{All, slice_get, slice_index_or, Some, sum}
 use Rattle.std.specs.List.{flat_map}
 use Rattle.std.proofs.Math.Seq.{drop-append_seam, take-append_seam}
-use Rattle.std.proofs.lemmas.List.{at_drop_more, drop_all, length-map, map-append}
+use Rattle.std.proofs.lemmas.List.{at_drop_more, length-map, map-append}
 use Rattle.std.proofs.lemmas.List.Elements.{All-cons, All-head, All-nil, All-tail}
 use Rattle.std.proofs.lemmas.List.Sums.{sum_by-cons, sum_by-le}
 use Rattle.c25_isa.specs.Image.{Contents}
 use Rattle.c25_isa.specs.MachineRun.{reset}
 use Rattle.c25_isa.specs.State.{zero_start}
-use Rattle.lay_model.specs.Sequences.{Block, Sequence, IsBlock}
+use Rattle.lay_model.specs.Sequences.{Block, Sequence, IsBlock, IsSequence}
 use Rattle.lay_profile.specs.declared.shapes.Shaped.{Shaped}
 use Rattle.lay_profile.specs.Entries.{entries_of}
-use Rattle.lay_profile.specs.Recordings.{Recording, counts_of, listed}
+use Rattle.lay_profile.specs.Recordings.{AreCounts, Recording, counts_of, listed}
 use Rattle.lay_profile.specs.ShapedFunctions.{ArePlaced, IsPlaced}
 use Rattle.lay_profile.specs.Weighing.{accesses_in}
 use Rattle.lay_profile.proofs.Counts.{times_few}
@@ -34,7 +34,8 @@ at_index [] i x within is = absurd (omega (arith, within))
 at_index (y ∷ ys) zero x within is = ap Some (sym is)
 at_index (y ∷ ys) (suc i) x within is = at_index ys i x (omega (arith, within)) is
 
-placed_here : (image : Contents) (functions : List Shaped) (i : ℕ) (s : Shaped) → ArePlaced image functions → i < length functions → s ≡ slice_index_or functions i s → IsPlaced image i s
+placed_here : (image : Contents) (functions : List Shaped) (i : ℕ) (s : Shaped) → ArePlaced image functions → i < length functions
+    → s ≡ slice_index_or functions i s → IsPlaced image i s
 placed_here image functions i s placed within is = placed i s (at_index functions i s within is)
 
 counts_here : (r : Recording) (i : ℕ) (s : Shaped) → IsPlaced r.image i s → map (entry_count r) s.places.items ≡ counts_of r i
@@ -49,8 +50,8 @@ one_placed places functions i s within is =
     ∙ ap (λ x. places ++ places_in (x ∷ drop (i + 1) functions)) is
     ∙ sym (at_drop_more (λ l. places ++ places_in l) functions i s within)
 
-module _ (e : ℕ → ℕ) (functions : List Shaped) (i : ℕ) (s : Shaped) (rest : List ℕ) (within : i < length functions) (here : s ≡ slice_index_or functions i s)
-    (is : rest ≡ map e (places_in (drop i functions))) where
+module _ (e : ℕ → ℕ) (functions : List Shaped) (i : ℕ) (s : Shaped) (rest : List ℕ)
+    (within : i < length functions) (here : s ≡ slice_index_or functions i s) (is : rest ≡ map e (places_in (drop i functions))) where
   cut : rest ≡ map e s.places.items ++ map e (places_in (drop (i + 1) functions))
   cut =
       is
@@ -79,23 +80,24 @@ few_entries r (place ∷ places) few =
     (omega (arith, few, times_few (reset (zero_start r.image.words) r.input) r.steps place))
     (few_entries r places few)
 
--- what the counts of the function of a number are
+-- the counts that are split off are those of the function of a number
 pub record AreOwn (r : Recording) (i : ℕ) (s : Shaped) (own : List ℕ) : Type 0 where
-  pub counts : own ≡ counts_of r i
-  pub one_each : length own ≡ length s.accesses.blocks
-  pub few : All (λ count. count ≤ 100000000) own
-  pub short : accesses_in s.accesses.blocks < 2 ^ 32
+  pub are : own ≡ counts_of r i
+  pub counts : AreCounts s.accesses own
 
-pub are_own : (r : Recording) (functions : List Shaped) (i : ℕ) (s : Shaped) (rest own : List ℕ) (n : ℕ) → r.steps ≤ 100000000 → ArePlaced r.image functions
-    → i < length functions → s ≡ slice_index_or functions i s → rest ≡ map (entry_count r) (places_in (drop i functions)) → n ≡ length s.places.items → own ≡ take n rest → AreOwn r i s own
+pub are_own : (r : Recording) (functions : List Shaped) (i : ℕ) (s : Shaped) (rest own : List ℕ) (n : ℕ)
+    → r.steps ≤ 100000000 → ArePlaced r.image functions → i < length functions → s ≡ slice_index_or functions i s
+    → rest ≡ map (entry_count r) (places_in (drop i functions)) → n ≡ length s.places.items → own ≡ take n rest → AreOwn r i s own
 are_own r functions i s rest own n few placed within here is long taken =
     let p : IsPlaced r.image i s = placed_here r.image functions i s placed within here in
     let o : own ≡ map (entry_count r) s.places.items = own_counts (entry_count r) functions i s rest within here is own n long taken in
     record {
-      counts = o ∙ counts_here r i s p;
-      one_each = ap length o ∙ length-map s.places.items (entry_count r) ∙ p.one_each;
-      few = subst (All (λ count. count ≤ 100000000)) (sym o) (few_entries r s.places.items few);
-      short = p.short;
+      are = o ∙ counts_here r i s p;
+      counts = record {
+        one_each = ap length o ∙ length-map s.places.items (entry_count r) ∙ p.one_each;
+        few = subst (All (λ count. count ≤ 100000000)) (sym o) (few_entries r s.places.items few);
+        short = p.short;
+      };
     }
 
 -- ---- a list that is made function by function
@@ -114,19 +116,14 @@ module _ {B : Type 0} (W : ℕ → List Sequence → List B) (functions : List S
       ∙ ap (λ (x : Shaped). done ++ W i (accesses_of (x ∷ left))) here
       ∙ sym (at_drop_more (λ l. done ++ W i (accesses_of l)) functions i s within)
 
-  pub all_made : ((k : ℕ) → W k [] ≡ []) → (done whole : List B) (i : ℕ) → length functions ≤ i → done ++ W i (accesses_of (drop i functions)) ≡ whole → done ≡ whole
-  all_made empty done whole i past is =
-      sym (append-nil done)
-      ∙ ap (λ l. done ++ l) (sym (empty i))
-      ∙ ap (λ l. done ++ W i (accesses_of l)) (sym (drop_all i functions past))
-      ∙ is
-
 -- ---- a sum that fits
 
 few_blocks : (blocks : List Block) → All IsBlock blocks → length blocks ≤ accesses_in blocks
 few_blocks [] are = omega arith
 few_blocks (b ∷ blocks) are =
-    omega (arith, sum_by-cons (λ (x : Block). length x.accesses) b blocks, (All-head IsBlock b blocks are).some, few_blocks blocks (All-tail IsBlock b blocks are))
+    let some = (All-head IsBlock b blocks are).some in
+    omega (arith, sum_by-cons (λ (x : Block). length x.accesses) b blocks, some, few_blocks blocks (All-tail IsBlock b blocks are))
 
-pub sum_fits : (blocks : List Block) (counts : List ℕ) → All IsBlock blocks → length counts ≡ length blocks → All (λ count. count ≤ 100000000) counts → accesses_in blocks < 2 ^ 32 → sum counts < 2 ^ 64
-sum_fits blocks counts are long few short = omega (arith, sum_by-le (λ x. x) 100000000 counts few, long, few_blocks blocks are, short)
+pub sum_fits : (accesses : Sequence) (counts : List ℕ) → IsSequence accesses → AreCounts accesses counts → sum counts < 2 ^ 64
+sum_fits accesses counts is are =
+    omega (arith, sum_by-le (λ x. x) 100000000 counts are.few, are.one_each, few_blocks accesses.blocks is.blocks, are.short)

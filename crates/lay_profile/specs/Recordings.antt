@@ -1,5 +1,5 @@
 -- What a recorded run says of a program's functions, and what is searched for them (docs/LAYOUT.md, "Recorded runs").
-use Rattle.std.specs.Prelude.{ℕ, ◌≤◌, suc, List, [], ◌∷◌, map, sum, Option, Some, None}
+use Rattle.std.specs.Prelude.{◌≡◌, ℕ, ◌≤◌, ◌<◌, ◌^◌, suc, List, [], ◌∷◌, length, map, sum, All, Option, Some, None}
 use Rattle.word_base.specs.Ports.{Input, input_of}
 use Rattle.c25_isa.specs.Image.{Contents}
 use Rattle.c25_sim.specs.Taken.{of_sixteen}
@@ -12,7 +12,7 @@ use Rattle.cc_compile.specs.cc_image.Images.{FrameJobs, jobs_at}
 use Rattle.lay_profile.specs.declared.options.ProfileOptions.{ProfileOptions}
 use Rattle.lay_profile.specs.Entries.{entries_of}
 use Rattle.lay_profile.specs.Shapes.{accesses_of}
-use Rattle.lay_profile.specs.Weighing.{weighed}
+use Rattle.lay_profile.specs.Weighing.{accesses_in, weighed}
 
 -- a run of an image from zeros, on an input, for so many steps at most
 pub record Recording : Type 0 where
@@ -42,6 +42,12 @@ entered_from r k (s ∷ more) = sum (counts_of r k) ∷ entered_from r (suc k) m
 abbrev pub weighed_from : Recording → ℕ → List Sequence → List Sequence
 weighed_from r k [] = []
 weighed_from r k (s ∷ more) = weighed s (counts_of r k) ∷ weighed_from r (suc k) more
+
+-- counts of a run by which a sequence can be weighed: one for each block, none above the most steps, and not too many accesses
+pub record AreCounts (accesses : Sequence) (counts : List ℕ) : Type 0 where
+  pub one_each : length counts ≡ length accesses.blocks
+  pub few : All (λ count. count ≤ 100000000) counts
+  pub short : accesses_in accesses.blocks < 2 ^ 32
 
 -- what is searched for a program's frames; the step is 1
 abbrev pub recorded_jobs : Options → Recording → ProgramTree → FrameJobs

@@ -1,10 +1,10 @@
 //! What a recorded run says of functions: how often it enters blocks of each, and what is searched for each.
-ghost use Rattle.std.specs.Prelude.{◌≡◌, ◌≤◌, ◌<◌, ◌^◌, map, sum, length, All, IfOk};
+ghost use Rattle.std.specs.Prelude.{◌≡◌, map, sum, All, IfOk};
 ghost use Rattle.std.specs.List.{flat_map};
 ghost use Rattle.cc_compile.specs.frame_layouts.Frames.{IsJob, job_with};
-ghost use Rattle.lay_profile.specs.Recordings.{AreProfileOptions, entered_from, recording_of, search_options, weighed_from};
+ghost use Rattle.lay_profile.specs.Recordings.{AreCounts, AreProfileOptions, entered_from, recording_of, search_options, weighed_from};
 ghost use Rattle.lay_profile.specs.ShapedFunctions.{ArePlaced};
-ghost use Rattle.lay_profile.specs.Weighing.{accesses_in, weighed};
+ghost use Rattle.lay_profile.specs.Weighing.{weighed};
 
 use crate::options::ProfileOptions;
 use crate::recording::entries;
@@ -42,9 +42,7 @@ fn job_for(
     counts: &[u64],
 ) -> Result<Job, NoMemory>
     requires options { AreProfileOptions options }
-    requires one_each { length counts.now ≡ length accesses.now.blocks }
-    requires few { All (λ count. count ≤ 100000000) counts.now }
-    requires short { accesses_in accesses.now.blocks < 2 ^ 32 }
+    requires counts { AreCounts accesses.now counts.now }
     ensures job { IfOk result (λ job. job ≡ job_with (search_options options) (weighed accesses.now counts.now)) }
     ensures is_job { IfOk result IsJob }
 {
@@ -54,9 +52,7 @@ fn job_for(
 
 // How often a run enters any of the blocks of accesses, where it enters each so often.
 fn total(accesses: &Sequence, counts: &[u64]) -> u64
-    requires one_each { length counts.now ≡ length accesses.now.blocks }
-    requires few { All (λ count. count ≤ 100000000) counts.now }
-    requires short { accesses_in accesses.now.blocks < 2 ^ 32 }
+    requires { AreCounts accesses.now counts.now }
     ensures { result ≡ sum counts.now }
 {
     // A sequence has no block without accesses, so it has as many accesses as counts at least, and the sum fits.
@@ -80,10 +76,11 @@ pub(crate) fn record_run(
 ) -> Result<Recorded, NoMemory>
     requires options { AreProfileOptions options }
     requires placed { ArePlaced image.now functions.now }
-    ensures jobs { IfOk result (λ r. r.jobs.items
-        ≡ map (job_with (search_options options)) (weighed_from (recording_of image.now ports.now options.steps) 0 (map (λ s. s.accesses) functions.now))) }
+    ensures jobs { IfOk result (λ r. r.jobs.items ≡ map (job_with (search_options options))
+        (weighed_from (recording_of image.now ports.now options.steps) 0 (map (λ s. s.accesses) functions.now))) }
     ensures are_jobs { IfOk result (λ r. All IsJob r.jobs.items) }
-    ensures entered { IfOk result (λ r. r.entered.items ≡ entered_from (recording_of image.now ports.now options.steps) 0 (map (λ s. s.accesses) functions.now)) }
+    ensures entered { IfOk result (λ r. r.entered.items
+        ≡ entered_from (recording_of image.now ports.now options.steps) 0 (map (λ s. s.accesses) functions.now)) }
 {
     let places = all_places(alloc, functions)?;
     let counts = entries(alloc, image, &places, ports, options.steps)?;

@@ -7,5 +7,5 @@ use Rattle.lay_profile.proofs.recorded.total.Goals as goal
 pub overflow_add-entered : goal.overflow_add-entered
 overflow_add-entered c =
     let counts = c.args.counts.now in
-    let fits : sum counts < 2 ^ 64 = sum_fits c.args.accesses.now.blocks counts c.scalars-is_sequence.ensures.sequence.blocks c.requires.one_each c.requires.few c.requires.short in
+    let fits : sum counts < 2 ^ 64 = sum_fits c.args.accesses.now counts c.scalars-is_sequence.ensures.sequence c.requires in
     omega (arith, fits, sum_by-drop_more (λ x. x) counts c.loop-count.count-index 0 c.loop-count-test.true, c.loop-count.invariant)
