@@ -65,8 +65,8 @@ fn total(accesses: &Sequence, counts: &[u64]) -> u64
     entered
 }
 
-/// What a run of an image from zeros on what the ports are given says of functions that have places in the image, one for
-/// each in order. Only the want of memory is refused.
+/// What the run of an image from zeros on what the ports are given says of functions that have places in the image, for
+/// each in order, by the first steps that the options count. Only the want of memory is refused.
 pub(crate) fn record_run(
     alloc: Global,
     image: &Image,
