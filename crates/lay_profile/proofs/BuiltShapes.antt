@@ -22,7 +22,7 @@ use Rattle.mem_plan.specs.declared.data_plan.DataPlan.{DataPlan}
 use Rattle.mem_plan.specs.Plan.{frames_from, frames_start}
 use Rattle.cc_compile.specs.c_tree.TypedTree.{FunctionTree, ProgramTree}
 use Rattle.cc_compile.specs.Compiles.{IsBuilt}
-use Rattle.cc_compile.specs.cc_image.Images.{AccessAs, AreWalked, FrameJobs, HasImage, IsWalked, layouts, own_pieces, source_jobs}
+use Rattle.cc_compile.specs.Images.{AccessAs, AreWalked, FrameJobs, HasImage, IsWalked, layouts, own_pieces, source_jobs}
 use Rattle.cc_compile.specs.frame_emit.Emitted.{behind_startup}
 use Rattle.cc_compile.specs.frame_emit.Frames.{all_parameters}
 use Rattle.cc_compile.specs.frame_emit.Startup.{startup_piece}

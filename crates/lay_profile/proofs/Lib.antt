@@ -8,3 +8,4 @@ pub mod Differ
 mod FaultLemmas
 pub mod Short
 pub mod BuiltShapes
+mod Recordeds
