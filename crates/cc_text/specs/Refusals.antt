@@ -10,10 +10,10 @@ use Rattle.c25_image.specs.declared.fault.PortFault.{PortFault}
 use Rattle.c25_image.specs.declared.fault.PortFault.TheVariants as port_faults
 use Rattle.lay_text.specs.declared.fault.SeqFault.{SeqFault}
 use Rattle.lay_text.specs.declared.fault.SeqFault.TheVariants as sequence_faults
-use Rattle.cc_compile.specs.lay_cert.declared.fault.CertFault.{CertFault}
-use Rattle.cc_compile.specs.lay_cert.declared.fault.CertFault.TheVariants as certificate_faults
-use Rattle.cc_compile.specs.declared.fault.BuildFault.{BuildFault}
-use Rattle.cc_compile.specs.declared.fault.BuildFault.TheVariants as build_faults
+use Rattle.lay_profile.specs.cc_compile.lay_cert.declared.fault.CertFault.{CertFault}
+use Rattle.lay_profile.specs.cc_compile.lay_cert.declared.fault.CertFault.TheVariants as certificate_faults
+use Rattle.lay_profile.specs.cc_compile.declared.fault.BuildFault.{BuildFault}
+use Rattle.lay_profile.specs.cc_compile.declared.fault.BuildFault.TheVariants as build_faults
 use Rattle.c_macro.specs.declared.fault.MacroFault.{MacroFault}
 use Rattle.c_macro.specs.declared.fault.MacroFault.TheVariants as macro_faults
 use Rattle.c_units.specs.declared.fault.UnitFault.{UnitFault}

@@ -7,7 +7,7 @@ use c_units::UnitFault;
 use c25_asm::AsmFault;
 use c25_debug::ScriptFault;
 use c25_image::{ImageFault, PortFault};
-use cc_compile::{BuildFault, CertFault};
+use lay_profile::{BuildFault, CertFault};
 use lay_text::SeqFault;
 use word_base::NoMemory;
 

@@ -6,7 +6,7 @@ use crate::refusal::FileFault;
 use c25_asm::AsmFault;
 use c25_debug::ScriptFault;
 use c25_image::{ImageFault, PortFault};
-use cc_compile::CertFault;
+use lay_profile::CertFault;
 use lay_text::SeqFault;
 use std::alloc::Global;
 use word_base::NoMemory;

@@ -1,3 +1,4 @@
+pub use Rattle.cc_compile.proofs as cc_compile
 mod Examples
 pub mod Counts
 pub mod Together

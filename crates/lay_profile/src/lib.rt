@@ -15,6 +15,10 @@ mod tests;
 mod weighing;
 
 pub use block_places::places;
+pub use cc_compile::{
+    BuildFault, Built, CertFault, Certificate, LinkFault, Options, PlanFault, compile, runs_tell,
+    typed_program,
+};
 pub use fault::ProfileFault;
 pub use laws::{
     built_images_have_the_shape, places_differ, shapes_are_short, weighed_costs_the_run,
