@@ -1,3 +1,4 @@
+pub use Rattle.lay_profile.specs as lay_profile
 pub use Rattle.lay_profile.specs.cc_compile as cc_compile
 pub use Rattle.lay_profile.specs.cc_compile.frame_emit as frame_emit
 pub use Rattle.lay_profile.specs.cc_compile.frame_layouts as frame_layouts

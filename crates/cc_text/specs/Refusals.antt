@@ -14,6 +14,8 @@ use Rattle.lay_profile.specs.cc_compile.lay_cert.declared.fault.CertFault.{CertF
 use Rattle.lay_profile.specs.cc_compile.lay_cert.declared.fault.CertFault.TheVariants as certificate_faults
 use Rattle.lay_profile.specs.cc_compile.declared.fault.BuildFault.{BuildFault}
 use Rattle.lay_profile.specs.cc_compile.declared.fault.BuildFault.TheVariants as build_faults
+use Rattle.lay_profile.specs.declared.fault.ProfileFault.{ProfileFault}
+use Rattle.lay_profile.specs.declared.fault.ProfileFault.TheVariants as profile_faults
 use Rattle.c_macro.specs.declared.fault.MacroFault.{MacroFault}
 use Rattle.c_macro.specs.declared.fault.MacroFault.TheVariants as macro_faults
 use Rattle.c_units.specs.declared.fault.UnitFault.{UnitFault}
@@ -78,6 +80,16 @@ of_assembly_fault name why = OfFile name (Assembly why)
 abbrev pub of_script_fault : List ℕ → ScriptFault → Why
 of_script_fault name script_faults.NoMemory = OfMemory
 of_script_fault name why = OfFile name (Script why)
+
+-- of a source and of the recorded image of this name
+abbrev pub of_profile_fault : List ℕ → ProfileFault → Why
+of_profile_fault name (profile_faults.Lex why) = OfSource (build_faults.Lex why)
+of_profile_fault name (profile_faults.Parse why) = OfSource (build_faults.Parse why)
+of_profile_fault name (profile_faults.Types why) = OfSource (build_faults.Types why)
+of_profile_fault name profile_faults.OtherSource = OfFile name OtherSource
+of_profile_fault name (profile_faults.Plan why) = OfSource (build_faults.Plan why)
+of_profile_fault name (profile_faults.Link why) = OfSource (build_faults.Link why)
+of_profile_fault name profile_faults.NoMemory = OfMemory
 
 -- the line that refuses an image; want of memory has none
 abbrev pub image_line : List ℕ → ImageFault → List ℕ

@@ -10,3 +10,4 @@ mod FaultLemmas
 pub mod Short
 pub mod BuiltShapes
 mod Recordeds
+pub mod OneProfile
