@@ -37,7 +37,7 @@ use Rattle.cc_files.specs.lay_profile.declared.fault.ProfileFault.TheVariants as
 use Rattle.cc_files.specs.lay_profile.declared.options.ProfileOptions.{ProfileOptions}
 use Rattle.cc_files.specs.lay_profile.Profiles.{IsProfiled, HasFault}
 use Rattle.cc_files.specs.lay_profile.Recordings.{Recording, recording_of}
-use Rattle.cc_files.proofs.lay_profile.OneProfile.{one_framed, one_entered, profiled_no_fault, other_source_alone, memory_no_fault}
+use Rattle.cc_files.proofs.lay_profile.OneProfile.{one_framed as one_weighted, one_entered, profiled_no_fault, other_source_alone, memory_no_fault}
 use Rattle.cc_files.proofs.c_macro.OneOutcome.{outcome_one}
 use Rattle.cc_files.proofs.c_units.OneOutcome.{joined_not}
 use Rattle.cc_files.proofs.FetchLemmas.{with_bytes, same_contents}
@@ -386,7 +386,7 @@ profile_one o name s i p a b t u c d =
     let r = recording_of d.first d.lines o.steps in
     let same = one_recording i p o.steps c.first d.first c.lines d.lines c.recorded d.recorded c.ports d.ports in
     let here : IsProfiled o s r c.image c.frames c.entered = subst (λ x. IsProfiled o s x c.image c.frames c.entered) same c.profiled in
-    let frames = one_framed o s r c.image d.image c.frames d.frames c.entered d.entered here d.profiled in
+    let frames = one_weighted o s r c.image d.image c.frames d.frames c.entered d.entered here d.profiled in
     let entered = one_entered o s r c.image d.image c.frames d.frames c.entered d.entered here d.profiled in
     c.reported ∙ ap₂ profile_of frames entered ∙ sym d.reported
 
@@ -399,7 +399,7 @@ profile_not o name first ports s i p a t why c (profile.SourceThen contents line
 
 -- the source is refused with 1, or with 9 where the image is one of another source
 module _ (o : ProfileOptions) (s : List ℕ) (r : Recording) (name : List ℕ) where
-  profile_status : ProfileFault → ℕ
+  abbrev profile_status : ProfileFault → ℕ
   profile_status f = refusal_status (of_profile_fault name f)
 
   source_status : (f : ProfileFault) → HasFault o s r f → f ≢ profile_faults.OtherSource → profile_status f ≡ 1

@@ -1,5 +1,5 @@
 -- What `pbuild` makes, from its parts.
-use Rattle.std.proofs.Common.{◌≡◌, ◌≢◌, ◌∷◌, [], ℕ, List, ap, ap₂, ◌∙◌, refl}
+use Rattle.std.proofs.Common.{◌≡◌, ◌≢◌, ◌∷◌, [], ℕ, suc, zero, List, ap, ap₂, ◌∙◌, arith, drop, length, min, refl}
 use Rattle.std.specs.Prelude.{Some, string_bytes}
 use Rattle.c25_isa.specs.Image.{Contents}
 use Rattle.c25_image.specs.ImageText.{image_text}
@@ -41,3 +41,12 @@ answer_same texts frames entered is = ap said is
 -- a fault that is no want of memory in its line is none at all
 pub some_fault : (name : List ℕ) (fault : ProfileFault) → of_profile_fault name fault ≢ OfMemory → fault ≢ faults.NoMemory
 some_fault name fault some e = some (ap (of_profile_fault name) e)
+
+-- where the frames or the numbers end, so do the rows
+pub rows_end : (frames : List Frame) (entered : List ℕ) (k : ℕ) → k ≡ min (length frames) (length entered) → profile_rows (drop k frames) (drop k entered) ≡ []
+rows_end [] entered zero e = refl
+rows_end [] entered (suc k) e = absurd (omega (arith, e))
+rows_end (f ∷ frames) [] zero e = refl
+rows_end (f ∷ frames) [] (suc k) e = absurd (omega (arith, e))
+rows_end (f ∷ frames) (x ∷ entered) zero e = absurd (omega (arith, e))
+rows_end (f ∷ frames) (x ∷ entered) (suc k) e = rows_end frames entered k (omega (arith, e))

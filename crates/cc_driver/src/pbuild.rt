@@ -74,12 +74,16 @@ fn row(alloc: Global, frame: &CertFrame, entries: u64) -> Result<ProfileRow, NoM
     })
 }
 
-// A row for each function. There are as many numbers of entries as frames.
-fn rows(alloc: Global, profiled: &Profiled) -> Result<Vec<ProfileRow>, NoMemory>
-    ensures { IfOk result (λ rows. rows.items ≡ profile_rows profiled.now.cert profiled.now.entered.items) }
+// A row for each frame and how often blocks of its function are entered.
+fn rows(
+    alloc: Global,
+    frames: &[CertFrame],
+    entered: &[u64],
+) -> Result<Vec<ProfileRow>, NoMemory>
+    ensures { IfOk result (λ rows. rows.items ≡ profile_rows frames.now entered.now) }
 {
     let mut rows = Vec::new(alloc);
-    for (frame, entries) in profiled.cert.frames.iter().zip(&profiled.entered) {
+    for (frame, entries) in frames.iter().zip(entered) {
         rows.push(row(alloc, frame, *entries)?)?;
     }
     Ok(rows)
@@ -93,7 +97,7 @@ fn texts_of(alloc: Global, profiled: &Profiled, image: &str) -> Result<Texts, No
     ensures certificate { IfOk result (λ texts. texts.certificate.items ≡ cert_text profiled.now.cert) }
     ensures report { IfOk result (λ texts. texts.report.items ≡ profile_lines (profile_rows profiled.now.cert profiled.now.entered.items)) }
 {
-    let rows = rows(alloc, profiled)?;
+    let rows = rows(alloc, &profiled.cert.frames, &profiled.entered)?;
     Ok(Texts {
         image: write_image(alloc, &profiled.image)?,
         name: weighted_name(alloc, image)?,
@@ -128,10 +132,11 @@ fn profiled<'a, R: Threads + Sync>(
         Err(fault) => return Err(Refusal::of_ports(asked.ports, fault)),
     };
     let options = options(asked);
-    match profile_build(rt, alloc, &OpenGate, &files.first, &first, &ports, options) {
-        Ok(profiled) => Ok(texts_of(alloc, &profiled, asked.image)?),
-        Err(fault) => Err(Refusal::of_profile(asked.first, fault)),
-    }
+    let profiled = match profile_build(rt, alloc, &OpenGate, &files.first, &first, &ports, options) {
+        Ok(profiled) => profiled,
+        Err(fault) => return Err(Refusal::of_profile(asked.first, fault)),
+    };
+    Ok(texts_of(alloc, &profiled, asked.image)?)
 }
 
 /// Compiles a source with layouts for a recorded run, stores its image and then its certificate, and answers a line for each function.
