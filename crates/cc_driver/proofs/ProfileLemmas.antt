@@ -6,12 +6,10 @@ use Rattle.c25_image.specs.ImageText.{image_text}
 use Rattle.cc_check.specs.lay_cert.Frames.{Frame}
 use Rattle.cc_check.specs.lay_cert.CertText.{cert_text}
 use Rattle.cc_report.specs.Profile.{profile_lines}
-use Rattle.cc_files.specs.lay_profile.Recordings.{AreProfileOptions, Recording}
-use Rattle.cc_files.specs.lay_profile.Profiles.{HasFault}
+use Rattle.cc_files.specs.lay_profile.Recordings.{AreProfileOptions}
 use Rattle.cc_files.specs.lay_profile.declared.fault.ProfileFault.{ProfileFault}
 use Rattle.cc_files.specs.lay_profile.declared.fault.ProfileFault.TheVariants as faults
-use Rattle.cc_files.specs.lay_profile.declared.options.ProfileOptions.{ProfileOptions}
-use Rattle.cc_files.specs.cc_text.Refusals.{Why, OfMemory, of_profile_fault}
+use Rattle.cc_files.specs.cc_text.Refusals.{OfMemory, of_profile_fault}
 use Rattle.cc_words.specs.Asked.{ToPbuild}
 use Rattle.cc_words.specs.Bounds.{IsWithinBounds}
 use Rattle.cc_answers.specs.Answers.{Answered}

@@ -75,11 +75,7 @@ fn row(alloc: Global, frame: &CertFrame, entries: u64) -> Result<ProfileRow, NoM
 }
 
 // A row for each frame and how often blocks of its function are entered.
-fn rows(
-    alloc: Global,
-    frames: &[CertFrame],
-    entered: &[u64],
-) -> Result<Vec<ProfileRow>, NoMemory>
+fn rows(alloc: Global, frames: &[CertFrame], entered: &[u64]) -> Result<Vec<ProfileRow>, NoMemory>
     ensures { IfOk result (λ rows. rows.items ≡ profile_rows frames.now entered.now) }
 {
     let mut rows = Vec::new(alloc);
@@ -132,7 +128,15 @@ fn profiled<'a, R: Threads + Sync>(
         Err(fault) => return Err(Refusal::of_ports(asked.ports, fault)),
     };
     let options = options(asked);
-    let profiled = match profile_build(rt, alloc, &OpenGate, &files.first, &first, &ports, options) {
+    let profiled = match profile_build(
+        rt,
+        alloc,
+        &OpenGate,
+        &files.first,
+        &first,
+        &ports,
+        options,
+    ) {
         Ok(profiled) => profiled,
         Err(fault) => return Err(Refusal::of_profile(asked.first, fault)),
     };
