@@ -1,7 +1,7 @@
 -- The told files come to one thing or are refused for one, for each command.
-use Rattle.std.proofs.Common.{◌≡◌, ◌≢◌, ◌∙◌, ◌++◌, ℕ, List, [], ◌∷◌, length, refl, sym, ap, subst, lit<, IsTrue}
+use Rattle.std.proofs.Common.{◌≡◌, ◌≢◌, ◌∙◌, ◌++◌, ℕ, List, [], ◌∷◌, length, refl, sym, ap, ap₂, subst, lit<, IsTrue}
 use Rattle.std.specs.Prelude.{Result, Ok, Err}
-use Rattle.cc_words.specs.Asked.{Asked, ToBuild, ToRun, ToEvaluate, ToExecute, ToLayOut, ToCheck, ToAssemble, ToList, ToGenerate, ToDebug, ToExpand, ToJoin}
+use Rattle.cc_words.specs.Asked.{Asked, ToBuild, ToRun, ToEvaluate, ToExecute, ToLayOut, ToCheck, ToAssemble, ToList, ToGenerate, ToDebug, ToExpand, ToJoin, ToPbuild}
 use Rattle.word_base.specs.Ports.{Outputs, input_of}
 use Rattle.c_tree.specs.SourceRun.{source_run}
 use Rattle.c25_isa.specs.Image.{Contents}
@@ -32,6 +32,12 @@ use Rattle.cc_files.proofs.cc_compile.OneImage.{one as one_image, frames_same}
 use Rattle.cc_files.specs.cc_compile.SourceFaults.{HasProgram, IsAccepted}
 use Rattle.cc_files.proofs.cc_compile.OneFault.{accepted_no_fault, program_no_fault, same_program}
 use Rattle.cc_files.specs.cc_compile.Compiles.{IsBuilt}
+use Rattle.cc_files.specs.lay_profile.declared.fault.ProfileFault.{ProfileFault}
+use Rattle.cc_files.specs.lay_profile.declared.fault.ProfileFault.TheVariants as profile_faults
+use Rattle.cc_files.specs.lay_profile.declared.options.ProfileOptions.{ProfileOptions}
+use Rattle.cc_files.specs.lay_profile.Profiles.{IsProfiled, HasFault}
+use Rattle.cc_files.specs.lay_profile.Recordings.{Recording, recording_of}
+use Rattle.cc_files.proofs.lay_profile.OneProfile.{one_framed as one_weighted, one_entered, profiled_no_fault, other_source_alone, memory_no_fault}
 use Rattle.cc_files.proofs.c_macro.OneOutcome.{outcome_one}
 use Rattle.cc_files.proofs.c_units.OneOutcome.{joined_not}
 use Rattle.cc_files.proofs.FetchLemmas.{with_bytes, same_contents}
@@ -40,7 +46,7 @@ use Rattle.cc_files.specs.c_syntax.declared.token.Token.{Token}
 use Rattle.cc_files.specs.c_units.Joining.{Joins}
 use Rattle.cc_gen.specs.Generated.{generated}
 use Rattle.cc_answers.specs.Answers.{Answered}
-use Rattle.cc_files.specs.cc_text.Refusals.{Why, refusal_status}
+use Rattle.cc_files.specs.cc_text.Refusals.{Why, refusal_status, of_profile_fault}
 use Rattle.cc_answers.specs.RunText.{run_answer}
 use Rattle.cc_answers.specs.MeansText.{means_answer}
 use Rattle.cc_answers.specs.LayoutText.{layout_answer}
@@ -63,6 +69,8 @@ use Rattle.cc_driver.specs.Debug.{DebugsTo, DebugRefused, session_answer}
 use Rattle.cc_driver.specs.Debug as debug
 use Rattle.cc_driver.specs.Pre.{ExpandsTo, ExpandRefused}
 use Rattle.cc_driver.specs.Join.{JoinsTo, JoinRefused}
+use Rattle.cc_driver.specs.Profile.{recorded_options, profile_of, ProfilesTo, ProfileRefused}
+use Rattle.cc_driver.specs.Profile as profile
 use Rattle.cc_driver.specs.Commands.{files_of, stores_under, Comes, Rejects}
 use Rattle.cc_files.specs.Puts.{IsStatus}
 use Rattle.cc_driver.proofs.StatusLemmas.{of_report, of_stop, of_summary, of_outcome, of_check}
@@ -83,6 +91,7 @@ comes_told (ToGenerate number) shelf answer texts c = tt {0}
 comes_told (ToDebug image ports script) shelf answer texts c = ((c.0.bytes, c.0.fetched), ((c.0.more, c.0.also), ((c.0.last, c.0.too), tt {0})))
 comes_told (ToExpand source output) shelf answer texts c = ((c.bytes, c.fetched), tt {0})
 comes_told (ToJoin output sources) shelf answer texts c = with_bytes shelf (files_of (ToJoin output sources)) c.contents c.fetched
+comes_told (ToPbuild source first ports image registers budget steps) shelf answer texts c = ((c.bytes, c.fetched), ((c.more, c.also), ((c.last, c.too), tt {0})))
 
 pub refuses_told : (what : Asked) (shelf : Shelves) (why : Why) → Rejects what shelf why → AreFetched shelf (files_of what)
 refuses_told (ToBuild source image registers budget step) shelf why r = ((r.bytes, r.fetched), tt {0})
@@ -97,6 +106,7 @@ refuses_told (ToGenerate number) shelf why r = tt {0}
 refuses_told (ToDebug image ports script) shelf why r = ((r.bytes, r.fetched), ((r.more, r.also), ((r.last, r.too), tt {0})))
 refuses_told (ToExpand source output) shelf why r = ((r.bytes, r.fetched), tt {0})
 refuses_told (ToJoin output sources) shelf why r = with_bytes shelf (files_of (ToJoin output sources)) r.contents r.fetched
+refuses_told (ToPbuild source first ports image registers budget steps) shelf why r = ((r.bytes, r.fetched), ((r.more, r.also), ((r.last, r.too), tt {0})))
 
 -- ---- stores
 
@@ -121,6 +131,7 @@ some_store (ToGenerate number) shelf answer texts c h = none_fails (ToGenerate n
 some_store (ToDebug image ports script) shelf answer texts c h = none_fails (ToDebug image ports script) shelf texts c.1 h
 some_store (ToExpand source output) shelf answer texts c h = λ e. cc
 some_store (ToJoin output sources) shelf answer texts c h = λ e. cc
+some_store (ToPbuild source first ports image registers budget steps) shelf answer texts c h = λ e. cc
 
 -- ---- ports
 
@@ -365,6 +376,69 @@ join_not name c d a s why same j r = joined_not d j.joined.tokens r.fault (subst
 join_status_one : (contents : List (List ℕ)) (why : Why) → JoinRefused contents why → refusal_status why ≡ 1
 join_status_one contents why r = ap refusal_status r.is
 
+-- ---- pbuild
+
+one_recording : (i p : List ℕ) (steps : ℕ) (a b : Contents) (ks ls : List (ℕ × ℕ)) → IsImageOf a i → IsImageOf b i → PortText p ks → PortText p ls → recording_of a ks steps ≡ recording_of b ls steps
+one_recording i p steps a b ks ls h k m n = ap (λ x. recording_of x ks steps) (one_contents i a b h k) ∙ ap (λ l. recording_of b l steps) (one_port_text p ks ls m n)
+
+profile_one : (o : ProfileOptions) (name s i p : List ℕ) (a b : Answered) (t u : List Stored) → ProfilesTo o name s i p a t → ProfilesTo o name s i p b u → a ≡ b
+profile_one o name s i p a b t u c d =
+    let r = recording_of d.first d.lines o.steps in
+    let same = one_recording i p o.steps c.first d.first c.lines d.lines c.recorded d.recorded c.ports d.ports in
+    let here : IsProfiled o s r c.image c.frames c.entered = subst (λ x. IsProfiled o s x c.image c.frames c.entered) same c.profiled in
+    let frames = one_weighted o s r c.image d.image c.frames d.frames c.entered d.entered here d.profiled in
+    let entered = one_entered o s r c.image d.image c.frames d.frames c.entered d.entered here d.profiled in
+    c.reported ∙ ap₂ profile_of frames entered ∙ sym d.reported
+
+profile_not : (o : ProfileOptions) (name first ports s i p : List ℕ) (a : Answered) (t : List Stored) (why : Why) → ProfilesTo o name s i p a t → ProfileRefused o first ports s i p why → ⊥
+profile_not o name first ports s i p a t why c (profile.BadImage bad) = not_image first i why c.first bad c.recorded
+profile_not o name first ports s i p a t why c (profile.BadPorts contents is bad) = ports_refused ports p why c.lines bad c.ports
+profile_not o name first ports s i p a t why c (profile.SourceThen contents lines is text fault has e) =
+    let same = one_recording i p o.steps c.first contents c.lines lines c.recorded is c.ports text in
+    profiled_no_fault o s (recording_of contents lines o.steps) c.image c.frames c.entered fault (subst (λ r. IsProfiled o s r c.image c.frames c.entered) same c.profiled) has
+
+-- the source is refused with 1, or with 9 where the image is one of another source
+module _ (o : ProfileOptions) (s : List ℕ) (r : Recording) (name : List ℕ) where
+  abbrev profile_status : ProfileFault → ℕ
+  profile_status f = refusal_status (of_profile_fault name f)
+
+  source_status : (f : ProfileFault) → HasFault o s r f → f ≢ profile_faults.OtherSource → profile_status f ≡ 1
+  source_status (profile_faults.Lex why) h some = refl
+  source_status (profile_faults.Parse why) h some = refl
+  source_status (profile_faults.Types why) h some = refl
+  source_status profile_faults.OtherSource h some = absurd (some refl)
+  source_status (profile_faults.Plan why) h some = refl
+  source_status (profile_faults.Link why) h some = refl
+  source_status profile_faults.NoMemory h some = absurd (memory_no_fault o s r h)
+
+  both_of_source : (f g : ProfileFault) → HasFault o s r f → HasFault o s r g → f ≢ profile_faults.OtherSource → profile_status f ≡ profile_status g
+  both_of_source f g h k some =
+      let other : g ≢ profile_faults.OtherSource = λ e. some (other_source_alone o s r f (subst (HasFault o s r) e k) h) in
+      source_status f h some ∙ sym (source_status g k other)
+
+  status_one : (f g : ProfileFault) → HasFault o s r f → HasFault o s r g → profile_status f ≡ profile_status g
+  status_one (profile_faults.Lex why) g h k = both_of_source (profile_faults.Lex why) g h k (λ e. cc)
+  status_one (profile_faults.Parse why) g h k = both_of_source (profile_faults.Parse why) g h k (λ e. cc)
+  status_one (profile_faults.Types why) g h k = both_of_source (profile_faults.Types why) g h k (λ e. cc)
+  status_one profile_faults.OtherSource g h k = ap profile_status (sym (other_source_alone o s r g h k))
+  status_one (profile_faults.Plan why) g h k = both_of_source (profile_faults.Plan why) g h k (λ e. cc)
+  status_one (profile_faults.Link why) g h k = both_of_source (profile_faults.Link why) g h k (λ e. cc)
+  status_one profile_faults.NoMemory g h k = absurd (memory_no_fault o s r h)
+
+profile_refused_one : (o : ProfileOptions) (first ports s i p : List ℕ) (v w : Why) → ProfileRefused o first ports s i p v → ProfileRefused o first ports s i p w → refusal_status v ≡ refusal_status w
+profile_refused_one o first ports s i p v w (profile.BadImage bad) (profile.BadImage worse) = ap refusal_status bad.is ∙ sym (ap refusal_status worse.is)
+profile_refused_one o first ports s i p v w (profile.BadImage bad) (profile.BadPorts c is worse) = ap refusal_status bad.is ∙ sym (ap refusal_status worse.is)
+profile_refused_one o first ports s i p v w (profile.BadImage bad) (profile.SourceThen c lines is text fault has e) = absurd (not_image first i v c bad is)
+profile_refused_one o first ports s i p v w (profile.BadPorts c is bad) (profile.BadImage worse) = ap refusal_status bad.is ∙ sym (ap refusal_status worse.is)
+profile_refused_one o first ports s i p v w (profile.BadPorts c is bad) (profile.BadPorts d also worse) = ap refusal_status bad.is ∙ sym (ap refusal_status worse.is)
+profile_refused_one o first ports s i p v w (profile.BadPorts c is bad) (profile.SourceThen d lines also text fault has e) = absurd (ports_refused ports p v lines bad text)
+profile_refused_one o first ports s i p v w (profile.SourceThen c lines is text fault has e) (profile.BadImage worse) = absurd (not_image first i w c worse is)
+profile_refused_one o first ports s i p v w (profile.SourceThen c lines is text fault has e) (profile.BadPorts d also worse) = absurd (ports_refused ports p w lines worse text)
+profile_refused_one o first ports s i p v w (profile.SourceThen c lines is text fault has e) (profile.SourceThen d more also other fault2 has2 e2) =
+    let r = recording_of d more o.steps in
+    let same = one_recording i p o.steps c d lines more is also text other in
+    ap refusal_status e ∙ status_one o s r first fault fault2 (subst (λ x. HasFault o s x fault) same has) has2 ∙ sym (ap refusal_status e2)
+
 -- ---- all commands
 
 pub comes_one : (what : Asked) (shelf : Shelves) (tells : IsTrue shelf.tells) (a b : Answered) (s t : List Stored) → Comes what shelf a s → Comes what shelf b t → a ≡ b
@@ -400,6 +474,9 @@ comes_one (ToExpand source output) shelf tells a b s t c d =
     let h = one_file shelf tells _ _ _ c d in
     pre_one output h.0 a b s t h.1 h.2
 comes_one (ToJoin output sources) shelf tells a b s t c d = join_one output c.contents d.contents a b s t c.holds d.holds
+comes_one (ToPbuild source first ports image registers budget steps) shelf tells a b s t c d =
+    let h = three_files shelf tells _ _ _ _ _ c d in
+    profile_one (recorded_options registers budget steps) image h.0 h.1.0 h.1.1.0 a b s t h.1.1.1 h.1.1.2
 
 pub comes_not : (what : Asked) (shelf : Shelves) (tells : IsTrue shelf.tells) (a : Answered) (s : List Stored) (why : Why) → Comes what shelf a s → Rejects what shelf why → ⊥
 comes_not (ToBuild source image registers budget step) shelf tells a s why c r =
@@ -435,6 +512,9 @@ comes_not (ToExpand source output) shelf tells a s why c r =
     pre_not output h.0 a s why h.1 h.2
 comes_not (ToJoin output sources) shelf tells a s why c r =
     join_not output c.contents r.contents a s why (same_contents shelf tells (files_of (ToJoin output sources)) c.contents r.contents c.fetched r.fetched) c.holds r.holds
+comes_not (ToPbuild source first ports image registers budget steps) shelf tells a s why c r =
+    let h = three_files shelf tells _ _ _ _ _ c r in
+    profile_not (recorded_options registers budget steps) image first ports h.0 h.1.0 h.1.1.0 a s why h.1.1.1 h.1.1.2
 
 pub refuses_one : (what : Asked) (shelf : Shelves) (tells : IsTrue shelf.tells) (v w : Why) → Rejects what shelf v → Rejects what shelf w → refusal_status v ≡ refusal_status w
 refuses_one (ToBuild source image registers budget step) shelf tells v w r s =
@@ -469,6 +549,9 @@ refuses_one (ToExpand source output) shelf tells v w r s =
     let h = one_file shelf tells _ _ _ r s in
     pre_status_one h.0 v h.1 ∙ sym (pre_status_one h.0 w h.2)
 refuses_one (ToJoin output sources) shelf tells v w r s = join_status_one r.contents v r.holds ∙ sym (join_status_one s.contents w s.holds)
+refuses_one (ToPbuild source first ports image registers budget steps) shelf tells v w r s =
+    let h = three_files shelf tells _ _ _ _ _ r s in
+    profile_refused_one (recorded_options registers budget steps) first ports h.0 h.1.0 h.1.1.0 v w h.1.1.1 h.1.1.2
 
 image_run_status : (words : List ℕ) (lines : List (ℕ × ℕ)) (steps : ℕ) (answer : Answered) → ImageRuns words lines steps answer → IsStatus answer.status
 image_run_status words lines steps answer r = subst (λ a. IsStatus a.status) (sym r.is) (of_stop r.stands)
@@ -489,3 +572,4 @@ comes_status (ToGenerate number) shelf answer texts c =
 comes_status (ToDebug image ports script) shelf answer texts c = subst (λ a. IsStatus a.status) (sym c.0.holds.is) (0, lit< tt, refl)
 comes_status (ToExpand source output) shelf answer texts c = subst (λ a. IsStatus a.status) (sym c.holds.is) (0, lit< tt, refl)
 comes_status (ToJoin output sources) shelf answer texts c = subst (λ a. IsStatus a.status) (sym c.holds.is) (0, lit< tt, refl)
+comes_status (ToPbuild source first ports image registers budget steps) shelf answer texts c = subst (λ a. IsStatus a.status) (sym c.holds.reported) (0, lit< tt, refl)

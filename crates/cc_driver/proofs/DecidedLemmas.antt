@@ -5,7 +5,7 @@ use Rattle.cc_shelf.specs.Counts.{FetchFailed, StoreFailed, Rose}
 use Rattle.cc_words.specs.Asked.{Asked}
 use Rattle.cc_answers.specs.Answers.{Answered}
 use Rattle.cc_files.specs.cc_text.declared.refusal.FileFault.{FileFault}
-use Rattle.cc_files.specs.cc_text.declared.refusal.FileFault.TheVariants.{Read, TooLong, Image, Ports, Sequence, Certificate, Assembly, Script}
+use Rattle.cc_files.specs.cc_text.declared.refusal.FileFault.TheVariants.{Read, TooLong, Image, Ports, Sequence, Certificate, Assembly, Script, OtherSource}
 use Rattle.cc_files.specs.cc_text.Refusals.{Why, file_status, refusal_status}
 use Rattle.cc_files.specs.World.{Shelves, Sinks}
 use Rattle.cc_files.specs.Puts.{PutsText, PutWhole, PutPart, PutNothing}
@@ -68,6 +68,7 @@ module _ (what : Asked) (shelf : Shelves) (tells : IsTrue shelf.tells) where
     missing w true (Certificate why) c = absurd c
     missing w true (Assembly why) c = absurd c
     missing w true (Script why) c = absurd c
+    missing w true OtherSource c = absurd c
     missing w false Read c = NoFile c.1 refl
     missing w false TooLong c = let l = c.0.told tells in LongFile l.0 l.1 l.2 refl
     missing w false (Image why) c = absurd c
@@ -76,6 +77,7 @@ module _ (what : Asked) (shelf : Shelves) (tells : IsTrue shelf.tells) where
     missing w false (Certificate why) c = absurd c
     missing w false (Assembly why) c = absurd c
     missing w false (Script why) c = absurd c
+    missing w false OtherSource c = absurd c
 
     -- a refusal has the status of the first thing that is wrong
     fetch_wrong : (why : Why) (s : ℕ) → NotFetched shelf (files_of what) why → IsWrong what shelf s → (refusal_status why ≡ s) ⊎ (refusal_status why ≡ 5)

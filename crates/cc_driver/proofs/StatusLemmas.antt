@@ -4,7 +4,7 @@ use Rattle.std.specs.Prelude.{if◌then◌else◌}
 use Rattle.c25_isa.specs.Image.{Contents}
 use Rattle.cc_check.specs.CheckText.{all_pass}
 use Rattle.cc_files.specs.cc_text.declared.refusal.FileFault.{FileFault}
-use Rattle.cc_files.specs.cc_text.declared.refusal.FileFault.TheVariants.{Read, TooLong, Image, Ports, Sequence, Certificate, Assembly, Script}
+use Rattle.cc_files.specs.cc_text.declared.refusal.FileFault.TheVariants.{Read, TooLong, Image, Ports, Sequence, Certificate, Assembly, Script, OtherSource}
 use Rattle.cc_files.specs.cc_text.Refusals.{Why, OfFile, OfSource, OfMacros, OfUnits, OfStore, OfMemory, file_status, refusal_status}
 use Rattle.c25_isa.specs.declared.event.Stop.{Stop}
 use Rattle.c25_isa.specs.declared.event.Stop.TheVariants as stop
@@ -30,6 +30,7 @@ of_file (Sequence why) = (9, lit< tt, refl)
 of_file (Certificate why) = (9, lit< tt, refl)
 of_file (Assembly why) = (9, lit< tt, refl)
 of_file (Script why) = (9, lit< tt, refl)
+of_file OtherSource = (9, lit< tt, refl)
 
 of_why : (why : Why) → IsStatus (refusal_status why)
 of_why (OfFile name why) = of_file why

@@ -5,6 +5,7 @@ use Rattle.cc_shelf.specs.Stock.{Stock}
 use Rattle.cc_files.specs.cc_text.Refusals.{Why}
 use Rattle.cc_files.specs.World.{shelves}
 use Rattle.cc_driver.specs.Build.{certificate_name}
+use Rattle.cc_driver.specs.Profile.{weighted_name}
 use Rattle.cc_files.specs.Stores.{Stored, NothingStored, Hold, OnlyUnder, AreStored, FailsAtOne, StopsBehind, StoreStopped, StoresStopped, names_of}
 
 -- the certificate has another name than its image
@@ -12,6 +13,12 @@ pub other_name : (image : List ℕ) → image ≢ certificate_name image
 other_name image e =
     let four : length (codes ".crt") ≡ 4 = refl in
     omega (arith, ap length e, length-append image (codes ".crt"), four)
+
+-- and so has that of weighted frames
+pub other_weighted_name : (image : List ℕ) → image ≢ weighted_name image
+other_weighted_name image e =
+    let four : length (codes ".prf") ≡ 4 = refl in
+    omega (arith, ap length e, length-append image (codes ".prf"), four)
 
 -- nothing is stored
 pub none_stored : (tells : Bool) (first last : Stock) → NothingStored (shelves tells first last) → AreStored [] (shelves tells first last)

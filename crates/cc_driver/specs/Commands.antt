@@ -1,7 +1,7 @@
 -- The commands, a row each: which files one fetches, under which names it stores, what it comes to, and for what its files are refused
 -- (docs/COMMANDS.md).
 use Rattle.std.specs.Prelude.{◌≡◌, ℕ, List, [], ◌∷◌, map}
-use Rattle.cc_words.specs.Asked.{Asked, ToBuild, ToRun, ToEvaluate, ToExecute, ToLayOut, ToCheck, ToAssemble, ToList, ToGenerate, ToDebug, ToExpand, ToJoin}
+use Rattle.cc_words.specs.Asked.{Asked, ToBuild, ToRun, ToEvaluate, ToExecute, ToLayOut, ToCheck, ToAssemble, ToList, ToGenerate, ToDebug, ToExpand, ToJoin, ToPbuild}
 use Rattle.cc_answers.specs.Answers.{Answered}
 use Rattle.cc_files.specs.cc_text.Refusals.{Why}
 use Rattle.cc_files.specs.World.{Shelves}
@@ -19,6 +19,7 @@ use Rattle.cc_driver.specs.Gen.{GeneratesTo, GenerateRefused}
 use Rattle.cc_driver.specs.Debug.{script_file, DebugsTo, DebugRefused}
 use Rattle.cc_driver.specs.Pre.{ExpandsTo, ExpandRefused}
 use Rattle.cc_driver.specs.Join.{JoinsTo, JoinRefused}
+use Rattle.cc_driver.specs.Profile.{recorded_options, weighted_name, ProfilesTo, ProfileRefused}
 
 -- the files that a command fetches, in this order
 abbrev pub files_of : Asked → List Wanted
@@ -34,6 +35,7 @@ files_of (ToGenerate number) = []
 files_of (ToDebug image ports script) = image_file image ∷ ports_file ports ∷ script_file script ∷ []
 files_of (ToExpand source output) = source_file source ∷ []
 files_of (ToJoin output sources) = map source_file sources
+files_of (ToPbuild source first ports image registers budget steps) = source_file source ∷ image_file first ∷ ports_file ports ∷ []
 
 -- the names under which a command stores, in this order
 abbrev pub stores_under : Asked → List (List ℕ)
@@ -49,6 +51,7 @@ stores_under (ToGenerate number) = []
 stores_under (ToDebug image ports script) = []
 stores_under (ToExpand source output) = output ∷ []
 stores_under (ToJoin output sources) = output ∷ []
+stores_under (ToPbuild source first ports image registers budget steps) = image ∷ weighted_name image ∷ []
 
 -- the bytes of two files have a property
 pub record FilesHave (shelf : Shelves) (first second : Wanted) (P : List ℕ → List ℕ → Type 0) : Type 0 where
@@ -95,6 +98,9 @@ Comes (ToDebug image ports script) shelf answer texts =
     ThreeFilesHave shelf (image_file image) (ports_file ports) (script_file script) (λ i p s. DebugsTo i p s answer) × (texts ≡ [])
 Comes (ToExpand source output) shelf answer texts = FileHas shelf (source_file source) (λ s. ExpandsTo output s answer texts)
 Comes (ToJoin output sources) shelf answer texts = AllHave shelf (map source_file sources) (λ ss. JoinsTo output ss answer texts)
+Comes (ToPbuild source first ports image registers budget steps) shelf answer texts =
+    ThreeFilesHave shelf (source_file source) (image_file first) (ports_file ports)
+    (λ s i p. ProfilesTo (recorded_options registers budget steps) image s i p answer texts)
 
 -- for what a command refuses its files, which all fit
 abbrev pub Rejects : Asked → Shelves → Why → Type 0
@@ -116,3 +122,6 @@ Rejects (ToDebug image ports script) shelf why =
     ThreeFilesHave shelf (image_file image) (ports_file ports) (script_file script) (λ i p s. DebugRefused image ports script i p s why)
 Rejects (ToExpand source output) shelf why = FileHas shelf (source_file source) (λ s. ExpandRefused s why)
 Rejects (ToJoin output sources) shelf why = AllHave shelf (map source_file sources) (λ ss. JoinRefused ss why)
+Rejects (ToPbuild source first ports image registers budget steps) shelf why =
+    ThreeFilesHave shelf (source_file source) (image_file first) (ports_file ports)
+    (λ s i p. ProfileRefused (recorded_options registers budget steps) first ports s i p why)

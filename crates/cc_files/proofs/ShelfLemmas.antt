@@ -9,7 +9,7 @@ use Rattle.cc_shelf.specs.ShelfAnswers.{AfterFetch, FetchRefused, NoFetchFailed}
 use Rattle.cc_shelf.specs.declared.shelf.ShelfFault.{ShelfFault}
 use Rattle.cc_shelf.specs.declared.shelf.ShelfFault.TheVariants as shelf_faults
 use Rattle.cc_text.specs.declared.refusal.FileFault.{FileFault}
-use Rattle.cc_text.specs.declared.refusal.FileFault.TheVariants.{Read, TooLong, Image, Ports, Sequence, Certificate, Assembly, Script}
+use Rattle.cc_text.specs.declared.refusal.FileFault.TheVariants.{Read, TooLong, Image, Ports, Sequence, Certificate, Assembly, Script, OtherSource}
 use Rattle.cc_text.specs.Refusals.{Why, OfFile, OfMemory}
 use Rattle.cc_files.specs.World.{Shelves, shelves}
 use Rattle.cc_files.specs.Fetches.{Wanted, wanted, of_shelf_fault, fetch_of, IsFetched, AreFetched, AreAsked, NoneFailed, FetchCause, NotFetched, AtFile, ForMemory}
@@ -121,6 +121,7 @@ module _ (tells : Bool) (first between last : Stock) (same : Unchanged first.fil
   still_cause none w true (Certificate why) c = absurd c
   still_cause none w true (Assembly why) c = absurd c
   still_cause none w true (Script why) c = absurd c
+  still_cause none w true OtherSource c = absurd c
   still_cause none w false Read c = (c.0, sym (same w.name) ∙ c.1, c.2 ∙ none)
   still_cause none w false TooLong long = (
     record {
@@ -135,6 +136,7 @@ module _ (tells : Bool) (first between last : Stock) (same : Unchanged first.fil
   still_cause none w false (Certificate why) c = absurd c
   still_cause none w false (Assembly why) c = absurd c
   still_cause none w false (Script why) c = absurd c
+  still_cause none w false OtherSource c = absurd c
 
   -- a file is fetched, and then others are, or as many as there is memory for
   pub both_asked : (w : Wanted) (ws : List Wanted) → NoneFailed (shelves tells first between) (w ∷ []) → NoneFailed (shelves tells between last) ws → NoneFailed (shelves tells first last) (w ∷ ws)

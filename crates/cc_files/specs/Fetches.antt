@@ -7,7 +7,7 @@ use Rattle.cc_shelf.specs.ShelfAnswers.{NoFetchFailed}
 use Rattle.cc_shelf.specs.declared.shelf.ShelfFault.{ShelfFault}
 use Rattle.cc_shelf.specs.declared.shelf.ShelfFault.TheVariants as shelf_faults
 use Rattle.cc_text.specs.declared.refusal.FileFault.{FileFault}
-use Rattle.cc_text.specs.declared.refusal.FileFault.TheVariants.{Read, TooLong, Image, Ports, Sequence, Certificate, Assembly, Script}
+use Rattle.cc_text.specs.declared.refusal.FileFault.TheVariants.{Read, TooLong, Image, Ports, Sequence, Certificate, Assembly, Script, OtherSource}
 use Rattle.cc_text.specs.Refusals.{Why, OfFile, OfMemory}
 use Rattle.cc_files.specs.World.{Shelves}
 
@@ -61,6 +61,7 @@ FetchCause shelf file true (Sequence why) = ⊥
 FetchCause shelf file true (Certificate why) = ⊥
 FetchCause shelf file true (Assembly why) = ⊥
 FetchCause shelf file true (Script why) = ⊥
+FetchCause shelf file true OtherSource = ⊥
 FetchCause shelf file false Read = IsTrue shelf.tells × (shelf.before.files file.name ≡ None) × NoFetchFailed shelf.before.counts shelf.now.counts
 FetchCause shelf file false TooLong = IsLong shelf file × NoFetchFailed shelf.before.counts shelf.now.counts
 FetchCause shelf file false (Image why) = ⊥
@@ -69,6 +70,7 @@ FetchCause shelf file false (Sequence why) = ⊥
 FetchCause shelf file false (Certificate why) = ⊥
 FetchCause shelf file false (Assembly why) = ⊥
 FetchCause shelf file false (Script why) = ⊥
+FetchCause shelf file false OtherSource = ⊥
 
 -- the refusal to which a fault of the shelf leads
 abbrev pub of_shelf_fault : List ℕ → ShelfFault → Why

@@ -1,4 +1,5 @@
 pub use Rattle.cc_text.specs as cc_text
+pub use Rattle.cc_text.specs.lay_profile as lay_profile
 pub use Rattle.cc_text.specs.cc_compile as cc_compile
 pub use Rattle.cc_text.specs.frame_emit as frame_emit
 pub use Rattle.cc_text.specs.frame_layouts as frame_layouts

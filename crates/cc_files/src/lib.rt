@@ -6,8 +6,8 @@ mod output;
 mod shelf;
 
 pub use cc_text::{
-    Built, Options, Refusal, compile, expand, expansions_have_spellings, join_text, runs_tell,
-    token_text, typed_program,
+    Built, Options, ProfileFault, ProfileOptions, Profiled, Refusal, compile, expand,
+    expansions_have_spellings, join_text, profile_build, runs_tell, token_text, typed_program,
 };
 pub use output::{put, refuse, say};
 pub use shelf::{

@@ -75,6 +75,7 @@ pub record Options : Type 0 where
   pub first : Option Text
   pub second : Option Text
   pub third : Option Text
+  pub fourth : Option Text
   pub one : Option Quantity
   pub two : Option Quantity
   pub three : Option Quantity
@@ -104,6 +105,7 @@ options_of t = record {
   first = option_map name_of t.first;
   second = option_map name_of t.second;
   third = option_map name_of t.third;
+  fourth = option_map name_of t.fourth;
   one = option_map quantity_of t.one;
   two = option_map quantity_of t.two;
   three = option_map quantity_of t.three;
@@ -124,9 +126,12 @@ abbrev pub with_several : Option Several → App → App
 with_several None app = app
 with_several (Some s) app = with_rule app (names_rule s.id s.most)
 
+-- a command of its names alone, but for those behind its numbers
+abbrev pub app_of_names : Options → App
+app_of_names o = named o.fourth (named o.third (named o.second (named o.first (new_app o.word))))
+
 abbrev pub app_of_options : Options → App
-app_of_options o =
-    with_several o.rest (numbered o.three (numbered o.two (numbered o.one (named o.third (named o.second (named o.first (new_app o.word)))))))
+app_of_options o = with_several o.rest (numbered o.three (numbered o.two (numbered o.one (app_of_names o))))
 
 -- `clap` takes the words as those of the command
 abbrev pub is_taken : App → List Text → Bool
@@ -170,6 +175,7 @@ pub record Values : Type 0 where
   pub first : Option Text
   pub second : Option Text
   pub third : Option Text
+  pub fourth : Option Text
   pub one : Option ℕ
   pub two : Option ℕ
   pub three : Option ℕ
@@ -180,6 +186,7 @@ values_of_given g = record {
   first = option_map name_of g.first;
   second = option_map name_of g.second;
   third = option_map name_of g.third;
+  fourth = option_map name_of g.fourth;
   one = g.one;
   two = g.two;
   three = g.three;
@@ -192,6 +199,7 @@ values_in o rows = record {
   first = option_and_then (λ id. first_of id rows) o.first;
   second = option_and_then (λ id. first_of id rows) o.second;
   third = option_and_then (λ id. first_of id rows) o.third;
+  fourth = option_and_then (λ id. first_of id rows) o.fourth;
   one = option_and_then (number_in rows) o.one;
   two = option_and_then (number_in rows) o.two;
   three = option_and_then (number_in rows) o.three;

@@ -1,7 +1,7 @@
 //! How `clap` reads the words of a command.
 ghost use Rattle.std.specs.Prelude.{◌≡◌, IfOk, option_map, false};
 ghost use Rattle.clap.specs.Words.{app_of, rule_of};
-ghost use Rattle.cc_options.specs.Options.{app_of_options, name_of, named, numbered, options_of, quantity_of, several_of, with_several};
+ghost use Rattle.cc_options.specs.Options.{app_of_names, app_of_options, name_of, named, numbered, options_of, quantity_of, several_of, with_several};
 
 use crate::table::{Form, Names, Number, Table};
 use clap::builder::ValueParser;
@@ -70,14 +70,22 @@ fn with_names<'a>(
     }
 }
 
-/// How it reads the words of a command.
-pub(crate) fn command_of<'a>(alloc: Global, table: &Table<'a>) -> Result<Command<'a>, AllocError>
-    ensures { IfOk result (λ c. app_of c ≡ app_of_options (options_of table.now)) }
+// The command of the names in front of its numbers.
+fn command_of_names<'a>(alloc: Global, table: &Table<'a>) -> Result<Command<'a>, AllocError>
+    ensures { IfOk result (λ c. app_of c ≡ app_of_names (options_of table.now)) }
 {
     let command = Command::new(alloc, table.name);
     let command = with_name(alloc, command, table.first)?;
     let command = with_name(alloc, command, table.second)?;
     let command = with_name(alloc, command, table.third)?;
+    with_name(alloc, command, table.fourth)
+}
+
+/// How it reads the words of a command.
+pub(crate) fn command_of<'a>(alloc: Global, table: &Table<'a>) -> Result<Command<'a>, AllocError>
+    ensures { IfOk result (λ c. app_of c ≡ app_of_options (options_of table.now)) }
+{
+    let command = command_of_names(alloc, table)?;
     let command = with_number(alloc, command, table.one)?;
     let command = with_number(alloc, command, table.two)?;
     let command = with_number(alloc, command, table.three)?;

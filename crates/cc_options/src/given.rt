@@ -17,6 +17,8 @@ pub struct Given<'a> {
     pub second: Option<&'a str>,
     /// The third name.
     pub third: Option<&'a str>,
+    /// The fourth name.
+    pub fourth: Option<&'a str>,
     /// The first number.
     pub one: Option<u32>,
     /// The second number.
@@ -88,6 +90,7 @@ pub(crate) fn held<'a>(
         first: name_in(matches, table.first),
         second: name_in(matches, table.second),
         third: name_in(matches, table.third),
+        fourth: name_in(matches, table.fourth),
         one: number_in(matches, table.one),
         two: number_in(matches, table.two),
         three: number_in(matches, table.three),

@@ -31,7 +31,7 @@ pub struct Names<'a> {
     pub most: usize,
 }
 
-/// A command of at most three names, which have to be there, behind them at most three numbers, and then further names.
+/// A command of at most four names, which have to be there, behind them at most three numbers, and then further names.
 #[derive(Clone, Copy)]
 pub struct Table<'a> {
     /// The word that chooses the command.
@@ -42,6 +42,8 @@ pub struct Table<'a> {
     pub second: Option<&'a str>,
     /// What its third name is called.
     pub third: Option<&'a str>,
+    /// What its fourth name is called.
+    pub fourth: Option<&'a str>,
     /// Its first number.
     pub one: Option<Number<'a>>,
     /// Its second number.

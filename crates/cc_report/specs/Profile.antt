@@ -6,7 +6,8 @@ use Rattle.cc_report.specs.declared.profile.ProfileRow.{ProfileRow}
 
 -- the four numbers of a function
 abbrev pub profile_counts : ProfileRow → List ℕ
-profile_counts r = count r.scalars (codes " scalars, ") ++ (count r.registers (codes " registers, ") ++ (count r.entries (codes " entries, ") ++ count r.weighted (codes " weighted, ")))
+profile_counts r = count r.scalars (codes " scalars, ")
+    ++ (count r.registers (codes " registers, ") ++ (count r.entries (codes " entries, ") ++ count r.weighted (codes " weighted, ")))
 
 -- the line of a function, with its line feed
 abbrev pub profile_line : ProfileRow → List ℕ

@@ -1,5 +1,5 @@
-//! The reports on a program: a line for each function, with what its frame costs in address instructions, or with how many of them a
-//! recorded run needs.
+//! The reports on a program: a line for each function, with what its frame costs in address instructions, or with what it
+//! costs a recorded run.
 #![tactic(auto)]
 
 mod profile;

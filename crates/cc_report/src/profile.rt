@@ -6,9 +6,9 @@ use crate::report::{claim, push_count};
 use std::alloc::Global;
 use word_base::{NoMemory, Text};
 
-/// What is told of a function of a recorded run: its name, the scalars of its frame, temporaries among them, for how many address
-/// registers they are laid out, how often its blocks are entered, how many address instructions the entered blocks need by the layout,
-/// and whether no layout needs fewer.
+/// What is told of a function of a recorded run: its name, the scalars of its frame, temporaries among them, for how
+/// many address registers they are laid out, how often its blocks of accesses are entered in all, how many address
+/// instructions the entered blocks need by the layout, each as often as it is entered, and whether no layout needs fewer.
 #[derive(Drop)]
 pub struct ProfileRow {
     pub name: Text,
@@ -42,8 +42,8 @@ fn push_row(text: &mut Vec<u8>, row: &ProfileRow) -> Result<(), NoMemory>
     Ok(())
 }
 
-/// The text of a report on layouts for a recorded run: a line for each row, in order, with a line feed behind each. Only the want of
-/// memory is refused.
+/// The text of a report on layouts for a recorded run: a line for each row, in order, with a line feed behind each.
+/// Only the want of memory is refused.
 pub fn profile_text(alloc: Global, rows: &[ProfileRow]) -> Result<Vec<u8>, NoMemory>
     ensures { IfOk result (λ text. text.items ≡ profile_lines rows.now) }
 {

@@ -72,8 +72,8 @@ pub(crate) fn stores_source<R: Threads + Sync + AllocGlobal + Abort>(
     Ok(())
 }
 
-// What the shelf holds under a name.
-fn held<'a>(shelf: &'a MemShelf, name: &str) -> Option<&'a [u8]> {
+/// What the shelf holds under a name.
+pub(crate) fn held<'a>(shelf: &'a MemShelf, name: &str) -> Option<&'a [u8]> {
     for file in shelf.files.iter() {
         if file.name.as_str() == name {
             return Some(file.bytes.as_slice());

@@ -9,6 +9,8 @@ mod expansions;
 #[cfg(test)]
 mod failing_builds;
 #[cfg(test)]
+mod failing_profiles;
+#[cfg(test)]
 mod failing_runs;
 #[cfg(test)]
 mod failing_sessions;

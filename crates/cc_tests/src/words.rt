@@ -1,6 +1,7 @@
 //! Words whose request no run shows: an empty name, which no file has.
 use cc_words::{
-    Asm, Build, Check, Debug, Dis, Exec, Gen, Join, Layout, Means, Pre, Request, Run, requested,
+    Asm, Build, Check, Debug, Dis, Exec, Gen, Join, Layout, Means, Pbuild, Pre, Request, Run,
+    requested,
 };
 use std::alloc::Global;
 use std::test::Fail;
@@ -79,6 +80,20 @@ fn shown(alloc: Global, request: &Option<Request>) -> Result<String, Fail> {
             format!(in alloc; "pre {source} {output}")?
         }
         Some(Request::Join(asked)) => { joining(alloc, asked)? }
+        Some(Request::Pbuild(asked)) => {
+            let Pbuild {
+                source,
+                first,
+                ports,
+                image,
+                registers,
+                budget,
+                steps,
+            } = asked;
+            format!(in alloc;
+                "pbuild {source} {first} {ports} {image} {registers} {budget} {steps}"
+            )?
+        }
     })
 }
 
@@ -97,5 +112,7 @@ fn empty_name(rt: HostRuntime) -> Result<(), Fail> {
     assert_eq!(&rt; request.as_str(), "build  b 1 200000 1");
     let request = answer(rt.alloc(), "join o  b")?;
     assert_eq!(&rt; request.as_str(), "join o  b");
+    let request = answer(rt.alloc(), "pbuild a  p o")?;
+    assert_eq!(&rt; request.as_str(), "pbuild a  p o 1 200000 1000000");
     Ok(())
 }

@@ -10,16 +10,18 @@ use Rattle.c25_image.specs.declared.fault.PortFault.{PortFault}
 use Rattle.c25_image.specs.declared.fault.PortFault.TheVariants as port_faults
 use Rattle.lay_text.specs.declared.fault.SeqFault.{SeqFault}
 use Rattle.lay_text.specs.declared.fault.SeqFault.TheVariants as sequence_faults
-use Rattle.cc_compile.specs.lay_cert.declared.fault.CertFault.{CertFault}
-use Rattle.cc_compile.specs.lay_cert.declared.fault.CertFault.TheVariants as certificate_faults
-use Rattle.cc_compile.specs.declared.fault.BuildFault.{BuildFault}
-use Rattle.cc_compile.specs.declared.fault.BuildFault.TheVariants as build_faults
+use Rattle.lay_profile.specs.cc_compile.lay_cert.declared.fault.CertFault.{CertFault}
+use Rattle.lay_profile.specs.cc_compile.lay_cert.declared.fault.CertFault.TheVariants as certificate_faults
+use Rattle.lay_profile.specs.cc_compile.declared.fault.BuildFault.{BuildFault}
+use Rattle.lay_profile.specs.cc_compile.declared.fault.BuildFault.TheVariants as build_faults
+use Rattle.lay_profile.specs.declared.fault.ProfileFault.{ProfileFault}
+use Rattle.lay_profile.specs.declared.fault.ProfileFault.TheVariants as profile_faults
 use Rattle.c_macro.specs.declared.fault.MacroFault.{MacroFault}
 use Rattle.c_macro.specs.declared.fault.MacroFault.TheVariants as macro_faults
 use Rattle.c_units.specs.declared.fault.UnitFault.{UnitFault}
 use Rattle.c_units.specs.declared.fault.UnitFault.TheVariants as unit_faults
 use Rattle.cc_text.specs.declared.refusal.FileFault.{FileFault}
-use Rattle.cc_text.specs.declared.refusal.FileFault.TheVariants.{Read, TooLong, Image, Ports, Sequence, Certificate, Assembly, Script}
+use Rattle.cc_text.specs.declared.refusal.FileFault.TheVariants.{Read, TooLong, Image, Ports, Sequence, Certificate, Assembly, Script, OtherSource}
 use Rattle.cc_text.specs.declared.refusal.Refusal.{Refusal}
 use Rattle.cc_text.specs.declared.refusal.Refusal.TheVariants as refusal
 
@@ -79,6 +81,16 @@ abbrev pub of_script_fault : List ℕ → ScriptFault → Why
 of_script_fault name script_faults.NoMemory = OfMemory
 of_script_fault name why = OfFile name (Script why)
 
+-- of a source and of the recorded image of this name
+abbrev pub of_profile_fault : List ℕ → ProfileFault → Why
+of_profile_fault name (profile_faults.Lex why) = OfSource (build_faults.Lex why)
+of_profile_fault name (profile_faults.Parse why) = OfSource (build_faults.Parse why)
+of_profile_fault name (profile_faults.Types why) = OfSource (build_faults.Types why)
+of_profile_fault name profile_faults.OtherSource = OfFile name OtherSource
+of_profile_fault name (profile_faults.Plan why) = OfSource (build_faults.Plan why)
+of_profile_fault name (profile_faults.Link why) = OfSource (build_faults.Link why)
+of_profile_fault name profile_faults.NoMemory = OfMemory
+
 -- the line that refuses an image; want of memory has none
 abbrev pub image_line : List ℕ → ImageFault → List ℕ
 image_line name (image_faults.BadLine line) = codes "file refused: " ++ (name ++ (codes " bad line " ++ (decimal line ++ codes "\n")))
@@ -129,6 +141,7 @@ file_line name (Sequence why) = sequence_line name why
 file_line name (Certificate why) = certificate_line name why
 file_line name (Assembly why) = assembly_line name why
 file_line name (Script why) = script_line name why
+file_line name OtherSource = codes "file refused: " ++ (name ++ codes " other source\n")
 
 -- 3 for a file that can't be read, and else 9
 abbrev pub file_status : FileFault → ℕ
@@ -140,6 +153,7 @@ file_status (Sequence why) = 9
 file_status (Certificate why) = 9
 file_status (Assembly why) = 9
 file_status (Script why) = 9
+file_status OtherSource = 9
 
 abbrev pub refusal_status : Why → ℕ
 refusal_status (OfFile name why) = file_status why

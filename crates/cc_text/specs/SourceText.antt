@@ -8,12 +8,12 @@ use Rattle.c_units.specs.c_rules.declared.fault.LimitName.{LimitName}
 use Rattle.c_units.specs.c_rules.declared.fault.LimitName.TheVariants as limits
 use Rattle.c_units.specs.c_rules.declared.fault.TypeFault.{TypeFault}
 use Rattle.c_units.specs.c_rules.declared.fault.TypeFault.TheVariants as type_faults
-use Rattle.cc_compile.specs.frame_layouts.mem_plan.declared.data_plan.PlanFault.{PlanFault}
-use Rattle.cc_compile.specs.frame_layouts.mem_plan.declared.data_plan.PlanFault.TheVariants as plan_faults
-use Rattle.cc_compile.specs.c25_link.declared.fault.LinkFault.{LinkFault}
-use Rattle.cc_compile.specs.c25_link.declared.fault.LinkFault.TheVariants as link_faults
-use Rattle.cc_compile.specs.declared.fault.BuildFault.{BuildFault}
-use Rattle.cc_compile.specs.declared.fault.BuildFault.TheVariants.{Lex, Parse, Types, Plan, Link, NoMemory}
+use Rattle.lay_profile.specs.cc_compile.frame_layouts.mem_plan.declared.data_plan.PlanFault.{PlanFault}
+use Rattle.lay_profile.specs.cc_compile.frame_layouts.mem_plan.declared.data_plan.PlanFault.TheVariants as plan_faults
+use Rattle.lay_profile.specs.cc_compile.c25_link.declared.fault.LinkFault.{LinkFault}
+use Rattle.lay_profile.specs.cc_compile.c25_link.declared.fault.LinkFault.TheVariants as link_faults
+use Rattle.lay_profile.specs.cc_compile.declared.fault.BuildFault.{BuildFault}
+use Rattle.lay_profile.specs.cc_compile.declared.fault.BuildFault.TheVariants.{Lex, Parse, Types, Plan, Link, NoMemory}
 
 -- the line of a fault at a place; what tells the source, where it is one of several, stands before the fault
 abbrev pub place_line : List ℕ → List ℕ → ℕ → List ℕ

@@ -9,7 +9,10 @@ mod unit_text;
 
 pub use c_macro::{expand, expansions_have_spellings};
 pub use c_units::{join_text, token_text};
-pub use cc_compile::{Built, Options, compile, runs_tell, typed_program};
+pub use lay_profile::{
+    Built, Options, ProfileFault, ProfileOptions, Profiled, compile, profile_build, runs_tell,
+    typed_program,
+};
 pub use macro_text::macro_line;
 pub use refusal::{FileFault, Refusal};
 pub use refusal_text::file_line;

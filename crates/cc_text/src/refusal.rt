@@ -1,13 +1,13 @@
 //! Why a command is refused.
 ghost use Rattle.std.specs.Prelude.{◌≡◌};
-ghost use Rattle.cc_text.specs.Refusals.{why_of, of_image_fault, of_port_fault, of_sequence_fault, of_certificate_fault, of_assembly_fault, of_script_fault, refusal_status, file_status};
+ghost use Rattle.cc_text.specs.Refusals.{why_of, of_image_fault, of_port_fault, of_sequence_fault, of_certificate_fault, of_assembly_fault, of_script_fault, of_profile_fault, refusal_status, file_status};
 
 use c_macro::MacroFault;
 use c_units::UnitFault;
 use c25_asm::AsmFault;
 use c25_debug::ScriptFault;
 use c25_image::{ImageFault, PortFault};
-use cc_compile::{BuildFault, CertFault};
+use lay_profile::{BuildFault, CertFault, ProfileFault};
 use lay_text::SeqFault;
 use word_base::NoMemory;
 
@@ -30,6 +30,8 @@ pub enum FileFault {
     Assembly(AsmFault),
     /// It is no script.
     Script(ScriptFault),
+    /// It is the image of another source.
+    OtherSource,
 }
 
 impl FileFault {
@@ -44,7 +46,8 @@ impl FileFault {
             | FileFault::Sequence(_)
             | FileFault::Certificate(_)
             | FileFault::Assembly(_)
-            | FileFault::Script(_) => 9,
+            | FileFault::Script(_)
+            | FileFault::OtherSource => 9,
         }
     }
 }
@@ -141,6 +144,24 @@ impl<'a> Refusal<'a> {
                 name,
                 why: FileFault::Script(why),
             },
+        }
+    }
+
+    /// A source isn't compiled with layouts for a recorded run of the image of this name.
+    pub fn of_profile(name: &'a str, fault: ProfileFault) -> Self
+        ensures { why_of result ≡ of_profile_fault name.now fault }
+    {
+        match fault {
+            ProfileFault::Lex(why) => Refusal::Source(BuildFault::Lex(why)),
+            ProfileFault::Parse(why) => Refusal::Source(BuildFault::Parse(why)),
+            ProfileFault::Types(why) => Refusal::Source(BuildFault::Types(why)),
+            ProfileFault::OtherSource => Refusal::File {
+                name,
+                why: FileFault::OtherSource,
+            },
+            ProfileFault::Plan(why) => Refusal::Source(BuildFault::Plan(why)),
+            ProfileFault::Link(why) => Refusal::Source(BuildFault::Link(why)),
+            ProfileFault::NoMemory => Refusal::NoMemory,
         }
     }
 

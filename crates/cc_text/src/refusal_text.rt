@@ -6,7 +6,7 @@ use crate::refusal::FileFault;
 use c25_asm::AsmFault;
 use c25_debug::ScriptFault;
 use c25_image::{ImageFault, PortFault};
-use cc_compile::CertFault;
+use lay_profile::CertFault;
 use lay_text::SeqFault;
 use std::alloc::Global;
 use word_base::NoMemory;
@@ -126,5 +126,6 @@ pub fn file_line(alloc: Global, name: &str, fault: FileFault) -> Result<String, 
         FileFault::Certificate(why) => certificate_line(alloc, name, why),
         FileFault::Assembly(why) => assembly_line(alloc, name, why),
         FileFault::Script(why) => script_line(alloc, name, why),
+        FileFault::OtherSource => Ok(format!(in alloc; "file refused: {name} other source\n")?),
     }
 }

@@ -3,7 +3,7 @@ ghost use Rattle.std.specs.Prelude.{◌≡◌, IfOk, string_bytes};
 ghost use Rattle.cc_text.specs.SourceText.{source_line, lex_line, parse_line, type_line, plan_line, link_line, place_line, too_many_line, chain_line, limit_line, limit_name};
 
 use c_units::{LexFault, LimitName, ParseFault, TypeFault};
-use cc_compile::{BuildFault, LinkFault, PlanFault};
+use lay_profile::{BuildFault, LinkFault, PlanFault};
 use std::alloc::Global;
 use word_base::{NoMemory, Text};
 

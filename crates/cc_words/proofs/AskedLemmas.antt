@@ -48,6 +48,7 @@ rows_same name.Gen rows = refl
 rows_same name.Debug rows = refl
 rows_same name.Pre rows = refl
 rows_same name.Join rows = refl
+rows_same name.Pbuild rows = rw (byte_fits greatest_registers (omega arith) (one_of (codes "registers") rows)) refl
 
 app_same : (n : Name) → app_of_options (options_of_name n) ≡ app_of_name n
 app_same name.Build = refl
@@ -62,6 +63,7 @@ app_same name.Gen = refl
 app_same name.Debug = refl
 app_same name.Pre = refl
 app_same name.Join = refl
+app_same name.Pbuild = refl
 
 -- each command is a simple one
 simple_name : (n : Name) → is_simple_and_free (app_of_name n) ≡ true
@@ -77,6 +79,7 @@ simple_name name.Gen = refl
 simple_name name.Debug = refl
 simple_name name.Pre = refl
 simple_name name.Join = refl
+simple_name name.Pbuild = refl
 
 pub all_simple : (n : Name) (o : Options) → o ≡ options_of_name n → is_simple_and_free (app_of_options o) ≡ true
 all_simple n o is = ap (λ (p : Options). is_simple_and_free (app_of_options p)) is ∙ ap is_simple_and_free (app_same n) ∙ simple_name n
@@ -107,6 +110,6 @@ no_text word other differ = go (bytes_eq word other) refl
     go false e = e
 
 -- a word that names no command
-pub no_name : (word : Text) → (word ≡ codes "build" → ⊥) → (word ≡ codes "run" → ⊥) → (word ≡ codes "means" → ⊥) → (word ≡ codes "exec" → ⊥) → (word ≡ codes "layout" → ⊥) → (word ≡ codes "check" → ⊥) → (word ≡ codes "asm" → ⊥) → (word ≡ codes "dis" → ⊥) → (word ≡ codes "gen" → ⊥) → (word ≡ codes "debug" → ⊥) → (word ≡ codes "pre" → ⊥) → (word ≡ codes "join" → ⊥) → None ≡ name_of word
-no_name word not_build not_run not_means not_exec not_layout not_check not_asm not_dis not_gen not_debug not_pre not_join =
-    rw (no_text word (codes "build") not_build, no_text word (codes "run") not_run, no_text word (codes "means") not_means, no_text word (codes "exec") not_exec, no_text word (codes "layout") not_layout, no_text word (codes "check") not_check, no_text word (codes "asm") not_asm, no_text word (codes "dis") not_dis, no_text word (codes "gen") not_gen, no_text word (codes "debug") not_debug, no_text word (codes "pre") not_pre, no_text word (codes "join") not_join) refl
+pub no_name : (word : Text) → (word ≡ codes "build" → ⊥) → (word ≡ codes "run" → ⊥) → (word ≡ codes "means" → ⊥) → (word ≡ codes "exec" → ⊥) → (word ≡ codes "layout" → ⊥) → (word ≡ codes "check" → ⊥) → (word ≡ codes "asm" → ⊥) → (word ≡ codes "dis" → ⊥) → (word ≡ codes "gen" → ⊥) → (word ≡ codes "debug" → ⊥) → (word ≡ codes "pre" → ⊥) → (word ≡ codes "join" → ⊥) → (word ≡ codes "pbuild" → ⊥) → None ≡ name_of word
+no_name word not_build not_run not_means not_exec not_layout not_check not_asm not_dis not_gen not_debug not_pre not_join not_pbuild =
+    rw (no_text word (codes "build") not_build, no_text word (codes "run") not_run, no_text word (codes "means") not_means, no_text word (codes "exec") not_exec, no_text word (codes "layout") not_layout, no_text word (codes "check") not_check, no_text word (codes "asm") not_asm, no_text word (codes "dis") not_dis, no_text word (codes "gen") not_gen, no_text word (codes "debug") not_debug, no_text word (codes "pre") not_pre, no_text word (codes "join") not_join, no_text word (codes "pbuild") not_pbuild) refl

@@ -10,7 +10,7 @@ use Rattle.cc_options.specs.Options.{up_to}
 use Rattle.clap.specs.declared.builder.value_parser.ValueParser.TheVariants as parser
 use Rattle.cc_words.specs.declared.name.Name.{Name}
 use Rattle.cc_words.specs.declared.name.Name.TheVariants as name
-use Rattle.cc_words.specs.Asked.{Asked, ToAssemble, ToBuild, ToCheck, ToDebug, ToExpand, ToGenerate, ToJoin, ToList, ToRun, ToEvaluate, ToExecute, ToLayOut, app_of_name, asked_to, both_of, build_of, debug_of, dis_of, gen_of, join_of, name_of, rows_ask, is_number_to, is_taken, layout_of, number_of, number_to, numbered_of}
+use Rattle.cc_words.specs.Asked.{Asked, ToAssemble, ToBuild, ToCheck, ToDebug, ToExpand, ToGenerate, ToJoin, ToList, ToPbuild, ToRun, ToEvaluate, ToExecute, ToLayOut, app_of_name, asked_to, both_of, build_of, debug_of, dis_of, gen_of, join_of, name_of, pbuild_by, pbuild_of, rows_ask, is_number_to, is_taken, layout_of, number_of, number_to, numbered_of}
 use Rattle.cc_words.specs.Commands.{greatest_budget, greatest_program, greatest_registers, greatest_step, greatest_steps, greatest_turns, most_sources}
 use Rattle.cc_words.specs.Bounds.{AsksWithin, IsWithinBounds}
 
@@ -122,6 +122,27 @@ join_bounded rows = parts (first_of (codes "output") rows) (all_of (codes "sourc
     parts (Some output) None = tt
     parts (Some output) (Some sources) = counted output sources (nat_le 1 (length sources) && nat_le (length sources) most_sources) refl
 
+pbuild_bounded : (rows : List Row) → IfSome (pbuild_of rows) IsWithinBounds
+pbuild_bounded rows = names (first_of (codes "source") rows) (first_of (codes "first") rows) (first_of (codes "ports") rows) (first_of (codes "image") rows)
+  where
+    numbers : (s f p i : Text) (m n d : Option ℕ) → number_of (codes "registers") greatest_registers rows ≡ m → number_of (codes "budget") greatest_budget rows ≡ n → number_of (codes "steps") greatest_steps rows ≡ d
+        → IfSome (option_and_then (λ registers. option_and_then (λ budget. option_map (ToPbuild s f p i registers budget) d) n) m) IsWithinBounds
+    numbers s f p i None n d eq_m eq_n eq_d = tt
+    numbers s f p i (Some m) None d eq_m eq_n eq_d = tt
+    numbers s f p i (Some m) (Some n) None eq_m eq_n eq_d = tt
+    numbers s f p i (Some m) (Some n) (Some d) eq_m eq_n eq_d =
+        let registers = given_bounded (codes "registers") greatest_registers rows m eq_m in
+        let budget = given_bounded (codes "budget") greatest_budget rows n eq_n in
+        let steps = given_bounded (codes "steps") greatest_steps rows d eq_d in
+        (registers.0, registers.1, budget.0, budget.1, steps.0, steps.1)
+
+    names : (s f p i : Option Text) → IfSome (pbuild_by s f p i (number_of (codes "registers") greatest_registers rows) (number_of (codes "budget") greatest_budget rows) (number_of (codes "steps") greatest_steps rows)) IsWithinBounds
+    names None f p i = tt
+    names (Some s) None p i = tt
+    names (Some s) (Some f) None i = tt
+    names (Some s) (Some f) (Some p) None = tt
+    names (Some s) (Some f) (Some p) (Some i) = numbers s f p i _ _ _ refl refl refl
+
 -- what holds of what is asked for, where the words are taken
 taken_only : (t : Bool) (o : Option Asked) → IfSome o IsWithinBounds → IfSome (cond t o None) IsWithinBounds
 taken_only true o h = h
@@ -140,6 +161,7 @@ rows_bounded name.Gen = gen_bounded
 rows_bounded name.Debug = debug_bounded
 rows_bounded name.Pre = both_bounded _ _ ToExpand (λ a b. tt)
 rows_bounded name.Join = join_bounded
+rows_bounded name.Pbuild = pbuild_bounded
 
 pub within_asked : AsksWithin
 unfolding asked_to

@@ -5,7 +5,8 @@ use Rattle.std.specs.Prelude.{option_map, option_and_then}
 use Rattle.std.specs.Str.{bytes_eq}
 use Rattle.clap.specs.Words.{App, Row, Text, first_of, matches_of}
 pub use Rattle.cc_options.specs.Options.{is_number_to, is_taken, names_of, names_under, number_of, number_to, texts_of}
-use Rattle.cc_words.specs.Commands.{asm_app, build_app, check_app, debug_app, dis_app, exec_app, gen_app, join_app, layout_app, means_app, pre_app, run_app}
+use Rattle.cc_words.specs.Commands.{asm_app, build_app, check_app, debug_app, dis_app, exec_app, gen_app}
+use Rattle.cc_words.specs.Commands.{join_app, layout_app, means_app, pbuild_app, pre_app, run_app}
 use Rattle.cc_words.specs.Commands.{greatest_budget, greatest_program, greatest_registers, greatest_step}
 use Rattle.cc_words.specs.Commands.{greatest_steps, greatest_turns, most_sources}
 use Rattle.cc_words.specs.declared.name.Name.{Name}
@@ -18,7 +19,9 @@ use Rattle.cc_words.specs.declared.asked.Request.TheVariants as request
 -- evaluate a source on ports with at most so many turns, to compile a source and run it so, to search a
 -- layout of a sequence for so many registers within so large a budget, to check an image by a
 -- certificate, to assemble a text to an image, to list an image, to make a program from a number and
--- run it, to follow a script over an image on ports, to expand a source, or to join sources
+-- run it, to follow a script over an image on ports, to expand a source, to join sources, or to build an
+-- image of a source with layouts, for so many registers, each searched within so large a budget, for the
+-- run of a first image on ports for at most so many steps
 pub data Asked : Type 0 where
   ToBuild : Text → Text → ℕ → ℕ → ℕ → Asked
   ToRun : Text → Text → ℕ → Asked
@@ -32,6 +35,7 @@ pub data Asked : Type 0 where
   ToDebug : Text → Text → Text → Asked
   ToExpand : Text → Text → Asked
   ToJoin : Text → List Text → Asked
+  ToPbuild : Text → Text → Text → Text → ℕ → ℕ → ℕ → Asked
 
 -- a request, as what it asks for
 abbrev pub told : Request → Asked
@@ -48,6 +52,8 @@ told (request.Gen asked) = ToGenerate asked.number
 told (request.Debug asked) = ToDebug asked.image.now asked.ports.now asked.script.now
 told (request.Pre asked) = ToExpand asked.source.now asked.output.now
 told (request.Join asked) = ToJoin asked.output.now (names_of asked.sources)
+told (request.Pbuild asked) =
+    ToPbuild asked.source.now asked.first.now asked.ports.now asked.image.now asked.registers asked.budget asked.steps
 
 -- what names and numbers ask for, each of which may be absent: then for nothing
 abbrev pub both_by : (Text → Text → Asked) → Option Text → Option Text → Option Asked
@@ -73,6 +79,11 @@ debug_by image ports script =
 
 abbrev pub join_by : Option Text → Option (List Text) → Option Asked
 join_by output sources = option_and_then (λ o. option_map (ToJoin o) sources) output
+
+abbrev pub pbuild_by : Option Text → Option Text → Option Text → Option Text → Option ℕ → Option ℕ → Option ℕ → Option Asked
+pbuild_by source first ports image registers budget steps =
+    option_and_then (λ s. option_and_then (λ f. option_and_then (λ p. option_and_then (λ i. option_and_then (λ r. option_and_then (λ b.
+    option_map (ToPbuild s f p i r b) steps) budget) registers) image) ports) first) source
 
 -- what the matches of `build` ask for
 abbrev pub build_of : List Row → Option Asked
@@ -136,6 +147,14 @@ pre_of = both_of (codes "source") (codes "output") ToExpand
 abbrev pub join_of : List Row → Option Asked
 join_of rows = join_by (first_of (codes "output") rows) (names_under (codes "sources") most_sources rows)
 
+-- what the matches of `pbuild` ask for
+abbrev pub pbuild_of : List Row → Option Asked
+pbuild_of rows = pbuild_by (first_of (codes "source") rows) (first_of (codes "first") rows)
+    (first_of (codes "ports") rows) (first_of (codes "image") rows)
+    (number_of (codes "registers") greatest_registers rows)
+    (number_of (codes "budget") greatest_budget rows)
+    (number_of (codes "steps") greatest_steps rows)
+
 -- what the words of a command ask for, of which the first is its name
 unfoldable pub asked_to : App → (List Row → Option Asked) → List Text → Option Asked
 asked_to app of_rows words = if is_taken app words then of_rows (matches_of app words) else None
@@ -176,6 +195,9 @@ asked_to_expand = asked_to pre_app pre_of
 abbrev pub asked_to_join : List Text → Option Asked
 asked_to_join = asked_to join_app join_of
 
+abbrev pub asked_to_pbuild : List Text → Option Asked
+asked_to_pbuild = asked_to pbuild_app pbuild_of
+
 -- the command that a word chooses
 abbrev pub name_of : Text → Option Name
 name_of word = if bytes_eq word (codes "build") then Some name.Build
@@ -189,7 +211,8 @@ name_of word = if bytes_eq word (codes "build") then Some name.Build
     else (if bytes_eq word (codes "gen") then Some name.Gen
     else (if bytes_eq word (codes "debug") then Some name.Debug
     else (if bytes_eq word (codes "pre") then Some name.Pre
-    else (if bytes_eq word (codes "join") then Some name.Join else None)))))))))))
+    else (if bytes_eq word (codes "join") then Some name.Join
+    else (if bytes_eq word (codes "pbuild") then Some name.Pbuild else None))))))))))))
 
 -- how `clap` reads the words of a command
 abbrev pub app_of_name : Name → App
@@ -205,6 +228,7 @@ app_of_name name.Gen = gen_app
 app_of_name name.Debug = debug_app
 app_of_name name.Pre = pre_app
 app_of_name name.Join = join_app
+app_of_name name.Pbuild = pbuild_app
 
 -- what its matches ask for
 abbrev pub rows_ask : Name → List Row → Option Asked
@@ -220,6 +244,7 @@ rows_ask name.Gen = gen_of
 rows_ask name.Debug = debug_of
 rows_ask name.Pre = pre_of
 rows_ask name.Join = join_of
+rows_ask name.Pbuild = pbuild_of
 
 -- what the words ask for, if anything: the first word chooses the command
 abbrev pub asked : List Text → Option Asked

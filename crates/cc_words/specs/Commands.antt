@@ -115,6 +115,18 @@ pre_app = named_app (codes "pre") (codes "source") (codes "output")
 abbrev pub join_app : App
 join_app = with_rule (single_app (codes "join") (codes "output")) (names_rule (codes "sources") most_sources)
 
+-- `pbuild SRC IMG0 PORTS IMG [-r N] [--budget B] [--steps M]`
+abbrev pub pbuild_app : App
+pbuild_app = with_rule
+    (with_rule
+    (with_rule
+    (with_rule
+    (with_rule (named_app (codes "pbuild") (codes "source") (codes "first")) (name_rule (codes "ports")))
+    (name_rule (codes "image")))
+    registers_rule)
+    budget_rule)
+    steps_rule
+
 -- `gen N`
 abbrev pub gen_app : App
 gen_app = with_rule (new_app (codes "gen")) (count_rule (codes "number") greatest_program)

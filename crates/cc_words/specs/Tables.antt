@@ -3,7 +3,7 @@ use Rattle.std.specs.Prelude.{ℕ, nat_lt, Option, Some, None, codes, if◌then�
 use Rattle.clap.specs.Words.{Text}
 use Rattle.cc_options.specs.Options.{Options, Quantity, Several, Values}
 use Rattle.cc_words.specs.Asked.{Asked, ToAssemble, ToCheck, ToEvaluate, ToExecute, ToExpand, ToGenerate}
-use Rattle.cc_words.specs.Asked.{ToList, ToRun, both_by, build_by, debug_by, join_by, layout_by, numbered_by}
+use Rattle.cc_words.specs.Asked.{ToList, ToRun, both_by, build_by, debug_by, join_by, layout_by, numbered_by, pbuild_by}
 use Rattle.cc_words.specs.Commands.{budget_rule, count_rule, greatest_budget, greatest_program, greatest_registers}
 use Rattle.cc_words.specs.Commands.{greatest_step, greatest_steps, greatest_turns, most_sources, registers_rule, step_rule}
 use Rattle.cc_words.specs.Commands.{steps_rule, turns_rule}
@@ -42,6 +42,7 @@ two_names word first second number = record {
   first = Some first;
   second = Some second;
   third = None;
+  fourth = None;
   one = number;
   two = None;
   three = None;
@@ -62,6 +63,7 @@ options_of_name name.Layout = record {
   first = Some (codes "sequence");
   second = None;
   third = None;
+  fourth = None;
   one = Some registers;
   two = Some budget;
   three = None;
@@ -74,6 +76,7 @@ options_of_name name.Dis = record {
   first = Some (codes "image");
   second = None;
   third = None;
+  fourth = None;
   one = None;
   two = None;
   three = None;
@@ -84,6 +87,7 @@ options_of_name name.Gen = record {
   first = None;
   second = None;
   third = None;
+  fourth = None;
   one = Some program;
   two = None;
   three = None;
@@ -96,10 +100,17 @@ options_of_name name.Join = record {
   first = Some (codes "output");
   second = None;
   third = None;
+  fourth = None;
   one = None;
   two = None;
   three = None;
   rest = Some sources;
+}
+options_of_name name.Pbuild = record (two_names (codes "pbuild") (codes "source") (codes "first") (Some registers)) {
+  third = Some (codes "ports");
+  fourth = Some (codes "image");
+  two = Some budget;
+  three = Some steps;
 }
 
 -- a number that a byte holds
@@ -120,3 +131,4 @@ values_ask name.Gen v = option_map ToGenerate v.one
 values_ask name.Debug v = debug_by v.first v.second v.third
 values_ask name.Pre v = both_by ToExpand v.first v.second
 values_ask name.Join v = join_by v.first v.rest
+values_ask name.Pbuild v = pbuild_by v.first v.second v.third v.fourth (byte_of v.one) v.two v.three

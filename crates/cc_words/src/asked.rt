@@ -13,6 +13,7 @@ use crate::join::Join;
 use crate::layout::Layout;
 use crate::means::Means;
 use crate::name::Name;
+use crate::pbuild::Pbuild;
 use crate::pre::Pre;
 use crate::run::Run;
 use cc_options::read;
@@ -34,6 +35,7 @@ pub enum Request<'a> {
     Debug(Debug<'a>),
     Pre(Pre<'a>),
     Join(Join<'a>),
+    Pbuild(Pbuild<'a>),
 }
 
 // What the words of a command ask for, of which the first is its name.

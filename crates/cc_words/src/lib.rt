@@ -14,6 +14,7 @@ mod layout;
 mod means;
 mod name;
 mod options;
+mod pbuild;
 mod pre;
 mod run;
 
@@ -28,5 +29,6 @@ pub use generated::Gen;
 pub use join::Join;
 pub use layout::Layout;
 pub use means::Means;
+pub use pbuild::Pbuild;
 pub use pre::Pre;
 pub use run::Run;

@@ -8,7 +8,9 @@ ghost use Rattle.cc_words.specs.Tables.{options_of_name, values_ask};
 
 use crate::asked::Request;
 use crate::options::{budget, program, registers, sources, step, steps, turns};
-use crate::{asm, build, check, debug, dis, exec, generated, join, layout, means, pre, run};
+use crate::{
+    asm, build, check, debug, dis, exec, generated, join, layout, means, pbuild, pre, run,
+};
 use cc_options::{Given, Number, Table};
 
 /// A command.
@@ -26,6 +28,7 @@ pub(crate) enum Name {
     Debug,
     Pre,
     Join,
+    Pbuild,
 }
 
 impl Name {
@@ -46,6 +49,7 @@ impl Name {
             "debug" => Some(Name::Debug),
             "pre" => Some(Name::Pre),
             "join" => Some(Name::Join),
+            "pbuild" => Some(Name::Pbuild),
             _ => None,
         }
     }
@@ -89,6 +93,13 @@ impl Name {
                 rest: Some(sources()),
                 ..two_names("join", "output", "", None)
             },
+            Name::Pbuild => Table {
+                third: Some("ports"),
+                fourth: Some("image"),
+                two: Some(budget()),
+                three: Some(steps()),
+                ..two_names("pbuild", "source", "first", Some(registers()))
+            },
         }
     }
 
@@ -109,6 +120,7 @@ impl Name {
             Name::Debug => debug::found(&given),
             Name::Pre => pre::found(&given),
             Name::Join => join::found(given),
+            Name::Pbuild => pbuild::found(&given),
         }
     }
 }
@@ -127,6 +139,7 @@ fn two_names<'a>(
         first: Some(first),
         second: Some(second),
         third: None,
+        fourth: None,
         one: number,
         two: None,
         three: None,

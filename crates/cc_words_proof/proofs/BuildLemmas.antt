@@ -77,7 +77,7 @@ attached_empty [] (k ∷ ks) (l ∷ ls) = rw (not_empty k ks, not_empty l ls) re
 attached_empty (k ∷ ks) y [] = rw (not_empty k ks) refl
 attached_empty (k ∷ ks) y (l ∷ ls) = rw (not_empty k ks, not_empty l ls) refl
 
-all_empty : (x y z : Kinds) → is_empty (or_else (or_else (or_else x []) (or_else (or_else y []) [])) (or_else z [])) ≡ (is_empty x && (is_empty y && is_empty z))
+pub all_empty : (x y z : Kinds) → is_empty (or_else (or_else (or_else x []) (or_else (or_else y []) [])) (or_else z [])) ≡ (is_empty x && (is_empty y && is_empty z))
 all_empty [] [] [] = refl
 all_empty [] [] (k ∷ ks) = rw (not_empty k ks) refl
 all_empty [] (k ∷ ks) z = rw (not_empty k ks) refl

@@ -5,3 +5,4 @@ pub mod PlainLemmas
 pub mod LayoutLemmas
 pub mod BuildLemmas
 pub mod AssemblyLemmas
+pub mod PbuildLemmas

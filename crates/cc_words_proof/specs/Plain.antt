@@ -2,7 +2,8 @@
 use Rattle.std.specs.Prelude.{◌≡◌, ◌≢◌, ◌≤◌, ◌<◌, ◌++◌, ℕ, true, false, List, [], ◌∷◌, length, All, codes}
 use Rattle.std.specs.Str.Parse.{digits_value, without_leading_plus}
 use Rattle.clap.specs.Words.{Text}
-use Rattle.cc_words.specs.Asked.{Asked, ToBuild, ToRun, ToEvaluate, ToExecute, ToLayOut, ToCheck, ToAssemble, ToList, ToGenerate, ToDebug, ToExpand, ToJoin}
+use Rattle.cc_words.specs.Asked.{Asked, ToBuild, ToRun, ToEvaluate, ToExecute, ToLayOut, ToCheck, ToAssemble}
+use Rattle.cc_words.specs.Asked.{ToList, ToGenerate, ToDebug, ToExpand, ToJoin, ToPbuild}
 use Rattle.cc_words.specs.Asked.{Asks, AsksNothing, is_number_to, is_plain_word}
 use Rattle.cc_words.specs.Commands.{greatest_budget, greatest_program, greatest_registers, greatest_step}
 use Rattle.cc_words.specs.Commands.{greatest_steps, greatest_turns, most_sources}
@@ -292,3 +293,38 @@ abbrev pub JoinsNoOtherNames : Type 0
 JoinsNoOtherNames = AsksNothing (codes "join" ∷ [])
     × ((a : Text) → is_plain_word a ≡ true → AsksNothing (codes "join" ∷ a ∷ []))
     × OnAllPlain (λ a sources. (rest : List Text) → most_sources < length sources → AsksNothing (codes "join" ∷ a ∷ (sources ++ rest)))
+
+-- a fact of any four words that look like no option
+abbrev pub OnFourPlain : (Text → Text → Text → Text → Type 0) → Type 0
+OnFourPlain P = OnPlain (λ a b. OnPlain (λ c e. P a b c e))
+
+-- `pbuild SRC IMG0 PORTS IMG`
+abbrev pub PbuildsFourNames : Type 0
+PbuildsFourNames = OnFourPlain (λ a b c e. Asks (codes "pbuild" ∷ a ∷ b ∷ c ∷ e ∷ []) (ToPbuild a b c e 1 200000 1000000))
+
+-- `pbuild` with fewer names, or with more, whatever follows
+abbrev pub PbuildsNoOtherNames : Type 0
+PbuildsNoOtherNames = AsksNothing (codes "pbuild" ∷ [])
+    × ((a : Text) → is_plain_word a ≡ true → AsksNothing (codes "pbuild" ∷ a ∷ []))
+    × OnPlain (λ a b. AsksNothing (codes "pbuild" ∷ a ∷ b ∷ []))
+    × OnPlain (λ a b. (c : Text) → is_plain_word c ≡ true → AsksNothing (codes "pbuild" ∷ a ∷ b ∷ c ∷ []))
+    × OnFourPlain (λ a b c e. (word : Text) (rest : List Text) → is_plain_word word ≡ true
+    → AsksNothing (codes "pbuild" ∷ a ∷ b ∷ c ∷ e ∷ word ∷ rest))
+
+-- the words ask for layouts for a recorded run, over the registers, within the budget and for the steps
+-- that three texts write, and for nothing where one of them writes no number of its range
+abbrev pub PbuildsFor : Text → Text → Text → Text → Text → Text → Text → List Text → Type 0
+PbuildsFor a b c e registers budget steps words = WithNumber greatest_registers (λ n.
+    WithNumber greatest_budget (λ m. AsksFor greatest_steps (ToPbuild a b c e n m) steps words)
+    budget words)
+    registers words
+
+-- `pbuild SRC IMG0 PORTS IMG -r N --budget B --steps M`, where N, B and M look like no options
+abbrev pub PbuildsWithAll : Type 0
+PbuildsWithAll = OnFourPlain (λ a b c e. OnPlain (λ n m. (d : Text) → is_plain_word d ≡ true
+    → PbuildsFor a b c e n m d
+    (codes "pbuild" ∷ a ∷ b ∷ c ∷ e ∷ codes "-r" ∷ n ∷ codes "--budget" ∷ m ∷ codes "--steps" ∷ d ∷ [])))
+
+-- `pbuild SRC IMG0 PORTS IMG --step D`, whatever D is and whatever follows: the step is no option here
+abbrev pub PbuildsWithoutStep : Type 0
+PbuildsWithoutStep = OnFourPlain (λ a b c e. (rest : List Text) → AsksNothing (codes "pbuild" ∷ a ∷ b ∷ c ∷ e ∷ codes "--step" ∷ rest))

@@ -4,7 +4,7 @@ ghost use Rattle.cc_words_proof.specs.Plain.{BuildsNoOtherNames, BuildsTwoNames,
 ghost use Rattle.cc_words_proof.specs.Plain.{BuildsWithRegisters, BuildsWithBudget, BuildsWithStep, BuildsWithStepAttached, BuildsWithAll};
 ghost use Rattle.cc_words_proof.specs.Plain.{ChecksTwoNames, ChecksNoOtherNames, AssemblesTwoNames, AssemblesNoOtherNames};
 ghost use Rattle.cc_words_proof.specs.Plain.{DebugsThreeNames, DebugsNoOtherNames, ExpandsTwoNames, ExpandsNoOtherNames};
-ghost use Rattle.cc_words_proof.specs.Plain.{JoinsNames, JoinsNoOtherNames};
+ghost use Rattle.cc_words_proof.specs.Plain.{JoinsNames, JoinsNoOtherNames, PbuildsFourNames, PbuildsNoOtherNames, PbuildsWithAll, PbuildsWithoutStep};
 ghost use Rattle.cc_words_proof.specs.Plain.{ListsOneName, ListsNoOtherNames, GeneratesOneNumber, GeneratesNoOtherWords};
 ghost use Rattle.cc_words_proof.specs.Plain.{RunsWithSteps, RunsWithStepsAttached, RunsWithStepsFirst};
 ghost use Rattle.cc_words_proof.specs.Plain.{ExecutesTwoNames, ExecutesWithSteps, ExecutesWithStepsAttached, ExecutesWithStepsFirst};
@@ -17,7 +17,8 @@ ghost use Rattle.cc_words_proof.specs.Plain.{LaysOutWithBudgetAttached, LaysOutW
 /// ask for a run of other than 1 to 100,000,000 steps, for an evaluation of other than 1 to 1,000,000
 /// turns, for a layout or an image for other than 1 to 4 registers or within a budget of other than 1 to
 /// 1,000,000 nodes, for an image at a step of other than 1 to 8, for a program from a number other than
-/// 1 to 200, or to join other than 1 to 16 sources. It does nothing: its clauses are what callers cite.
+/// 1 to 200, to join other than 1 to 16 sources, or for layouts for a recorded run with numbers other than
+/// `layout` and `run` have. It does nothing: its clauses are what callers cite.
 pub fn plain_words()
     ensures build { BuildsTwoNames }
     ensures build_other { BuildsNoOtherNames }
@@ -63,5 +64,9 @@ pub fn plain_words()
     ensures pre_other { ExpandsNoOtherNames }
     ensures join { JoinsNames }
     ensures join_other { JoinsNoOtherNames }
+    ensures pbuild { PbuildsFourNames }
+    ensures pbuild_other { PbuildsNoOtherNames }
+    ensures pbuild_numbers { PbuildsWithAll }
+    ensures pbuild_step { PbuildsWithoutStep }
     ensures range { AsksWithin }
 {}

@@ -12,3 +12,4 @@ pub mod BuiltShapes
 mod Recordeds
 mod Profiling
 mod Kept
+pub mod OneProfile

@@ -1,11 +1,11 @@
-use Rattle.std.proofs.Common.{ap, subst, ◌∷◌, [], List, length, arith}
+use Rattle.std.proofs.Common.{ap, subst, ◌∙◌, ◌∷◌, [], List, length, arith}
 use Rattle.std.specs.Prelude.{string_bytes}
 use Rattle.cc_files.specs.World.{shelves}
 use Rattle.cc_driver.specs.Build.{source_file}
 use Rattle.cc_driver.specs.BuildTexts.{asked_of, stored_of, answer_of}
 use Rattle.cc_files.specs.Stores.{OnlyUnder}
 use Rattle.cc_driver.specs.Work.{WorkRefused, AtFetch}
-use Rattle.cc_driver.proofs.StoreLemmas.{still_stored, still_under}
+use Rattle.cc_driver.proofs.StoreLemmas.{other_name, still_stored, still_under}
 use Rattle.cc_driver.proofs.WorkLemmas.{files_refuse, still_none_failed, stores_refused}
 use Rattle.cc_files.proofs.PassedOn.{passed_on}
 use Rattle.cc_driver.proofs.build.answer.Goals as goal
@@ -33,6 +33,9 @@ returns-in_err-texts-clause-refused g c =
 
 pub returns-in_err-texts-clause-others : goal.returns-in_err-texts-clause-others
 returns-in_err-texts-clause-others g c = λ n other. c.in_ok-source.ensures.stored.files n
+
+pub store_texts-requires : goal.store_texts-requires
+store_texts-requires g c = λ e. other_name c.args.asked.now.image.now (e ∙ c.in_ok-texts.ensures.name)
 
 pub returns-in_err-store_texts-clause-refused : goal.returns-in_err-store_texts-clause-refused
 returns-in_err-store_texts-clause-refused g c =

@@ -2,6 +2,7 @@ use Rattle.cc_words_proof.proofs.AssemblyLemmas.{asm_other_names, asm_two_names,
 use Rattle.cc_words_proof.proofs.BuildLemmas.{all_behind, budget_behind as build_budget_behind, registers_behind as build_registers_behind, step_attached, step_behind}
 use Rattle.cc_words_proof.proofs.DebugLemmas.{debug_other_names, debug_three_names}
 use Rattle.cc_words_proof.proofs.JoinLemmas.{join_names, join_other_names}
+use Rattle.cc_words_proof.proofs.PbuildLemmas.{pbuild_all_numbers, pbuild_four_names, pbuild_no_step, pbuild_other_names}
 use Rattle.cc_words_proof.proofs.PreLemmas.{pre_other_names, pre_two_names}
 use Rattle.cc_words_proof.proofs.LayoutLemmas.{budget_attached, budget_behind, budget_first, layout_both, layout_both_first, layout_both_turned, layout_one_name, layout_other_names, registers_attached, registers_behind, registers_first}
 use Rattle.cc_words_proof.proofs.PlainLemmas.{check_other_names, check_two_names, exec_steps_attached, exec_steps_behind, exec_steps_first, exec_two_names, means_two_names, other_names, run_two_names, steps_attached, steps_behind, steps_first, turns_attached, turns_behind, turns_first, two_names}
@@ -54,5 +55,9 @@ returns c = record {
   pre_other = pre_other_names;
   join = join_names;
   join_other = join_other_names;
+  pbuild = pbuild_four_names;
+  pbuild_other = pbuild_other_names;
+  pbuild_numbers = pbuild_all_numbers;
+  pbuild_step = pbuild_no_step;
   range = within_asked;
 }
