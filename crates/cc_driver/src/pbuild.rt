@@ -102,7 +102,8 @@ fn texts_of(alloc: Global, profiled: &Profiled, image: &str) -> Result<Texts, No
     })
 }
 
-// The texts of what the source of the first text is compiled to, for a run of the image of the second on the ports of the third.
+// The texts of what the source of the first text is compiled to, for a run of the image of the second on the ports of
+// the third.
 fn profiled<'a, R: Threads + Sync>(
     rt: &R,
     alloc: Global,
@@ -116,8 +117,8 @@ fn profiled<'a, R: Threads + Sync>(
     ensures name { IfOk result (λ texts. string_bytes texts.name ≡ profile.weighted_name asked.now.image.now) }
     // A refusal has its cause, unless memory is wanting.
     ensures refused { IfErr result (λ r. why_of r ≢ OfMemory
-        → ProfileRefused (options_of asked.now) asked.now.first.now asked.now.ports.now files.now.first.items files.now.second.items
-        files.now.third.items (why_of r)) }
+        → ProfileRefused (options_of asked.now) asked.now.first.now asked.now.ports.now
+        files.now.first.items files.now.second.items files.now.third.items (why_of r)) }
 {
     let first = match read_image(alloc, &files.second) {
         Ok(image) => image,
