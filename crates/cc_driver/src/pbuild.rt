@@ -5,7 +5,7 @@ ghost use Rattle.c25_image.specs.ImageText.{image_text};
 ghost use Rattle.cc_check.specs.lay_cert.CertText.{cert_text};
 ghost use Rattle.cc_report.specs.Profile.{profile_lines};
 ghost use Rattle.cc_words.specs.Bounds.{IsWithinBounds};
-ghost use Rattle.cc_files.specs.frame_layouts.Rows as report;
+ghost use Rattle.cc_files.specs.frame_layouts.Rows.{is_optimal};
 ghost use Rattle.cc_files.specs.cc_text.Refusals.{why_of, OfMemory};
 ghost use Rattle.cc_answers.specs.Answers.{answered};
 ghost use Rattle.cc_files.specs.World.{shelves};
@@ -51,8 +51,9 @@ fn weighted_name(alloc: Global, image: &str) -> Result<String, NoMemory>
     Ok(format!(in alloc; "{image}.prf")?)
 }
 
-fn is_optimal(claim: Claim) -> bool
-    ensures { result ≡ report.is_optimal claim }
+// Whether it is claimed that no layout costs less.
+fn claims_least(claim: Claim) -> bool
+    ensures { result ≡ is_optimal claim }
 {
     match claim {
         Claim::Optimal => true,
@@ -70,7 +71,7 @@ fn row(alloc: Global, frame: &CertFrame, entries: u64) -> Result<ProfileRow, NoM
         registers: frame.registers(),
         entries,
         weighted: frame.cost(),
-        optimal: is_optimal(frame.claim()),
+        optimal: claims_least(frame.claim()),
     })
 }
 
@@ -102,7 +103,8 @@ fn texts_of(alloc: Global, profiled: &Profiled, image: &str) -> Result<Texts, No
     })
 }
 
-// The texts of what the source of the first text is compiled to, for a run of the image of the second on the ports of the third.
+// The texts of what the source of the first text is compiled to, for a run of the image of the second on the ports of
+// the third.
 fn profiled<'a, R: Threads + Sync>(
     rt: &R,
     alloc: Global,
@@ -116,8 +118,8 @@ fn profiled<'a, R: Threads + Sync>(
     ensures name { IfOk result (λ texts. string_bytes texts.name ≡ profile.weighted_name asked.now.image.now) }
     // A refusal has its cause, unless memory is wanting.
     ensures refused { IfErr result (λ r. why_of r ≢ OfMemory
-        → ProfileRefused (options_of asked.now) asked.now.first.now asked.now.ports.now files.now.first.items files.now.second.items
-        files.now.third.items (why_of r)) }
+        → ProfileRefused (options_of asked.now) asked.now.first.now asked.now.ports.now
+        files.now.first.items files.now.second.items files.now.third.items (why_of r)) }
 {
     let first = match read_image(alloc, &files.second) {
         Ok(image) => image,

@@ -1,4 +1,5 @@
-//! Builds for recorded runs whose calls fail, each in turn. The answers were decided by hand from docs/COMMANDS.md and docs/FORMATS.md.
+//! Builds for recorded runs whose calls fail, each in turn. The answers were decided by hand from docs/COMMANDS.md and
+//! docs/FORMATS.md.
 use crate::commands::{held, list_of};
 use cc_driver::c25cc;
 use cc_memory::{MemShelf, MemSink};
@@ -20,8 +21,8 @@ const CERTIFICATE: &[u8] =
 
 const REPORT: &str = "main: 0 scalars, 1 registers, 0 entries, 0 weighted, optimal\n";
 
-// Builds a source for the run of an image on the ports of a file where these calls fail, and looks at the status, at what is put, at how
-// many calls there are and how many stores failed, and at what is stored.
+// Builds a source for the run of an image on the ports of a file where these calls fail, and looks at the status, at what
+// is put, at how many calls there are and how many stores failed, and at what is stored.
 fn profiles<R: Threads + Sync + AllocGlobal + Abort>(
     rt: &R,
     files: (&[u8], &[u8], &[u8]),
