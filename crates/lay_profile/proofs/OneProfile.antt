@@ -1,5 +1,8 @@
 -- A source and a recorded image have one outcome: an image with its frames and entries, or a fault.
-use Rattle.std.proofs.Common.{◌≡◌, ◌∙◌, ℕ, List, ap, refl, subst, sym}
+use Rattle.std.proofs.Common.{◌≡◌, ◌≢◌, ◌∙◌, ℕ, List, Ok, Err, ap, refl, subst, sym}
+use Rattle.std.specs.Prelude.{Result, IfErr}
+use Rattle.cc_compile.specs.declared.fault.BuildFault.{BuildFault}
+use Rattle.lay_profile.specs.PartFaults.{of_build_fault}
 use Rattle.c25_isa.specs.Image.{Contents}
 use Rattle.cc_compile.proofs.OneFault.{program_no_fault, same_program}
 use Rattle.cc_compile.proofs.OneImage.{one, frames_same, image_no_link_fault, image_no_plan_fault}
@@ -8,6 +11,9 @@ use Rattle.cc_compile.specs.SourceFaults.{HasProgram, HasTree, IsTypedWith}
 use Rattle.cc_compile.specs.c_tree.TypedTree.{ProgramTree}
 use Rattle.cc_compile.specs.declared.fault.BuildFault.TheVariants as build
 use Rattle.cc_compile.specs.lay_cert.Frames.{Frame}
+use Rattle.cc_compile.specs.Compiles.{IsBuilt}
+use Rattle.cc_compile.specs.frame_layouts.declared.options.Options.{Options}
+use Rattle.lay_profile.proofs.BuiltShapes.{has_shape}
 use Rattle.lay_profile.specs.Profiles.{HasFault, HasLayoutFault, IsProfiled, searched}
 use Rattle.lay_profile.specs.Recordings.{Recording, entered_from, search_options}
 use Rattle.lay_profile.specs.Shapes.{accesses_of}
@@ -69,3 +75,26 @@ module _ (o : ProfileOptions) (bytes : List ℕ) (r : Recording) where
 
   pub memory_no_fault : HasFault o bytes r NoMemory → ⊥
   memory_no_fault f = f.4.2
+
+-- an image that the source is compiled to has the shape of its program, so it isn't one of another source
+pub own_image_accepted : (built : Options) (o : ProfileOptions) (bytes : List ℕ) (r : Recording) (frames : List Frame) → IsBuilt built bytes r.image frames → HasFault o bytes r OtherSource → ⊥
+own_image_accepted built o bytes r frames b f =
+    of_program o bytes r (λ t. HasLayoutFault o r t OtherSource) b.program (b.tokens, b.source, b.lexes, b.is_source, b.typed) f (has_shape built bytes r.image frames b)
+
+-- so no call says that it is
+pub never_other : {A : Type 0} (built : Options) (o : ProfileOptions) (bytes : List ℕ) (r : Recording) (frames : List Frame) (t : ProgramTree) (made : Result A ProfileFault) → IsBuilt built bytes r.image frames → HasProgram bytes t
+    → IfErr made (λ why. why ≢ NoMemory → HasLayoutFault o r t why) → IfErr made (λ why. why ≢ OtherSource)
+never_other built o bytes r frames t (Ok a) b has says = tt
+never_other built o bytes r frames t (Err why) b has says =
+    λ is. own_image_accepted built o bytes r frames b (has.0, has.1, has.2, has.3, (t, has.4, subst (HasLayoutFault o r t) is (says (λ none. apart (sym is ∙ none)))))
+  where
+    apart : OtherSource ≡ NoMemory → ⊥
+    apart e = cc
+
+pub source_fault_apart : (fault : BuildFault) → of_build_fault fault ≢ OtherSource
+source_fault_apart (build.Lex why) = λ e. cc
+source_fault_apart (build.Parse why) = λ e. cc
+source_fault_apart (build.Types why) = λ e. cc
+source_fault_apart (build.Plan why) = λ e. cc
+source_fault_apart (build.Link why) = λ e. cc
+source_fault_apart build.NoMemory = λ e. cc

@@ -21,8 +21,8 @@ pub use cc_compile::{
 };
 pub use fault::ProfileFault;
 pub use laws::{
-    built_images_have_the_shape, places_differ, shapes_are_short, weighed_costs_the_run,
-    weighed_is_a_sequence,
+    built_images_have_the_shape, full_profile_is_large, one_profile, places_differ,
+    shapes_are_short, weighed_costs_the_run, weighed_is_a_sequence,
 };
 pub use options::ProfileOptions;
 pub use profile::{Profiled, profile_build};

@@ -1,8 +1,11 @@
 //! A source is compiled with layouts for a recorded run.
-ghost use Rattle.std.specs.Prelude.{◌≡◌, ◌≢◌, ◌<◌, ◌^◌, length, All, IfOk, IfErr};
+ghost use Rattle.std.specs.Prelude.{◌≡◌, ◌≢◌, ◌<◌, ◌^◌, List, length, All, IfOk, IfErr};
 ghost use Rattle.cc_compile.specs.c_tree.TypedTree.{ProgramTree};
 ghost use Rattle.cc_compile.specs.Selections.{IsSelection, IsSelectionOf};
+ghost use Rattle.cc_compile.specs.Compiles.{IsBuilt};
 ghost use Rattle.cc_compile.specs.frame_layouts.Frames.{ClaimsHold};
+ghost use Rattle.cc_compile.specs.frame_layouts.declared.options.Options.{Options};
+ghost use Rattle.cc_compile.specs.lay_cert.Frames.{Frame};
 ghost use Rattle.lay_profile.specs.declared.fault.ProfileFault.TheVariants as faults;
 ghost use Rattle.lay_profile.specs.Profiles.{HasFault, HasLayoutFault, IsLaidOut, IsProfiled};
 ghost use Rattle.lay_profile.specs.Recordings.{AreProfileOptions, recording_of};
@@ -83,6 +86,8 @@ pub fn profile_build<R: Threads + Sync, G: Gate + Sync>(
     ensures profiled { IfOk result (λ p. IsProfiled options bytes.now (recording_of first.now ports.now options.steps) p.image p.cert p.entered.items) }
     // A frame costs what it says, and where it is claimed to be optimal no layout costs less.
     ensures claims { IfOk result (λ p. All ClaimsHold p.cert) }
+    // An image that the source is compiled to is never refused as one of another source.
+    ensures own_image { (o : Options) (frames : List Frame) → IsBuilt o bytes.now first.now frames → IfErr result (λ why. why ≢ faults.OtherSource) }
     // A refusal has its cause, unless memory is wanting.
     ensures refused { IfErr result (λ why. why ≢ faults.NoMemory → HasFault options bytes.now (recording_of first.now ports.now options.steps) why) }
 {

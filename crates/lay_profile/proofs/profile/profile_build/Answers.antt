@@ -1,7 +1,12 @@
-use Rattle.std.proofs.Common.{arith}
+use Rattle.std.proofs.Common.{◌≢◌, arith}
 use Rattle.cc_compile.specs.c_tree.ProgramView.{program_of}
 use Rattle.lay_profile.specs.Profiles.{searched}
 use Rattle.lay_profile.specs.Recordings.{recording_of}
+use Rattle.lay_profile.specs.PartFaults.{of_build_fault}
+use Rattle.lay_profile.specs.declared.fault.ProfileFault.{ProfileFault}
+use Rattle.lay_profile.specs.declared.fault.ProfileFault.TheVariants as faults
+use Rattle.lay_profile.proofs.FaultLemmas.{passed_on}
+use Rattle.lay_profile.proofs.OneProfile.{never_other, source_fault_apart}
 use Rattle.lay_profile.proofs.Profiling.{ok_then}
 use Rattle.lay_profile.proofs.profile.profile_build.Goals as goal
 
@@ -24,3 +29,14 @@ returns-clause-profiled g c =
           let few = c.programs_weigh_by_nodes.ensures has.1 t has.4 in
           omega (arith, bound, few);
     })
+
+pub returns-clause-own_image : goal.returns-clause-own_image
+returns-clause-own_image g c = λ o frames built.
+    let t = program_of c.in_ok-program.program in
+    let r = recording_of c.args.first.now c.args.ports.now c.args.options.steps in
+    never_other o c.args.options c.args.bytes.now r frames t c.laid_out.result built c.in_ok-program.ensures.typed (c.laid_out.ensures.refused t c.in_ok-selection.ensures)
+
+pub returns-in_err-program-clause-own_image : goal.returns-in_err-program-clause-own_image
+returns-in_err-program-clause-own_image g c = λ o frames built.
+    let given = c.in_err-program.field-0.0 in
+    passed_on c.from_residual.result (of_build_fault given) (λ (why : ProfileFault). why ≢ faults.OtherSource) c.from_residual.ensures.1 (source_fault_apart given)
