@@ -21,8 +21,7 @@ use Rattle.c25_code.specs.Links.{pieces_size}
 use Rattle.c25_link.specs.Linking.{pieces_words}
 use Rattle.image_proof.specs.Agreeing.{EndsInTime, emission_of}
 use Rattle.image_proof.specs.Keeping.{all_pieces as emission_pieces}
-use Rattle.cc_compile.specs.Images.{FrameJobs, EndsWithin, HasImage, all_pieces, layouts}
-use Rattle.cc_compile.proofs.OneImage.{one_plan}
+use Rattle.cc_compile.specs.Images.{FrameJobs, HasImage, all_pieces, layouts}
 
 -- what is so anyway is so of what is made, and so is what follows from two things that are so of it
 pub always_ok : {A E P : Type 0} (r : Result A E) → P → IfOk r (λ a. P)
@@ -59,7 +58,7 @@ pub image_agrees : ForImage (λ t plan words. Agrees (source_run t) words) → (
 image_agrees law o t p gs options same known words arranged emittable chosen image h =
     ∥∥₁_map known (λ is. for_image (λ t plan words. Agrees (source_run t) words) law o t p gs options same is words arranged emittable chosen image h)
 
-pub image_in_time : ForImage EndsInTime → (o : FrameJobs) (t : ProgramTree) (p : ProgramCode) (gs : List FunctionItems) → o.step ≤ 8 → p ≡ lowered_program t → ∥ IsProgram t ∥₁ → ProgramHasWords t → AreArranged p.functions (layouts o) → IsEmittable p gs → gs ≡ selected p
-    → (image : Contents) → HasImage o t image → ∥ EndsWithin o t image ∥₁
+pub image_in_time : ForImage (λ t plan words. EndsInTime t words) → (o : FrameJobs) (t : ProgramTree) (p : ProgramCode) (gs : List FunctionItems) → o.step ≤ 8 → p ≡ lowered_program t → ∥ IsProgram t ∥₁ → ProgramHasWords t → AreArranged p.functions (layouts o) → IsEmittable p gs → gs ≡ selected p
+    → (image : Contents) → HasImage o t image → ∥ EndsInTime t image.words ∥₁
 image_in_time law o t p gs options same known words arranged emittable chosen image h =
-    ∥∥₁_map known (λ is plan planned. subst (λ x. EndsInTime t x image.words) (one_plan o t h.plan plan h.planned planned) (for_image EndsInTime law o t p gs options same is words arranged emittable chosen image h))
+    ∥∥₁_map known (λ is. for_image (λ t plan words. EndsInTime t words) law o t p gs options same is words arranged emittable chosen image h)

@@ -13,3 +13,5 @@ mod DirectLemmas
 mod SourceJobs
 pub mod OneFault
 pub mod FaultLemmas
+pub mod ImageNames
+pub mod Promised

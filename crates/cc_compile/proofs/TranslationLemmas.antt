@@ -3,14 +3,13 @@ use Rattle.std.proofs.Common.{◌≡◌, ◌<◌, ℕ, zero, suc, List, [], ◌�
 use Rattle.std.specs.Prelude.{All, slice_get, slice_index_or, Some, Result, Ok, Err, IfOk, IfErr, IsErrAnd}
 use Rattle.std.proofs.Math.Logic.{∥∥₁_map}
 use Rattle.word_base.specs.Ports.{Input, IsInput}
-use Rattle.c_tree.specs.SourceRun.{source_run}
 use Rattle.c_tree.specs.TypedTree.{ProgramTree}
 use Rattle.c_tree.specs.WellFormedProgram.{IsProgram}
 use Rattle.c_tree.specs.TypedOfWords.{ProgramHasWords}
 use Rattle.image_proof.specs.acc_select.Selected.{selected}
-use Rattle.image_proof.specs.ir_semantics.Keeps.{acc_run, tree_run}
+use Rattle.image_proof.specs.ir_semantics.Keeps.{Keeps, acc_run, tree_run}
+use Rattle.image_proof.specs.ir_semantics.SourceWork.{worked_run}
 use Rattle.image_proof.specs.ir_semantics.Outside.{Places}
-use Rattle.image_proof.specs.tree_code_proof.Lowering.{KeepsSource}
 use Rattle.image_proof.specs.tree_code_proof.Surroundings.{ArePlaces}
 use Rattle.frame_layouts.specs.mem_plan.Plan.{AreArranged, IsPlan}
 use Rattle.image_proof.specs.PlanPlaces.{places_of}
@@ -55,7 +54,7 @@ ok_then (Err e) h k = tt
 -- the law of runs for the layouts of a program
 abbrev pub RunsKept : Type 0
 RunsKept = (t : ProgramTree) (arrangements : List (List (List ℕ))) (plan : DataPlan) (input : Input) (n : ℕ) → IsProgram t → ProgramHasWords t → AreArranged (lowered_program t).functions arrangements → IsPlan (lowered_program t) arrangements plan → IsInput input
-    → KeepsSource (source_run t input n) (acc_run (places_of plan) (lowered_program t) (selected (lowered_program t)) input n)
+    → Keeps (worked_run t input n) (acc_run (places_of plan) (lowered_program t) (selected (lowered_program t)) input n)
 
 pub runs_kept : RunsKept → (o : FrameJobs) (t : ProgramTree) (p : ProgramCode) → p ≡ lowered_program t → ∥ IsProgram t ∥₁ → ProgramHasWords t → AreArranged p.functions (layouts o) → ∥ KeepsRuns o t ∥₁
 runs_kept law o t p same known words arranged =
@@ -63,7 +62,7 @@ runs_kept law o t p same known words arranged =
 
 -- the law of lowering for a plan of the program
 abbrev pub TreesKept : Type 0
-TreesKept = (q : Places) (t : ProgramTree) (input : Input) (n : ℕ) → IsProgram t → ProgramHasWords t → ArePlaces q t → IsInput input → KeepsSource (source_run t input n) (tree_run q (lowered_program t) input n)
+TreesKept = (q : Places) (t : ProgramTree) (input : Input) (n : ℕ) → IsProgram t → ProgramHasWords t → ArePlaces q t → IsInput input → Keeps (worked_run t input n) (tree_run q (lowered_program t) input n)
 
 abbrev pub PlansHavePlaces : Type 0
 PlansHavePlaces = (t : ProgramTree) (arrangements : List (List (List ℕ))) (plan : DataPlan) → IsProgram t → AreArranged (lowered_program t).functions arrangements → IsPlan (lowered_program t) arrangements plan → ArePlaces (places_of plan) t

@@ -51,16 +51,16 @@ same_costs cost (b ∷ bs) =
     by first less more left right l r e = omega (arith, l, r, e)
 
 -- the frame of a number is that of the function, of the job and of the plan of that number
-record IsFrameAt (gs : List FunctionItems) (jobs : List Job) (plans : List FramePlan) (k : ℕ) (f : Frame) : Type 0 where
-  g : FunctionItems
-  job : Job
-  plan : FramePlan
-  g_at : slice_get gs k ≡ Some g
-  job_at : slice_get jobs k ≡ Some job
-  plan_at : slice_get plans k ≡ Some plan
-  is : frame_of g job plan.bases ≡ f
+pub record IsFrameAt (gs : List FunctionItems) (jobs : List Job) (plans : List FramePlan) (k : ℕ) (f : Frame) : Type 0 where
+  pub g : FunctionItems
+  pub job : Job
+  pub plan : FramePlan
+  pub g_at : slice_get gs k ≡ Some g
+  pub job_at : slice_get jobs k ≡ Some job
+  pub plan_at : slice_get plans k ≡ Some plan
+  pub is : frame_of g job plan.bases ≡ f
 
-frame_at : (gs : List FunctionItems) (jobs : List Job) (plans : List FramePlan) (k : ℕ) (f : Frame) → slice_get (frames_of gs jobs plans) k ≡ Some f → IsFrameAt gs jobs plans k f
+pub frame_at : (gs : List FunctionItems) (jobs : List Job) (plans : List FramePlan) (k : ℕ) (f : Frame) → slice_get (frames_of gs jobs plans) k ≡ Some f → IsFrameAt gs jobs plans k f
 frame_at [] jobs plans k f is = absurd cc
 frame_at (g ∷ gs) [] plans k f is = absurd cc
 frame_at (g ∷ gs) (job ∷ jobs) [] k f is = absurd cc

@@ -2,7 +2,6 @@
 -- certificate. A command chooses how frames are laid out.
 use Rattle.std.specs.Prelude.{◌≡◌, ℕ, ◌<◌, ◌≤◌, List, ◌++◌, map, slice_get, Some, All}
 use Rattle.word_base.specs.Ports.{Input, IsInput}
-use Rattle.c_tree.specs.SourceRun.{source_run}
 use Rattle.c_tree.specs.TypedTree.{ProgramTree}
 use Rattle.tree_code.specs.WordTree.{ProgramCode}
 use Rattle.tree_code.specs.Lowered.{lowered_program}
@@ -14,10 +13,10 @@ use Rattle.frame_layouts.specs.mem_plan.declared.data_plan.PlanFault.TheVariants
 use Rattle.frame_layouts.specs.mem_plan.Plan.{IsPlan, IsTooLarge}
 use Rattle.image_proof.specs.frame_emit.Emitted.{emitted}
 use Rattle.image_proof.specs.acc_select_proof.SourceSequences.{source_sequence}
-use Rattle.image_proof.specs.ir_semantics.Keeps.{acc_run, tree_run}
-use Rattle.image_proof.specs.tree_code_proof.Lowering.{KeepsSource}
+use Rattle.image_proof.specs.ir_semantics.Keeps.{Keeps, acc_run, tree_run}
+use Rattle.image_proof.specs.ir_semantics.SourceWork.{worked_run}
 use Rattle.image_proof.specs.PlanPlaces.{places_of}
-use Rattle.image_proof.specs.Agreeing.{EndsInTime, emission_of}
+use Rattle.image_proof.specs.Agreeing.{emission_of}
 use Rattle.image_proof.specs.Directs.{AreDirect}
 use Rattle.image_proof.specs.FunctionWalks.{place_of}
 use Rattle.frame_layouts.specs.lay_cert.Frames.{Frame}
@@ -90,19 +89,16 @@ pub record HasFrames (o : FrameJobs) (t : ProgramTree) (frames : List Frame) : T
 abbrev pub AccessAs : ℕ → ProgramTree → List Frame → Type 0
 AccessAs step t frames = map (λ (f : Frame). f.seq) frames ≡ map (source_sequence step) t.functions
 
--- what its accumulator code does, with objects where a plan of it has them, is what the program does, on any input and with any number of turns
+-- what its accumulator code does, with objects where a plan of it has them, is what the program does, on any input and with any number of turns, with no
+-- more work
 abbrev pub KeepsRuns : FrameJobs → ProgramTree → Type 0
 KeepsRuns o t = (plan : DataPlan) → IsPlanOf o t plan → (input : Input) (n : ℕ) → IsInput input
-    → KeepsSource (source_run t input n) (acc_run (places_of plan) (lowered_program t) (selected (lowered_program t)) input n)
+    → Keeps (worked_run t input n) (acc_run (places_of plan) (lowered_program t) (selected (lowered_program t)) input n)
 
--- so is what its word tree does: where the program ends the tree does, with the work that counts
+-- so is what its word tree does
 abbrev pub TreeKeepsRuns : FrameJobs → ProgramTree → Type 0
 TreeKeepsRuns o t = (plan : DataPlan) → IsPlanOf o t plan → (input : Input) (n : ℕ) → IsInput input
-    → KeepsSource (source_run t input n) (tree_run (places_of plan) (lowered_program t) input n)
-
--- where that ends, its image ends in time
-abbrev pub EndsWithin : FrameJobs → ProgramTree → Contents → Type 0
-EndsWithin o t image = (plan : DataPlan) → IsPlanOf o t plan → EndsInTime t plan image.words
+    → Keeps (worked_run t input n) (tree_run (places_of plan) (lowered_program t) input n)
 
 -- a frame of a number: the function of that number has a range in the image. A walk of it finds these accesses, each scalar where the frame has it, and
 -- it has so many address instructions as they cost by the frame's layout

@@ -10,8 +10,10 @@ pub use Rattle.image_proof.specs as image_proof
 pub use Rattle.image_proof.specs.frame_emit as frame_emit
 pub use Rattle.image_proof.specs.tree_code_proof as tree_code_proof
 pub mod Images
+pub mod DataWords
 pub mod TranslationFaults
 pub mod Selections
 pub mod PartFaults
 pub mod SourceFaults
 pub mod Compiles
+pub mod Made

@@ -3,6 +3,7 @@ ghost use Rattle.std.specs.Prelude.{◌≡◌, ◌≢◌, ◌<◌, ◌^◌, leng
 ghost use Rattle.cc_compile.specs.declared.fault.BuildFault.TheVariants as faults;
 ghost use Rattle.cc_compile.specs.SourceFaults.{HasFault};
 ghost use Rattle.cc_compile.specs.Compiles.{IsBuilt};
+ghost use Rattle.cc_compile.specs.Made.{IsMade};
 ghost use Rattle.frame_layouts.specs.Frames.{AreOptions, ClaimsHold};
 ghost use Rattle.frame_layouts.specs.Rows.{row_of};
 
@@ -53,15 +54,17 @@ pub fn compile<R: Threads + Sync, G: Gate + Sync>(
 ) -> Result<Built, BuildFault>
     requires short { length source.now < 2 ^ 32 }
     requires options { AreOptions options }
-    // The image is that of the source's program, linked from the pieces that are emitted and the routines, and the certificate has its frames. What
-    // it does is what the source does.
+    // The image does what the source does, and its words access what the frames of the certificate say.
     ensures built { IfOk result (λ built. IsBuilt options source.now built.image built.certificate) }
+    // It is linked from the pieces that are emitted and the routines that they call.
+    ensures made { IfOk result (λ built. IsMade options source.now built.image built.certificate) }
     // A frame costs what it says, and where it is claimed to be optimal no layout costs less.
     ensures claims { IfOk result (λ built. All ClaimsHold built.certificate) }
     ensures rows { IfOk result (λ built. built.rows.items ≡ map row_of built.certificate) }
     // A refusal has its cause, unless memory is wanting.
     ensures refused { IfErr result (λ why. why ≢ faults.NoMemory → HasFault options source.now why) }
 {
+    image_proof::accesses_are_kept();
     crate::image_laws::code_is_bounded();
     size_proof::programs_weigh_by_nodes();
     let program = typed_program(alloc, source)?;

@@ -9,9 +9,10 @@ ghost use Rattle.c_tree.specs.ProgramView.{program_of};
 ghost use Rattle.c_tree.specs.SourceRun.{source_run};
 ghost use Rattle.c_tree.specs.TypedTree.{ProgramTree};
 ghost use Rattle.frame_layouts.specs.Frames.{AreOptions, AreLayouts, ClaimsHold, frames_of, jobs_in, layout_of};
+ghost use Rattle.image_proof.specs.Agreeing.{EndsInTime};
 ghost use Rattle.image_proof.specs.acc_select_proof.SourceSequences.{source_sequence};
 ghost use Rattle.cc_compile.specs.TranslationFaults.{Says, SaysOfPieces, SaysOfTree};
-ghost use Rattle.cc_compile.specs.Images.{AccessAs, AreJobs, AreWalked, AreWalkedAs, EndsWithin, HasFrames, HasImage, IsDirect, KeepsRuns, TreeKeepsRuns, all_pieces, jobs_at, source_jobs, with_helpers as with_called};
+ghost use Rattle.cc_compile.specs.Images.{AccessAs, AreJobs, AreWalked, AreWalkedAs, HasFrames, HasImage, IsDirect, KeepsRuns, TreeKeepsRuns, all_pieces, jobs_at, source_jobs, with_helpers as with_called};
 ghost use Rattle.cc_compile.specs.Selections.{IsSelection, IsSelectionOf, IsPlanned};
 ghost use Rattle.frame_layouts.specs.lay_cert.Frames.{Frame};
 ghost use Rattle.frame_layouts.specs.mem_plan.Plan.{AreArranged};
@@ -218,11 +219,11 @@ pub fn translate_by_jobs<R: Threads + Sync, G: Gate + Sync>(
     ensures frames { (t : ProgramTree) → IsSelectionOf selection.now t → IfOk result (λ made. HasFrames (jobs_at step jobs.items) t made.certificate) }
     // What the accumulator code does is what the program does.
     ensures keeps { (t : ProgramTree) → IsSelectionOf selection.now t → IfOk result (λ _. ∥ KeepsRuns (jobs_at step jobs.items) t ∥₁) }
-    // So is what its word tree does, whose work bounds the steps.
+    // So is what its word tree does, with no more work.
     ensures tree { (t : ProgramTree) → IsSelectionOf selection.now t → IfOk result (λ _. ∥ TreeKeepsRuns (jobs_at step jobs.items) t ∥₁) }
     // And so is what the image does, from any start and on any input; where the program ends, in time.
     ensures agrees { (t : ProgramTree) → IsSelectionOf selection.now t → IfOk result (λ made. ∥ Agrees (source_run t) made.image.words ∥₁) }
-    ensures in_time { (t : ProgramTree) → IsSelectionOf selection.now t → IfOk result (λ made. ∥ EndsWithin (jobs_at step jobs.items) t made.image ∥₁) }
+    ensures in_time { (t : ProgramTree) → IsSelectionOf selection.now t → IfOk result (λ made. ∥ EndsInTime t made.image.words ∥₁) }
     // The words of each function access what the source says, where its frame says, with so many address instructions as that costs.
     ensures walked { (t : ProgramTree) → IsSelectionOf selection.now t → IfOk result (λ made. ∥ AreWalkedAs made.image (map (source_sequence step) t.functions) made.certificate ∥₁) }
     // No direct operand of them names a word of its scalars.
@@ -257,11 +258,11 @@ pub fn translate<R: Threads + Sync, G: Gate + Sync>(
     ensures frames { IfOk result (λ made. HasFrames (source_jobs options (program_of program.now)) (program_of program.now) made.certificate) }
     // What the accumulator code does is what the program does.
     ensures keeps { IfOk result (λ _. ∥ KeepsRuns (source_jobs options (program_of program.now)) (program_of program.now) ∥₁) }
-    // So is what its word tree does, whose work bounds the steps.
+    // So is what its word tree does, with no more work.
     ensures tree { IfOk result (λ _. ∥ TreeKeepsRuns (source_jobs options (program_of program.now)) (program_of program.now) ∥₁) }
     // And so is what the image does, from any start and on any input; where the program ends, in time.
     ensures agrees { IfOk result (λ made. ∥ Agrees (source_run (program_of program.now)) made.image.words ∥₁) }
-    ensures in_time { IfOk result (λ made. ∥ EndsWithin (source_jobs options (program_of program.now)) (program_of program.now) made.image ∥₁) }
+    ensures in_time { IfOk result (λ made. ∥ EndsInTime (program_of program.now) made.image.words ∥₁) }
     // The words of each function access what its frame says, with so many address instructions.
     ensures walked { IfOk result (λ made. ∥ AreWalked made.image made.certificate ∥₁) }
     // No direct operand of them names a word of its scalars.

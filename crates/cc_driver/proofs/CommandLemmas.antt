@@ -29,9 +29,9 @@ use Rattle.cc_check.specs.lay_cert.Frames.{Frame}
 use Rattle.cc_check.proofs.lay_cert.Exact.{reads_same as certificates_same, says_not_read as no_certificate}
 use Rattle.cc_files.specs.frame_layouts.declared.options.Options.{Options}
 use Rattle.cc_files.proofs.cc_compile.OneImage.{one as one_image, frames_same}
-use Rattle.cc_files.specs.cc_compile.SourceFaults.{HasProgram, IsAccepted}
+use Rattle.cc_files.specs.cc_compile.SourceFaults.{IsAccepted}
 use Rattle.cc_files.proofs.cc_compile.OneFault.{accepted_no_fault, program_no_fault, same_program}
-use Rattle.cc_files.specs.cc_compile.Compiles.{IsBuilt}
+use Rattle.cc_files.specs.cc_compile.Made.{IsMade}
 use Rattle.cc_files.specs.lay_profile.declared.fault.ProfileFault.{ProfileFault}
 use Rattle.cc_files.specs.lay_profile.declared.fault.ProfileFault.TheVariants as profile_faults
 use Rattle.cc_files.specs.lay_profile.declared.options.ProfileOptions.{ProfileOptions}
@@ -144,26 +144,23 @@ ports_refused name bytes why lines r text = not_ports bytes r.fault lines r.some
 
 -- ---- build
 
-accepted : (o : Options) (bytes : List ℕ) (image : Contents) (frames : List Frame) → IsBuilt o bytes image frames → IsAccepted o bytes
-accepted o bytes image frames b = (b.tokens, b.source, b.lexes, b.is_source, (b.program, b.typed, (image, b.has)))
+accepted : (o : Options) (bytes : List ℕ) (image : Contents) (frames : List Frame) → IsMade o bytes image frames → IsAccepted o bytes
+accepted o bytes image frames m = (m.typed.0, m.typed.1, m.typed.2, m.typed.3, (m.program, m.typed.4, (image, m.has)))
 
-typed_of : (o : Options) (bytes : List ℕ) (image : Contents) (frames : List Frame) (b : IsBuilt o bytes image frames) → HasProgram bytes b.program
-typed_of o bytes image frames b = (b.tokens, b.source, b.lexes, b.is_source, b.typed)
+one_program : (o : Options) (bytes : List ℕ) (a b : Contents) (fs gs : List Frame) (h : IsMade o bytes a fs) (k : IsMade o bytes b gs) → h.program ≡ k.program
+one_program o bytes a b fs gs h k = same_program bytes h.program k.program h.typed k.typed
 
-one_program : (o : Options) (bytes : List ℕ) (a b : Contents) (fs gs : List Frame) (h : IsBuilt o bytes a fs) (k : IsBuilt o bytes b gs) → h.program ≡ k.program
-one_program o bytes a b fs gs h k = same_program bytes h.program k.program (typed_of o bytes a fs h) (typed_of o bytes b gs k)
+pub one_made : (o : Options) (bytes : List ℕ) (a b : Contents) (fs gs : List Frame) → IsMade o bytes a fs → IsMade o bytes b gs → a ≡ b
+one_made o bytes a b fs gs h k = one_image (source_jobs o k.program) k.program a b (subst (λ p. HasImage (source_jobs o p) p a) (one_program o bytes a b fs gs h k) h.has) k.has
 
-one_built : (o : Options) (bytes : List ℕ) (a b : Contents) (fs gs : List Frame) → IsBuilt o bytes a fs → IsBuilt o bytes b gs → a ≡ b
-one_built o bytes a b fs gs h k = one_image (source_jobs o k.program) k.program a b (subst (λ p. HasImage (source_jobs o p) p a) (one_program o bytes a b fs gs h k) h.has) k.has
-
-one_framed : (o : Options) (bytes : List ℕ) (a b : Contents) (fs gs : List Frame) → IsBuilt o bytes a fs → IsBuilt o bytes b gs → fs ≡ gs
+one_framed : (o : Options) (bytes : List ℕ) (a b : Contents) (fs gs : List Frame) → IsMade o bytes a fs → IsMade o bytes b gs → fs ≡ gs
 one_framed o bytes a b fs gs h k = frames_same (source_jobs o k.program) k.program fs gs (subst (λ p. HasFrames (source_jobs o p) p fs) (one_program o bytes a b fs gs h k) h.framed) k.framed
 
 build_one : (o : Options) (name bytes : List ℕ) (a b : Answered) (s t : List Stored) → BuildsTo o name bytes a s → BuildsTo o name bytes b t → a ≡ b
-build_one o name bytes a b s t c d = c.reported ∙ ap report_of (one_framed o bytes c.image d.image c.frames d.frames c.built d.built) ∙ sym d.reported
+build_one o name bytes a b s t c d = c.reported ∙ ap report_of (one_framed o bytes c.image d.image c.frames d.frames c.made d.made) ∙ sym d.reported
 
 build_not : (o : Options) (name bytes : List ℕ) (a : Answered) (s : List Stored) (why : Why) → BuildsTo o name bytes a s → IsRefusedFor o why bytes → ⊥
-build_not o name bytes a s why c r = accepted_no_fault o bytes r.fault (accepted o bytes c.image c.frames c.built) r.has
+build_not o name bytes a s why c r = accepted_no_fault o bytes r.fault (accepted o bytes c.image c.frames c.made) r.has
 
 build_refused_one : (o : Options) (bytes : List ℕ) (v w : Why) → IsRefusedFor o v bytes → IsRefusedFor o w bytes → refusal_status v ≡ refusal_status w
 build_refused_one o bytes v w r s = ap refusal_status r.is ∙ sym (ap refusal_status s.is)
@@ -237,12 +234,12 @@ means_refused_one ports s p v w (SourceThen lines text fault none is) (SourceThe
 
 exec_one : (s p : List ℕ) (steps : ℕ) (a b : Answered) → ExecutesTo s p steps a → ExecutesTo s p steps b → a ≡ b
 exec_one s p steps a b r q =
-    let contents = one_built plain_options s r.image q.image r.frames q.frames r.built q.built in
+    let contents = one_made plain_options s r.image q.image r.frames q.frames r.made q.made in
     image_run_one _ _ _ _ steps a b (ap (λ (c : Contents). c.words) contents) (one_port_text p r.lines q.lines r.ports q.ports) r.runs q.runs
 
 exec_not : (ports s p : List ℕ) (steps : ℕ) (a : Answered) (why : Why) → ExecutesTo s p steps a → ExecuteRefused ports s p why → ⊥
 exec_not ports s p steps a why r (exec.PortsFirst bad) = ports_refused ports p why r.lines bad r.ports
-exec_not ports s p steps a why r (exec.SourceThen lines text fault has is) = accepted_no_fault plain_options s fault (accepted plain_options s r.image r.frames r.built) has
+exec_not ports s p steps a why r (exec.SourceThen lines text fault has is) = accepted_no_fault plain_options s fault (accepted plain_options s r.image r.frames r.made) has
 
 exec_refused_one : (ports s p : List ℕ) (v w : Why) → ExecuteRefused ports s p v → ExecuteRefused ports s p w → refusal_status v ≡ refusal_status w
 exec_refused_one ports s p v w (exec.PortsFirst bad) (exec.PortsFirst worse) = ap refusal_status bad.is ∙ sym (ap refusal_status worse.is)
@@ -321,10 +318,10 @@ summary_one steps number image other a b same r s =
 
 gen_one : (number : ℕ) (a b : Answered) → GeneratesTo number a → GeneratesTo number b → a ≡ b
 gen_one number a b r s =
-    summary_one gen_steps number r.image s.image a b (one_built plain_options (generated number) r.image s.image r.frames s.frames r.built s.built) r.summarizes s.summarizes
+    summary_one gen_steps number r.image s.image a b (one_made plain_options (generated number) r.image s.image r.frames s.frames r.made s.made) r.summarizes s.summarizes
 
 gen_not : (number : ℕ) (a : Answered) (why : Why) → GeneratesTo number a → GenerateRefused number why → ⊥
-gen_not number a why r bad = accepted_no_fault plain_options (generated number) bad.fault (accepted plain_options (generated number) r.image r.frames r.built) bad.has
+gen_not number a why r bad = accepted_no_fault plain_options (generated number) bad.fault (accepted plain_options (generated number) r.image r.frames r.made) bad.has
 
 -- ---- debug
 

@@ -6,6 +6,7 @@ use Rattle.cc_check.specs.lay_cert.Frames.{Frame}
 use Rattle.cc_files.specs.cc_compile.declared.fault.BuildFault.{BuildFault}
 use Rattle.cc_files.specs.cc_compile.SourceFaults.{HasFault}
 use Rattle.cc_files.specs.cc_compile.Compiles.{IsBuilt}
+use Rattle.cc_files.specs.cc_compile.Made.{IsMade}
 use Rattle.cc_answers.specs.Answers.{Answered}
 use Rattle.cc_files.specs.cc_text.Refusals.{Why, OfSource}
 use Rattle.cc_driver.specs.Build.{plain_options}
@@ -17,6 +18,7 @@ pub record ExecutesTo (source_bytes port_bytes : List ℕ) (steps : ℕ) (answer
   pub frames : List Frame
   pub lines : List (ℕ × ℕ)
   pub built : IsBuilt plain_options source_bytes image frames
+  pub made : IsMade plain_options source_bytes image frames
   pub ports : PortText port_bytes lines
   pub runs : ImageRuns image.words lines steps answer
 

@@ -5,6 +5,7 @@ use Rattle.c25_isa.specs.declared.event.Stop.{Stop}
 use Rattle.c25_isa.specs.Image.{Contents}
 use Rattle.cc_check.specs.lay_cert.Frames.{Frame}
 use Rattle.cc_files.specs.cc_compile.Compiles.{IsBuilt}
+use Rattle.cc_files.specs.cc_compile.Made.{IsMade}
 use Rattle.cc_gen.specs.Generated.{generated}
 use Rattle.cc_answers.specs.Answers.{Answered}
 use Rattle.cc_answers.specs.GenText.{gen_answer}
@@ -28,6 +29,7 @@ pub record GeneratesTo (number : ℕ) (answer : Answered) : Type 0 where
   pub image : Contents
   pub frames : List Frame
   pub built : IsBuilt plain_options (generated number) image frames
+  pub made : IsMade plain_options (generated number) image frames
   pub summarizes : Summarizes gen_steps number image answer
 
 -- or it has a fault, for which it is refused

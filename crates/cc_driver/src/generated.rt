@@ -1,6 +1,7 @@
 //! `gen N`.
 ghost use Rattle.std.specs.Prelude.{◌≢◌, ◌≤◌, length, [], IfOk, IfErr};
 ghost use Rattle.cc_files.specs.cc_compile.Compiles.{IsBuilt};
+ghost use Rattle.cc_files.specs.cc_compile.Made.{IsMade};
 ghost use Rattle.cc_gen.specs.Generated.{generated};
 ghost use Rattle.cc_words.specs.Asked.{ToGenerate};
 ghost use Rattle.cc_words.specs.Bounds.{IsWithinBounds};
@@ -27,6 +28,7 @@ const STEPS: u64 = 10_000_000;
 fn built<'a, R: Threads + Sync>(rt: &R, alloc: Global, number: u32) -> Result<Built, Refusal<'a>>
     requires { IsWithinBounds (ToGenerate number) }
     ensures built { IfOk result (λ built. IsBuilt build.plain_options (generated number) built.image built.certificate) }
+    ensures made { IfOk result (λ built. IsMade build.plain_options (generated number) built.image built.certificate) }
     // A refusal has its cause, unless memory is wanting.
     ensures refused { IfErr result (λ r. why_of r ≢ OfMemory → GenerateRefused number (why_of r)) }
 {

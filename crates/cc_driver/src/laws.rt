@@ -27,16 +27,16 @@ pub fn optimal_layouts_are_least()
 /// trap, which is status 7, only where the source does something undefined; and where the source ends, it is through in time, so that status 6 comes
 /// within the bound on steps alone. It does nothing: its clauses are what callers cite.
 pub fn executions_tell()
-    ensures tell { (source ports : List ℕ) (steps : ℕ) (answer : Answered) (h : ExecutesTo source ports steps answer) → ∥ TellsOf h.built.program h.built.has.plan (of_sixteen (input_of h.lines)) steps h.runs.outs h.runs.stands ∥₁ }
-    ensures statuses { (source ports : List ℕ) (steps : ℕ) (answer : Answered) (h : ExecutesTo source ports steps answer) → ∥ StatusTells h.built.program h.built.has.plan (of_sixteen (input_of h.lines)) steps h.runs.outs h.runs.stands answer.status ∥₁ }
+    ensures tell { (source ports : List ℕ) (steps : ℕ) (answer : Answered) (h : ExecutesTo source ports steps answer) → ∥ TellsOf h.built.program (of_sixteen (input_of h.lines)) steps h.runs.outs h.runs.stands ∥₁ }
+    ensures statuses { (source ports : List ℕ) (steps : ℕ) (answer : Answered) (h : ExecutesTo source ports steps answer) → ∥ StatusTells h.built.program (of_sixteen (input_of h.lines)) steps h.runs.outs h.runs.stands answer.status ∥₁ }
 {
     cc_files::runs_tell();
 }
 
 /// What the run of a generated program tells of it, in the same way. It does nothing: its clauses are what callers cite.
 pub fn generated_programs_tell()
-    ensures tell { (number : ℕ) (answer : Answered) (h : GeneratesTo number answer) → ∥ TellsOf h.built.program h.built.has.plan (of_sixteen (input_of [])) gen_steps h.summarizes.outs h.summarizes.stands ∥₁ }
-    ensures statuses { (number : ℕ) (answer : Answered) (h : GeneratesTo number answer) → ∥ StatusTells h.built.program h.built.has.plan (of_sixteen (input_of [])) gen_steps h.summarizes.outs h.summarizes.stands answer.status ∥₁ }
+    ensures tell { (number : ℕ) (answer : Answered) (h : GeneratesTo number answer) → ∥ TellsOf h.built.program (of_sixteen (input_of [])) gen_steps h.summarizes.outs h.summarizes.stands ∥₁ }
+    ensures statuses { (number : ℕ) (answer : Answered) (h : GeneratesTo number answer) → ∥ StatusTells h.built.program (of_sixteen (input_of [])) gen_steps h.summarizes.outs h.summarizes.stands answer.status ∥₁ }
 {
     cc_files::runs_tell();
 }

@@ -20,7 +20,7 @@ use Rattle.emit_blocks.specs.Places.{address_in}
 
 -- no function of a program has this name
 abbrev pub startup_name : List ℕ
-startup_name = codes ".startup"
+startup_name = codes ".start"
 
 -- the first word behind the scratch words
 abbrev pub STATICS_START : ℕ

@@ -121,5 +121,5 @@ pub(crate) fn startup_piece(
     code.push(Instr::Spm)?;
     push_statics(&mut code, statics, objects)?;
     push_end(alloc, &mut code)?;
-    Ok(code.unlisted_piece(Text::copy_of(alloc, ".startup")?))
+    Ok(code.unlisted_piece(Text::copy_of(alloc, ".start")?))
 }

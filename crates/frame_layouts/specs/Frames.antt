@@ -125,6 +125,14 @@ frames_with xs rest plans = []
 abbrev pub AreBased : List Job → List FramePlan → Type 0
 AreBased jobs plans = map (λ plan. length plan.bases) plans ≡ map (λ job. length (layout_of job)) jobs
 
+-- a frame is what the search answers for its sequence, as is chosen
+pub record IsFound (o : Options) (f : Frame) : Type 0 where
+  pub registers : f.registers ≡ o.registers
+  pub layout : f.arr ≡ answer_lists (search_answer o.registers f.seq o.budget)
+  pub cost : f.cost ≡ answer_cost (search_answer o.registers f.seq o.budget)
+  pub claim : f.claim ≡ claim_of (search_answer o.registers f.seq o.budget)
+  pub log : f.log ≡ log_of (search_answer o.registers f.seq o.budget)
+
 -- a frame costs what it says. Where it is claimed to be optimal, its log shows that no layout costs less
 pub record ClaimsHold (f : Frame) : Type 0 where
   pub cost : f.cost ≡ arranged_cost f.seq f.arr

@@ -10,7 +10,8 @@ use Rattle.cc_compile.specs.c_tree.TypedTree.{FunctionTree, ProgramTree}
 use Rattle.cc_compile.specs.c_tree.WellFormedProgram.{IsProgram}
 use Rattle.cc_compile.specs.image_proof.acc_select.Selected.{selected, selected_function}
 use Rattle.cc_compile.specs.image_proof.acc_select_proof.SourceSequences.{at_step, source_sequence}
-use Rattle.lay_profile.specs.Shapes.{AreShapes, HasShapeOf, accesses_of, names_of}
+use Rattle.cc_compile.specs.Compiles.{names_of}
+use Rattle.lay_profile.specs.Shapes.{AreShapes, HasShapeOf, accesses_of}
 
 -- names stay as they are
 names_kept : (fs : List FunctionTree) → map (λ (g : FunctionItems). g.name) (map selected_function (map lowered_function fs)) ≡ map (λ (f : FunctionTree). f.name) fs

@@ -1,6 +1,7 @@
 -- A program that is laid out for a recorded run.
 use Rattle.std.proofs.Common.{◌≡◌, ◌≢◌, ◌≤◌, Ok, Err, ◌+◌, ◌∙◌, ℕ, zero, suc, List, [], ◌∷◌, length, map, refl, sym, ap, subst, arith}
 use Rattle.std.specs.Prelude.{All, slice_get, Some, Result, IfOk}
+use Rattle.std.proofs.lemmas.List.{length-map}
 use Rattle.std.proofs.lemmas.Option.{same_Some}
 use Rattle.acc_code.specs.AccTree.{FunctionItems}
 use Rattle.lay_model.specs.Sequences.{Sequence}
@@ -14,7 +15,7 @@ use Rattle.cc_compile.specs.declared.translation_fault.TranslationFault.TheVaria
 use Rattle.cc_compile.specs.frame_layouts.Frames.{ClaimsHold, IsJob, job_with}
 use Rattle.cc_compile.specs.frame_layouts.declared.options.Options.{Options}
 use Rattle.cc_compile.specs.frame_layouts.lay_par.Jobs.{Job}
-use Rattle.cc_compile.specs.image_proof.acc_select_proof.SourceSequences.{at_step}
+use Rattle.cc_compile.specs.image_proof.acc_select_proof.SourceSequences.{at_step, source_sequence}
 use Rattle.cc_compile.specs.lay_cert.Frames.{Frame}
 use Rattle.lay_profile.specs.declared.fault.ProfileFault.TheVariants as faults
 use Rattle.lay_profile.specs.declared.options.ProfileOptions.{ProfileOptions}
@@ -111,3 +112,14 @@ searched_jobs o r t seqs jobs same are = ap (jobs_at 1) (are ∙ ap (λ (xs : Li
 pub ok_then : {A E : Type 0} {P Q : A → Type 0} (r : Result A E) → IfOk r P → ((a : A) → P a → Q a) → IfOk r Q
 ok_then (Ok a) h k = k a h
 ok_then (Err e) h k = tt
+
+-- there is a job for each function
+weighed_count : (r : Recording) (k : ℕ) (seqs : List Sequence) → length (weighed_from r k seqs) ≡ length seqs
+weighed_count r k [] = refl
+weighed_count r k (s ∷ seqs) = ap suc (weighed_count r (suc k) seqs)
+
+pub searched_count : (o : ProfileOptions) (r : Recording) (t : ProgramTree) → length (searched o r t).jobs ≡ length t.functions
+searched_count o r t =
+    length-map (weighed_from r 0 (accesses_of t)) (job_with (search_options o))
+    ∙ weighed_count r 0 (accesses_of t)
+    ∙ length-map t.functions (source_sequence 1)

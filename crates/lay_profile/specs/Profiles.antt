@@ -12,8 +12,10 @@ use Rattle.cc_compile.specs.c_syntax.SyntaxTree.{UnitTree}
 use Rattle.cc_compile.specs.c_syntax.declared.token.Token.{Token}
 use Rattle.cc_compile.specs.c_tree.SourceRun.{source_run}
 use Rattle.cc_compile.specs.c_tree.TypedTree.{ProgramTree}
-use Rattle.cc_compile.specs.Images.{AreWalkedAs, EndsWithin, FrameJobs, HasFrames, HasImage, HasLinkFault, HasPlanFault, IsDirect, KeepsRuns, TreeKeepsRuns}
+use Rattle.cc_compile.specs.Compiles.{HaveNames}
+use Rattle.cc_compile.specs.Images.{AreWalkedAs, FrameJobs, HasFrames, HasImage, HasLinkFault, HasPlanFault, IsDirect, KeepsRuns, TreeKeepsRuns}
 use Rattle.cc_compile.specs.declared.fault.BuildFault.TheVariants as build
+use Rattle.cc_compile.specs.image_proof.Agreeing.{EndsInTime}
 use Rattle.cc_compile.specs.lay_cert.Frames.{Frame}
 use Rattle.cc_compile.specs.lay_cert.declared.certificate.Claim.TheVariants.{Optimal}
 use Rattle.cc_compile.specs.SourceFaults.{HasNoProgramFor, HasTree, IsTypedWith}
@@ -43,6 +45,8 @@ pub record IsLaidOut (o : ProfileOptions) (r : Recording) (t : ProgramTree) (ima
   pub shape : HasShapeOf r.image t
   pub has : HasImage (searched o r t) t image
   pub framed : HasFrames (searched o r t) t frames
+  -- a range and a frame for each function, in order, by its name
+  pub names : HaveNames t image frames
   -- each frame is laid out for the accesses of its function in the source, weighed by how often the run enters their blocks
   pub sequences : map (λ (f : Frame). f.seq) frames ≡ weighed_from r 0 (accesses_of t)
   pub costs : HaveRunCosts r (accesses_of t) frames
@@ -51,7 +55,7 @@ pub record IsLaidOut (o : ProfileOptions) (r : Recording) (t : ProgramTree) (ima
   pub tree : ∥ TreeKeepsRuns (searched o r t) t ∥₁
   -- and so is what the image does, wherever C defines what the program does; where the program ends, in time
   pub agrees : ∥ Agrees (source_run t) image.words ∥₁
-  pub in_time : ∥ EndsWithin (searched o r t) t image ∥₁
+  pub in_time : ∥ EndsInTime t image.words ∥₁
   -- the words of each function access what the source says, where its frame says
   pub walked : ∥ AreWalkedAs image (accesses_of t) frames ∥₁
   -- no direct operand of them names a word of its scalars

@@ -5,7 +5,8 @@ use Rattle.c25_isa.specs.Image.{Contents}
 use Rattle.c25_isa.specs.Walk.{Blocks}
 use Rattle.c25_walk.specs.Walks.{walk_of}
 use Rattle.lay_model.specs.Sequences.{Sequence}
-use Rattle.cc_compile.specs.c_tree.TypedTree.{FunctionTree, ProgramTree}
+use Rattle.cc_compile.specs.Compiles.{names_of}
+use Rattle.cc_compile.specs.c_tree.TypedTree.{ProgramTree}
 use Rattle.cc_compile.specs.image_proof.acc_select_proof.SourceSequences.{source_sequence}
 
 -- the walk of the function of a number has no fault, and its blocks are as long as those of a sequence
@@ -18,9 +19,6 @@ pub record HasShape (image : Contents) (k : ℕ) (accesses : Sequence) : Type 0 
 pub record AreShapes (image : Contents) (names : List (List ℕ)) (sequences : List Sequence) : Type 0 where
   pub named : map (λ (f : FunctionRange). f.name) image.functions ≡ names
   pub each : (k : ℕ) (accesses : Sequence) → slice_get sequences k ≡ Some accesses → HasShape image k accesses
-
-abbrev pub names_of : ProgramTree → List (List ℕ)
-names_of t = map (λ (f : FunctionTree). f.name) t.functions
 
 -- the accesses of a program's functions, in order; the step is 1
 abbrev pub accesses_of : ProgramTree → List Sequence

@@ -37,10 +37,12 @@ pub returns-clause-built : goal.returns-clause-built
 returns-clause-built g c =
     let texts = c.in_ok-texts_of.ensures in
     let built = rw c.options.ensures at c.in_ok-built.ensures.built in
+    let made = rw c.options.ensures at c.in_ok-built.ensures.made in
     record {
       image = c.in_ok-built.built.image;
       frames = c.in_ok-built.built.certificate;
       built = built;
+      made = made;
       claims = c.in_ok-built.ensures.claims;
       whole = texts.whole;
       stored = texts_same _ c.in_ok-texts_of.field-0 _ _ texts.image texts.name texts.certificate;

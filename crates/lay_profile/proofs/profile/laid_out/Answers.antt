@@ -2,7 +2,7 @@ use Rattle.std.proofs.Common.{◌≢◌, ◌∙◌, List, map, ap, sym, subst}
 use Rattle.acc_code.specs.AccView.{function_items_of, functions_of}
 use Rattle.acc_code.specs.declared.program.AccFunction.{AccFunction}
 use Rattle.lay_model.specs.Sequences.{Sequence}
-use Rattle.cc_compile.specs.Images.{EndsWithin, FrameJobs, HasFrames, HasImage, IsDirect, KeepsRuns, TreeKeepsRuns}
+use Rattle.cc_compile.specs.Images.{FrameJobs, HasFrames, HasImage, IsDirect, KeepsRuns, TreeKeepsRuns}
 use Rattle.cc_compile.specs.TranslationFaults.{Says}
 use Rattle.cc_compile.specs.frame_layouts.Frames.{job_with}
 use Rattle.cc_compile.specs.frame_layouts.lay_par.Jobs.{Job}
@@ -17,7 +17,8 @@ use Rattle.lay_profile.specs.declared.fault.ProfileFault.TheVariants as faults
 use Rattle.lay_profile.specs.declared.shapes.Shaped.{Shaped}
 use Rattle.lay_profile.proofs.FaultLemmas.{passed_on}
 use Rattle.lay_profile.proofs.Kept.{same_accesses, same_names, shapes_back, shapes_kept}
-use Rattle.lay_profile.proofs.Profiling.{accesses_shaped, fault_says, jobs_for, run_costs, searched_jobs, sequences_of}
+use Rattle.cc_compile.proofs.Promised.{names_in}
+use Rattle.lay_profile.proofs.Profiling.{accesses_shaped, fault_says, jobs_for, run_costs, searched_count, searched_jobs, sequences_of}
 use Rattle.lay_profile.proofs.Short.{placed_of}
 use Rattle.lay_profile.proofs.profile.laid_out.Goals as goal
 
@@ -87,16 +88,19 @@ returns-clause-laid_out g c = λ t is.
     let sequences =
     c.in_ok-translated.ensures.sequences ∙ ap (map (λ (job : Job). job.sequence)) (ap (λ (x : FrameJobs). x.jobs) kept)
     ∙ sequences_of (search_options o) _ in
+    let framed = subst (λ (x : FrameJobs). HasFrames x t made.certificate) kept (c.in_ok-translated.ensures.frames t is) in
+    let has = subst (λ (x : FrameJobs). HasImage x t made.image) kept (c.in_ok-translated.ensures.image t is) in
     record {
       shape = shapes_kept c.args.first.now _ _ t names (ap (map (at_step 1)) c.functions.ensures.same ∙ alike) c.in_ok-shaped.ensures.shapes;
-      has = subst (λ (x : FrameJobs). HasImage x t made.image) kept (c.in_ok-translated.ensures.image t is);
-      framed = subst (λ (x : FrameJobs). HasFrames x t made.certificate) kept (c.in_ok-translated.ensures.frames t is);
+      has = has;
+      framed = framed;
+      names = names_in _ t (searched_count o r t) framed.plan framed.planned made.image made.certificate framed.are has;
       sequences = sequences;
       costs = run_costs c.weighed_costs_the_run.ensures.cost c.weighed_costs_the_run.ensures.arranged c.weighed_costs_the_run.ensures.places r _ made.certificate sequences c.in_ok-translated.ensures.claims;
       keeps = subst (λ (x : FrameJobs). ∥ KeepsRuns x t ∥₁) kept (c.in_ok-translated.ensures.keeps t is);
       tree = subst (λ (x : FrameJobs). ∥ TreeKeepsRuns x t ∥₁) kept (c.in_ok-translated.ensures.tree t is);
       agrees = c.in_ok-translated.ensures.agrees t is;
-      in_time = subst (λ (x : FrameJobs). ∥ EndsWithin x t made.image ∥₁) kept (c.in_ok-translated.ensures.in_time t is);
+      in_time = c.in_ok-translated.ensures.in_time t is;
       walked = c.in_ok-translated.ensures.walked t is;
       direct = subst (λ (x : FrameJobs). ∥ IsDirect x t made.image ∥₁) kept (c.in_ok-translated.ensures.direct t is);
       is_entered = c.in_ok-recorded.ensures.entered ∙ ap (entered_from r 0) (seqs ∙ alike);
