@@ -1,3 +1,4 @@
 mod RowExamples
 mod RunExamples
+mod SourceWorkExamples
 pub mod Keeping

@@ -8,3 +8,4 @@ pub mod AccRun
 pub mod Keeps
 pub mod Weights
 pub mod SourceWeights
+pub mod SourceWork
