@@ -9,7 +9,7 @@ use Rattle.c25_isa.specs.Agrees.{Steps, AgreesAt}
 use Rattle.c25_isa.specs.MachineRun as machine
 use Rattle.c25_isa.specs.MachineRun.{outputs_reached}
 use Rattle.ir_semantics.specs.Keeps.{WorkOutcome, Ended, More, Undefined, outputs_of, Keeps}
-use Rattle.tree_code_proof.specs.Lowering.{KeepsSource}
+use Rattle.ir_semantics.specs.SourceWork.{with_work}
 use Rattle.image_proof.specs.Keeping.{MachineKeeps}
 
 -- a beginning of a beginning
@@ -27,25 +27,25 @@ put_of (More outs) steps n more h =
 put_of (Undefined outs) steps n more h = h.prefix outs refl
 
 -- a source, by what its code keeps at each limit and what the machine keeps of that
-pub agrees_at : (run : ℕ → Outcome) (code : ℕ → WorkOutcome) (steps : Steps) (more : ℕ) → ((n : ℕ) → KeepsSource (run n) (code n)) → ((n : ℕ) → MachineKeeps (code n) steps n more) → AgreesAt run steps
-agrees_at run code steps more kept machine_kept = record {
+pub agrees_at : (run : ℕ → Outcome) (work : ℕ → ℕ) (code : ℕ → WorkOutcome) (steps : Steps) (more : ℕ) → ((n : ℕ) → Keeps (with_work (run n) (work n)) (code n)) → ((n : ℕ) → MachineKeeps (code n) steps n more) → AgreesAt run steps
+agrees_at run work code steps more kept machine_kept = record {
   ends = record {
     by = λ n outs ending is.
-        let there = (kept n).ended outs ending is in
-        let at = (machine_kept n).ended outs ending there.0 there.1 in
+        let there = (kept n).ended outs ending (work n) (ap (λ o. with_work o (work n)) is) in
+        let at = (machine_kept n).ended outs ending there.0 there.2 in
         (at.0, tt, at.2);
   };
   undefined = record {
     by = λ n outs kind at is.
         let put = put_of (code n) steps n more (machine_kept n) in
-        (put.0, longer outs (outputs_of (code n)) (outputs_reached (steps put.0)) ((kept n).prefix outs kind at is) put.1);
+        (put.0, longer outs (outputs_of (code n)) (outputs_reached (steps put.0)) ((kept n).prefix outs (ap (λ o. with_work o (work n)) is)) put.1);
   };
   goes_on = record {
-    by = λ n outs is. (machine_kept n).more outs ((kept n).more outs is);
+    by = λ n outs is. (machine_kept n).more outs ((kept n).more outs (ap (λ o. with_work o (work n)) is));
   };
 }
 
--- the time of a word tree's run
+-- the time of a program's run
 pub in_time : (x y : WorkOutcome) (steps : Steps) (n more : ℕ) → Keeps x y → MachineKeeps y steps n more → (outs : Outputs) (ending : Ending) (work : ℕ) → x ≡ Ended outs ending work → (m : ℕ) × (m ≤ more + 64 * work) × (steps m ≡ machine.Ended outs ending)
 in_time x y steps n more kept machine_kept outs ending work is =
     let there = kept.ended outs ending work is in

@@ -1,6 +1,5 @@
 pub use Rattle.emit_proof.proofs as emit_proof
 pub use Rattle.frame_emit.proofs as frame_emit
-pub mod Composing
 pub mod Addresses
 pub mod Placing
 pub mod RunExamples

@@ -1,5 +1,5 @@
 -- A run of an image that agrees with a program tells what the program does: of two runs of one machine the longer one goes on from the shorter one.
-use Rattle.std.proofs.Common.{◌≡◌, ℕ, suc, ◌+◌, ◌*◌, ◌≤◌, ◌⊎◌, inl, inr, ⊎_elim, Bool, true, false, List, refl, sym, ap, ◌∙◌, subst, arith}
+use Rattle.std.proofs.Common.{◌≡◌, ℕ, suc, ◌+◌, ◌*◌, ◌<◌, ◌≤◌, ◌⊎◌, inl, inr, ⊎_elim, Bool, true, false, List, refl, sym, ap, ◌∙◌, subst, arith}
 use Rattle.std.specs.Prelude.{nat_le}
 use Rattle.std.proofs.lemmas.Bool.{leb-true, leb-false}
 use Rattle.word_base.specs.declared.outcome.Ending.{Ending}
@@ -16,12 +16,11 @@ use Rattle.c25_isa.specs.MachineRun.{Reached, Running, Ended, Stopped, HasStoppe
 use Rattle.c25_isa.specs.State.{Start, IsStart, BeginsWith}
 use Rattle.c25_code.proofs.LaterSteps.{stopped_stays}
 use Rattle.c25_sim.specs.Answers.{reached_of}
-use Rattle.mem_plan.specs.declared.data_plan.DataPlan.{DataPlan}
 use Rattle.frame_emit.specs.Startup.{static_words}
 use Rattle.image_proof.specs.Agreeing.{EndsInTime}
 use Rattle.image_proof.specs.Telling.{IsUndefined, EndsSo, TellsOf}
 
-ordered : (P : Type 0) (m n : ℕ) → (m ≤ n → P) → (n ≤ m → P) → P
+ordered : (P : Type 0) (m n : ℕ) → (m ≤ n → P) → (n < m → P) → P
 ordered P m n low high = by (nat_le m n) refl
   where
     by : (t : Bool) → nat_le m n ≡ t → P
@@ -37,7 +36,7 @@ pub record EndsBoth (t : ProgramTree) (input : Input) (run : Reached) : Type 0 w
 
 module _ (b : Start) (t : ProgramTree) (input : Input) (agree : AgreesAt (source_run t input) (machine_run b input)) where
   same_stop : (m n : ℕ) → HasStopped (machine_run b input m) → HasStopped (machine_run b input n) → machine_run b input m ≡ machine_run b input n
-  same_stop m n h k = ordered (machine_run b input m ≡ machine_run b input n) m n (λ le. sym (stopped_stays b input m n le h)) (λ le. stopped_stays b input n m le k)
+  same_stop m n h k = ordered (machine_run b input m ≡ machine_run b input n) m n (λ le. sym (stopped_stays b input m n le h)) (λ lt. stopped_stays b input n m (omega (arith, lt)) k)
 
   pub ends_or : (steps : ℕ) → HasStopped (machine_run b input steps) → EndsBoth t input (machine_run b input steps) ⊎ IsUndefined t input
   ends_or steps h = by (source_run t input (suc steps)) refl
@@ -65,10 +64,10 @@ not_stopped outs others kind at ending e = cc
 not_running : (outs others : Outputs) (ending : Ending) → Running outs ≡ Ended others ending → ⊥
 not_running outs others ending e = cc
 
-pub tells : (t : ProgramTree) (plan : DataPlan) (image_words : List ℕ) (b : Start) (input : Input) (steps : ℕ) (outs : Outputs) (stands : Stop)
-    → Agrees (source_run t) image_words → EndsInTime t plan image_words → IsStart b → BeginsWith image_words b → IsInput input → machine_run b input steps ≡ reached_of outs stands
-    → TellsOf t plan input steps outs stands
-tells t plan image_words b input steps outs stands agrees in_time start begins is_input reached = record {
+pub tells : (t : ProgramTree) (image_words : List ℕ) (b : Start) (input : Input) (steps : ℕ) (outs : Outputs) (stands : Stop)
+    → Agrees (source_run t) image_words → EndsInTime t image_words → IsStart b → BeginsWith image_words b → IsInput input → machine_run b input steps ≡ reached_of outs stands
+    → TellsOf t input steps outs stands
+tells t image_words b input steps outs stands agrees in_time start begins is_input reached = record {
   ended = λ ending e. by_end ending (reached ∙ ap (reached_of outs) e);
   trapped = λ kind at e. by_trap kind at (reached ∙ ap (reached_of outs) e);
   running = λ e turns others other work is. by_time (reached ∙ ap (reached_of outs) e) others other work (in_time b input turns others other work start begins is_input is);
@@ -91,9 +90,9 @@ tells t plan image_words b input steps outs stands agrees in_time start begins i
         (ends_or b t input agree steps (subst HasStopped (sym at) (tt {0})))
 
     by_time : machine_run b input steps ≡ Running outs → (others : Outputs) (other : Ending) (work : ℕ) → ((m : ℕ) × (m ≤ 1000 + 16 * static_words t.statics + 64 * work) × (machine_run b input m ≡ Ended others other))
-        → steps ≤ 1000 + 16 * static_words t.statics + 64 * work
+        → steps < 1000 + 16 * static_words t.statics + 64 * work
     by_time at others other work found =
         let most = found.1 in
-        ordered (steps ≤ 1000 + 16 * static_words t.statics + 64 * work) steps found.0
-        (λ le. omega (arith, le, most))
+        ordered (steps < 1000 + 16 * static_words t.statics + 64 * work) found.0 steps
         (λ le. absurd (not_running outs others other (sym at ∙ stopped_stays b input found.0 steps le (subst HasStopped (sym found.2) (tt {0})) ∙ found.2)))
+        (λ lt. omega (arith, lt, most))

@@ -1,19 +1,17 @@
 -- What a run of an image tells of the source that it was compiled from.
-use Rattle.std.specs.Prelude.{◌≡◌, ◌≤◌, ◌⊎◌, ℕ, ◌+◌, ◌*◌}
+use Rattle.std.specs.Prelude.{◌≡◌, ◌<◌, ◌⊎◌, ℕ, ◌+◌, ◌*◌}
 use Rattle.word_base.specs.declared.outcome.Ending.{Ending}
 use Rattle.word_base.specs.declared.outcome.Outcome.TheVariants as source
 use Rattle.word_base.specs.declared.outcome.UndefinedKind.{UndefinedKind}
 use Rattle.word_base.specs.Ports.{Input, Outputs}
 use Rattle.c_tree.specs.SourceRun.{source_run}
 use Rattle.c_tree.specs.TypedTree.{ProgramTree}
-use Rattle.tree_code.specs.Lowered.{lowered_program}
 use Rattle.c25_isa.specs.declared.event.Stop.{Stop}
 use Rattle.c25_isa.specs.declared.event.Stop.TheVariants as stop
 use Rattle.c25_isa.specs.declared.trap.TrapKind.{TrapKind}
-use Rattle.ir_semantics.specs.Keeps.{Ended, tree_run}
-use Rattle.mem_plan.specs.declared.data_plan.DataPlan.{DataPlan}
+use Rattle.ir_semantics.specs.Keeps.{Ended}
+use Rattle.ir_semantics.specs.SourceWork.{worked_run}
 use Rattle.frame_emit.specs.Startup.{static_words}
-use Rattle.image_proof.specs.PlanPlaces.{places_of}
 
 -- the program does something undefined, where each execution of each loop has at most so many turns
 pub record IsUndefined (t : ProgramTree) (input : Input) : Type 0 where
@@ -29,9 +27,9 @@ pub record EndsSo (t : ProgramTree) (input : Input) (outs : Outputs) (ending : E
   pub is : source_run t input turns ≡ source.Ended outs ending
 
 -- a run of so many steps that put these outputs and stands here: where it ended, the program ends with the same outputs and ending, or does something
--- undefined; it came to a trap only where the program does something undefined; and it still runs, where the program ends, only within 1,000 steps, 16
--- for each word of static objects, and 64 for each unit of the program's work
-pub record TellsOf (t : ProgramTree) (plan : DataPlan) (input : Input) (steps : ℕ) (outs : Outputs) (stands : Stop) : Type 0 where
+-- undefined; it came to a trap only where the program does something undefined; and it still runs, where the program ends, only before 1,000 steps,
+-- 16 for each word of static objects, and 64 for each unit of the program's work
+pub record TellsOf (t : ProgramTree) (input : Input) (steps : ℕ) (outs : Outputs) (stands : Stop) : Type 0 where
   pub ended : (ending : Ending) → stands ≡ stop.Ended ending → EndsSo t input outs ending ⊎ IsUndefined t input
   pub trapped : (kind : TrapKind) (at : ℕ) → stands ≡ stop.Trap kind at → IsUndefined t input
-  pub running : stands ≡ stop.Running → (turns : ℕ) (others : Outputs) (other : Ending) (work : ℕ) → tree_run (places_of plan) (lowered_program t) input turns ≡ Ended others other work → steps ≤ 1000 + 16 * static_words t.statics + 64 * work
+  pub running : stands ≡ stop.Running → (turns : ℕ) (others : Outputs) (other : Ending) (work : ℕ) → worked_run t input turns ≡ Ended others other work → steps < 1000 + 16 * static_words t.statics + 64 * work

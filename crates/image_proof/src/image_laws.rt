@@ -41,7 +41,7 @@ pub fn images_agree()
         → Agrees (source_run t) image.words }
     ensures in_time { (t : ProgramTree) (plan : DataPlan) (arrangements : List (List (List ℕ))) (step : ℕ) (image : Contents) → IsProgram t → ProgramHasWords t → AreArranged (lowered_program t).functions arrangements → IsPlan (lowered_program t) arrangements plan
         → IsEmittable (lowered_program t) (selected (lowered_program t)) → step < 256 → Linked (all_pieces (emission_of t plan arrangements step)) image → PiecesFit (all_pieces (emission_of t plan arrangements step)) → pieces_size (all_pieces (emission_of t plan arrangements step)) ≤ 65536
-        → EndsInTime t plan image.words }
+        → EndsInTime t image.words }
 {
     images_keep_runs();
     crate::translation_keeps_runs();

@@ -18,7 +18,7 @@ use Rattle.ir_semantics.specs.Keeps.{tree_run}
 use Rattle.ir_semantics.specs.Outside.{Places, address_of}
 use Rattle.ir_semantics.specs.TreeRun as run
 use Rattle.c_tree.specs.TypedOfWords.{StartsWithWord, FunctionHasWords, ProgramHasWords}
-use Rattle.tree_code_proof.specs.Lowering.{KeepsSource}
+use Rattle.tree_code_proof.proofs.Outcomes.{KeepsSource}
 use Rattle.tree_code_proof.specs.Surroundings.{ArePlaces}
 use Rattle.tree_code_proof.proofs.Growing.{value_grows, decide_grows, effect_grows}
 use Rattle.tree_code_proof.proofs.Interfaces.{CallsKeep, CallsOf}

@@ -1,3 +1,4 @@
+pub mod Counting
 pub mod Examples
 pub mod Growing
 pub mod GrowingStatements

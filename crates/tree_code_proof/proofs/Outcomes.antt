@@ -11,11 +11,17 @@ use Rattle.ir_semantics.specs.Keeps as run
 use Rattle.ir_semantics.specs.Keeps.{WorkOutcome, tree_outcome}
 use Rattle.ir_semantics.specs.Parts.{Res, Gives, Finished, TooMany, Fails}
 use Rattle.ir_semantics.specs.TreeRun.{Tree}
-use Rattle.tree_code_proof.specs.Lowering.{KeepsSource}
+use Rattle.word_base.specs.declared.outcome.Ending.{Ending}
+use Rattle.word_base.specs.declared.outcome.UndefinedKind.{UndefinedKind}
 use Rattle.tree_code_proof.specs.Seats.{Seats}
 use Rattle.tree_code_proof.proofs.Growing.{outs_of}
 use Rattle.tree_code_proof.proofs.Rules.{Rel}
 use Rattle.tree_code_proof.proofs.Interfaces.{Given}
+
+pub record KeepsSource (x : Outcome) (y : WorkOutcome) : Type 0 where
+  pub ended : (outs : Outputs) (ending : Ending) → x ≡ source_outcome.Ended outs ending → (work : ℕ) × (y ≡ run.Ended outs ending work)
+  pub more : (outs : Outputs) → x ≡ source_outcome.More outs → y ≡ run.More outs
+  pub prefix : (outs : Outputs) (kind : UndefinedKind) (at : ℕ) → x ≡ source_outcome.Undefined outs kind at → Prefix outs (run.outputs_of y)
 
 -- an outcome and what it asks of another
 abbrev EndsAs : WorkOutcome → Outcome → Type 0

@@ -19,7 +19,7 @@ use Rattle.ir_semantics.specs.Outside.{Places, no_words, first_outside}
 use Rattle.ir_semantics.specs.TreeRun as run
 use Rattle.ir_semantics.specs.TreeRun.{Tree, main_from}
 use Rattle.c_tree.specs.TypedOfWords.{ProgramHasWords}
-use Rattle.tree_code_proof.specs.Lowering.{KeepsSource}
+use Rattle.tree_code_proof.proofs.Outcomes.{KeepsSource}
 use Rattle.tree_code_proof.specs.Seats.{Seats}
 use Rattle.tree_code_proof.specs.Surroundings.{ArePlaces}
 use Rattle.tree_code_proof.proofs.Rules.{Rel}

@@ -1,5 +1,5 @@
 -- What stands beside what, in a run of a typed program and in that of its word tree.
+pub mod Counted
 pub mod Seats
 pub mod Beside
 pub mod Surroundings
-pub mod Lowering

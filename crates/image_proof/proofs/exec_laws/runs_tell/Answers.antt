@@ -7,6 +7,6 @@ use Rattle.c25_sim.specs.Taken.{of_sixteen}
 
 pub returns : goal.returns
 returns c = record {
-  tell = λ t plan pieces image bytes lines steps outs stands agrees in_time linked fit text reached.
-      tells t plan image.words (zero_start image.words) (of_sixteen (input_of lines)) steps outs stands agrees in_time (zero_starts pieces image linked fit) (zero_begins image.words) (text_input bytes lines text) reached;
+  tell = λ t pieces image bytes lines steps outs stands agrees in_time linked fit text reached.
+      tells t image.words (zero_start image.words) (of_sixteen (input_of lines)) steps outs stands agrees in_time (zero_starts pieces image linked fit) (zero_begins image.words) (text_input bytes lines text) reached;
 }

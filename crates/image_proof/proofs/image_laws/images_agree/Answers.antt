@@ -11,7 +11,8 @@ use Rattle.acc_select.specs.Selected.{selected}
 use Rattle.mem_plan.specs.declared.data_plan.DataPlan.{DataPlan}
 use Rattle.mem_plan.specs.Plan.{AreArranged, IsPlan}
 use Rattle.c25_isa.specs.MachineRun.{machine_run}
-use Rattle.ir_semantics.specs.Keeps.{acc_run, tree_run}
+use Rattle.ir_semantics.specs.Keeps.{acc_run}
+use Rattle.ir_semantics.specs.SourceWork.{source_work, worked_run}
 use Rattle.frame_emit.specs.Startup.{static_words}
 use Rattle.image_proof.specs.PlanPlaces.{places_of}
 use Rattle.image_proof.specs.Emissions.{IsEmission}
@@ -38,13 +39,13 @@ returns c =
     record {
       agree = λ t plan arrangements step image is words arranged planned emittable low linked ranges small.
           λ b input starts begins given.
-          agrees_at (source_run t input) (λ n. acc_run (places_of plan) (lowered_program t) (selected (lowered_program t)) input n) (machine_run b input) (1000 + 16 * static_words t.statics)
+          agrees_at (source_run t input) (source_work t input) (λ n. acc_run (places_of plan) (lowered_program t) (selected (lowered_program t)) input n) (machine_run b input) (1000 + 16 * static_words t.statics)
           (λ n. laws.keeps t arrangements plan input n is words arranged planned given)
           (λ n. c.images_keep_runs.ensures.keeps (emission_of t plan arrangements step) image b input n (emission t plan arrangements step is words arranged planned emittable low) (usable t plan arrangements step is words) words.statics linked ranges small starts begins given);
       in_time = λ t plan arrangements step image is words arranged planned emittable low linked ranges small.
           λ b input n outs ending work starts begins given ended.
-          in_time (tree_run (places_of plan) (lowered_program t) input n) (acc_run (places_of plan) (lowered_program t) (selected (lowered_program t)) input n) (machine_run b input) n (1000 + 16 * static_words t.statics)
-          (c.typed_programs_keep.ensures.keeps (places_of plan) t input n is words (laws.far t arrangements plan arranged planned) given)
+          in_time (worked_run t input n) (acc_run (places_of plan) (lowered_program t) (selected (lowered_program t)) input n) (machine_run b input) n (1000 + 16 * static_words t.statics)
+          (laws.keeps t arrangements plan input n is words arranged planned given)
           (c.images_keep_runs.ensures.keeps (emission_of t plan arrangements step) image b input n (emission t plan arrangements step is words arranged planned emittable low) (usable t plan arrangements step is words) words.statics linked ranges small starts begins given)
           outs ending work ended;
     }
