@@ -28,8 +28,8 @@ use Rattle.image_proof.specs.acc_select_proof.SourceSequences.{at_step, source_s
 use Rattle.image_proof.specs.frame_emit.Frames.{all_parameters}
 use Rattle.image_proof.specs.Agreeing.{emission_of}
 use Rattle.image_proof.specs.Directs as directs
-use Rattle.image_proof.specs.Directs.{AreDirect, given_of, numbers_from}
-use Rattle.image_proof.specs.FunctionWalks.{place_of}
+use Rattle.image_proof.specs.Directs.{AreDirect, given_of}
+use Rattle.image_proof.specs.FrameWords.{numbers_from, place_of}
 use Rattle.cc_compile.specs.Compiles.{HaveNames, IsDataOf}
 use Rattle.cc_compile.specs.DataWords.{AllNameDirectly, NamesDirectly, given_from, place_words}
 use Rattle.cc_compile.specs.Images.{FrameJobs, HasFrames, HasImage, IsDirect, IsPlanOf, layouts, source_jobs}

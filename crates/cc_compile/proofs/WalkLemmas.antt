@@ -27,10 +27,12 @@ use Rattle.c25_isa.specs.Walk.{Blocks}
 use Rattle.c25_code.specs.Links.{pieces_size}
 use Rattle.image_proof.specs.Agreeing.{emission_of}
 use Rattle.image_proof.specs.Keeping.{all_pieces as emission_pieces}
-use Rattle.image_proof.specs.FunctionWalks.{HasWalk, IsFunctionOf, place_of}
+use Rattle.image_proof.specs.FrameWords.{place_of}
+use Rattle.image_proof.specs.FunctionWalks.{HasWalk, IsFunctionOf}
 use Rattle.frame_layouts.specs.Frames.{ClaimsHold, frame_of, frames_of, layout_of}
 use Rattle.frame_layouts.specs.lay_par.Jobs.{Job}
-use Rattle.cc_compile.specs.Images.{AreWalked, AreWalkedAs, FrameJobs, HasFrames, HasImage, IsWalked, IsWalkedAs, all_pieces, layouts}
+use Rattle.cc_compile.specs.Images.{FrameJobs, HasFrames, HasImage, all_pieces, layouts}
+use Rattle.cc_compile.specs.Walked.{AreWalked, AreWalkedAs, IsWalked, IsWalkedAs}
 use Rattle.cc_compile.proofs.AgreementLemmas.{size_same}
 use Rattle.cc_compile.proofs.OneImage.{one_plan}
 

@@ -20,7 +20,7 @@ use Rattle.frame_layouts.specs.declared.options.Options.{Options}
 use Rattle.image_proof.specs.Agreeing.{EndsInTime}
 use Rattle.tree_code.specs.Lowered.{lowered_program}
 use Rattle.cc_compile.specs.DataWords.{AllNameDirectly}
-use Rattle.cc_compile.specs.Images.{AccessAs, AreWalked}
+use Rattle.cc_compile.specs.Walked.{AccessAs, AreWalked}
 
 -- the names of a program's functions, in order
 abbrev pub names_of : ProgramTree → List (List ℕ)

@@ -9,8 +9,7 @@ use Rattle.c25_isa.specs.Image.{Contents}
 use Rattle.frame_layouts.specs.lay_cert.Frames.{Frame}
 use Rattle.frame_layouts.specs.mem_plan.declared.data_plan.DataPlan.{DataPlan}
 use Rattle.frame_layouts.specs.mem_plan.declared.data_plan.FramePlan.{FramePlan}
-use Rattle.image_proof.specs.Directs.{numbers_from, object_words}
-use Rattle.image_proof.specs.FunctionWalks.{place_of}
+use Rattle.image_proof.specs.FrameWords.{numbers_from, object_words, place_of}
 use Rattle.image_proof.specs.frame_emit.Frames.{parameter_address}
 
 -- the words of a frame's scalars

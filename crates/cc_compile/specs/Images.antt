@@ -1,6 +1,6 @@
 -- What a typed program becomes (docs/TRANSLATION.md): word trees, accumulator code, layouts of frames, a plan of data memory, pieces, an image and a
 -- certificate. A command chooses how frames are laid out.
-use Rattle.std.specs.Prelude.{◌≡◌, ℕ, ◌<◌, ◌≤◌, List, ◌++◌, map, slice_get, Some, All}
+use Rattle.std.specs.Prelude.{◌≡◌, ℕ, ◌<◌, ◌≤◌, List, ◌++◌, map, All}
 use Rattle.word_base.specs.Ports.{Input, IsInput}
 use Rattle.c_tree.specs.TypedTree.{ProgramTree}
 use Rattle.tree_code.specs.WordTree.{ProgramCode}
@@ -18,17 +18,11 @@ use Rattle.image_proof.specs.ir_semantics.SourceWork.{worked_run}
 use Rattle.image_proof.specs.PlanPlaces.{places_of}
 use Rattle.image_proof.specs.Agreeing.{emission_of}
 use Rattle.image_proof.specs.Directs.{AreDirect}
-use Rattle.image_proof.specs.FunctionWalks.{place_of}
 use Rattle.frame_layouts.specs.lay_cert.Frames.{Frame}
 use Rattle.frame_layouts.specs.declared.options.Options.{Options}
 use Rattle.frame_layouts.specs.Frames.{IsJob, job_with, layout_of, frames_of}
 use Rattle.frame_layouts.specs.lay_par.Jobs.{Job}
-use Rattle.frame_layouts.specs.lay_cost.Cost.{arranged_cost}
-use Rattle.lay_model.specs.Sequences.{Sequence}
-use Rattle.c25_isa.specs.declared.image.FunctionRange.{FunctionRange}
-use Rattle.c25_isa.specs.AddressCount.{address_count}
 use Rattle.c25_isa.specs.Image.{Contents}
-use Rattle.c25_isa.specs.Walk.{Blocks, walk}
 use Rattle.c25_isa.specs.Pieces.{Piece, Linked, PiecesFit}
 use Rattle.image_proof.specs.c25_helper.Calls.{called_helper_pieces}
 use Rattle.c25_link.specs.Linking.{linked_image, pieces_words}
@@ -85,10 +79,6 @@ pub record HasFrames (o : FrameJobs) (t : ProgramTree) (frames : List Frame) : T
   pub planned : IsPlanOf o t plan
   pub are : frames ≡ frames_of (selected (lowered_program t)) o.jobs plan.frames
 
--- frames are laid out for the accesses of a program's functions, in order
-abbrev pub AccessAs : ℕ → ProgramTree → List Frame → Type 0
-AccessAs step t frames = map (λ (f : Frame). f.seq) frames ≡ map (source_sequence step) t.functions
-
 -- what its accumulator code does, with objects where a plan of it has them, is what the program does, on any input and with any number of turns, with no
 -- more work
 abbrev pub KeepsRuns : FrameJobs → ProgramTree → Type 0
@@ -99,30 +89,6 @@ KeepsRuns o t = (plan : DataPlan) → IsPlanOf o t plan → (input : Input) (n :
 abbrev pub TreeKeepsRuns : FrameJobs → ProgramTree → Type 0
 TreeKeepsRuns o t = (plan : DataPlan) → IsPlanOf o t plan → (input : Input) (n : ℕ) → IsInput input
     → Keeps (worked_run t input n) (tree_run (places_of plan) (lowered_program t) input n)
-
--- a frame of a number: the function of that number has a range in the image. A walk of it finds these accesses, each scalar where the frame has it, and
--- it has so many address instructions as they cost by the frame's layout
-pub record IsWalkedAs (image : Contents) (k : ℕ) (accesses : Sequence) (f : Frame) : Type 0 where
-  pub range : FunctionRange
-  pub there : slice_get image.functions k ≡ Some range
-  pub named : range.name ≡ f.name
-  pub walks : walk image.words range.first range.last ≡ Blocks (map (λ b. map (place_of f.bases f.arr) b.accesses) accesses.blocks)
-  pub counts : address_count image.words range.first range.last ≡ arranged_cost accesses f.arr
-
-abbrev pub AreWalkedAs : Contents → List Sequence → List Frame → Type 0
-AreWalkedAs image sequences frames = (k : ℕ) (s : Sequence) (f : Frame) → slice_get sequences k ≡ Some s → slice_get frames k ≡ Some f → IsWalkedAs image k s f
-
--- a frame of a number: the function of that number has a range in the image. A walk of it finds the accesses of the frame, each scalar where the frame
--- has it, and it has so many address instructions as the frame costs
-pub record IsWalked (image : Contents) (k : ℕ) (f : Frame) : Type 0 where
-  pub range : FunctionRange
-  pub there : slice_get image.functions k ≡ Some range
-  pub named : range.name ≡ f.name
-  pub walks : walk image.words range.first range.last ≡ Blocks (map (λ b. map (place_of f.bases f.arr) b.accesses) f.seq.blocks)
-  pub counts : address_count image.words range.first range.last ≡ f.cost
-
-abbrev pub AreWalked : Contents → List Frame → Type 0
-AreWalked image frames = (k : ℕ) (f : Frame) → slice_get frames k ≡ Some f → IsWalked image k f
 
 -- the direct operands of each function name no word of its scalars
 abbrev pub IsDirect : FrameJobs → ProgramTree → Contents → Type 0

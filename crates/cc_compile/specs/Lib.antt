@@ -9,6 +9,7 @@ pub use Rattle.frame_layouts.specs.lay_cert as lay_cert
 pub use Rattle.image_proof.specs as image_proof
 pub use Rattle.image_proof.specs.frame_emit as frame_emit
 pub use Rattle.image_proof.specs.tree_code_proof as tree_code_proof
+pub mod Walked
 pub mod Images
 pub mod DataWords
 pub mod TranslationFaults

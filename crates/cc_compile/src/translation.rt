@@ -12,7 +12,8 @@ ghost use Rattle.frame_layouts.specs.Frames.{AreOptions, AreLayouts, ClaimsHold,
 ghost use Rattle.image_proof.specs.Agreeing.{EndsInTime};
 ghost use Rattle.image_proof.specs.acc_select_proof.SourceSequences.{source_sequence};
 ghost use Rattle.cc_compile.specs.TranslationFaults.{Says, SaysOfPieces, SaysOfTree};
-ghost use Rattle.cc_compile.specs.Images.{AccessAs, AreJobs, AreWalked, AreWalkedAs, HasFrames, HasImage, IsDirect, KeepsRuns, TreeKeepsRuns, all_pieces, jobs_at, source_jobs, with_helpers as with_called};
+ghost use Rattle.cc_compile.specs.Images.{AreJobs, HasFrames, HasImage, IsDirect, KeepsRuns, TreeKeepsRuns, all_pieces, jobs_at, source_jobs, with_helpers as with_called};
+ghost use Rattle.cc_compile.specs.Walked.{AccessAs, AreWalked, AreWalkedAs};
 ghost use Rattle.cc_compile.specs.Selections.{IsSelection, IsSelectionOf, IsPlanned};
 ghost use Rattle.frame_layouts.specs.lay_cert.Frames.{Frame};
 ghost use Rattle.frame_layouts.specs.mem_plan.Plan.{AreArranged};

@@ -6,7 +6,8 @@ use Rattle.std.proofs.lemmas.Option.{none-some, same_Some}
 use Rattle.c_tree.specs.TypedTree.{ObjectTree}
 use Rattle.c25_isa.specs.Direct.{is_among, is_scratch}
 use Rattle.emit_blocks.specs.Places.{or_zero}
-use Rattle.image_proof.specs.Directs.{numbers_from, object_words, given_of, given_from}
+use Rattle.image_proof.specs.Directs.{given_of, given_from}
+use Rattle.image_proof.specs.FrameWords.{numbers_from, object_words}
 
 -- truths
 or_so : (b c : Bool) → c ≡ true → (b || c) ≡ true

@@ -43,9 +43,10 @@ use Rattle.image_proof.specs.RunWalks.{address_of}
 use Rattle.image_proof.specs.DirectPieces.{words, IsNamedPlace, IsGivenPlace, KeepsReturn, ScratchIsApart, OperandNames, ItemNames}
 use Rattle.image_proof.proofs.ImageCalls.{names_in, setting_in}
 use Rattle.image_proof.proofs.Items.{each_item}
-use Rattle.image_proof.specs.FunctionWalks.{IsFunctionOf, place_of}
+use Rattle.image_proof.specs.FrameWords.{numbers_from, object_words, place_of}
+use Rattle.image_proof.specs.FunctionWalks.{IsFunctionOf}
 use Rattle.image_proof.proofs.Runs.{lie}
-use Rattle.image_proof.specs.Directs.{numbers_from, own_words, object_words, place_words, given_words}
+use Rattle.image_proof.specs.Directs.{own_words, place_words, given_words}
 use Rattle.image_proof.proofs.Among.{among_behind, among_first, among_here, given_among, never_among, not_scratch, object_among, scratch_low, word_among}
 
 -- the parameters of a function among those of all

@@ -44,7 +44,8 @@ use Rattle.image_proof.specs.RunWalks.{with_scalar, scalars_of, address_of, AreO
 use Rattle.image_proof.proofs.Arranging.{lists_agree}
 use Rattle.image_proof.proofs.WholeWalks.{run_walks}
 use Rattle.image_proof.specs.PieceWalks.{EntryWalks, RunsWalk}
-use Rattle.image_proof.specs.FunctionWalks.{IsFunctionOf, place_of}
+use Rattle.image_proof.specs.FrameWords.{place_of}
+use Rattle.image_proof.specs.FunctionWalks.{IsFunctionOf}
 
 -- where a scalar stands in a list, by whether it does
 positions_so : (l : List ℕ) (n : ℕ) → position_in l n ≡ (if has l n then Some (lay.position_in l n) else None)

@@ -1,6 +1,5 @@
 -- The words of data memory that direct operands of a function may name, by the plan of its program.
-use Rattle.std.specs.Prelude.{◌≡◌, ℕ, zero, suc, List, [], ◌∷◌, ◌++◌, map, slice_get, Option, option_to_list, Some, None}
-use Rattle.c_tree.specs.TypedTree.{ObjectTree}
+use Rattle.std.specs.Prelude.{◌≡◌, ℕ, suc, List, [], ◌∷◌, ◌++◌, map, slice_get, Option, option_to_list, Some, None}
 use Rattle.tree_code.specs.WordTree.{FunctionCode}
 use Rattle.acc_code.specs.AccTree.{FunctionItems}
 use Rattle.image_proof.specs.acc_select.IsSelected.{called_parameters}
@@ -10,22 +9,12 @@ use Rattle.c25_isa.specs.Direct.{Direct}
 use Rattle.c25_isa.specs.Image.{Contents}
 use Rattle.image_proof.specs.Emissions.{Emission}
 use Rattle.image_proof.specs.ActiveSites.{parameters_of}
-use Rattle.image_proof.specs.FunctionWalks.{IsFunctionOf, place_of}
-
--- so many numbers from one on
-abbrev pub numbers_from : ℕ → ℕ → List ℕ
-numbers_from n zero = []
-numbers_from n (suc count) = n ∷ numbers_from (suc n) count
+use Rattle.image_proof.specs.FrameWords.{numbers_from, object_words, place_of}
+use Rattle.image_proof.specs.FunctionWalks.{IsFunctionOf}
 
 -- the words of a function's frame, of each scalar
 abbrev pub own_words : FunctionCode → FramePlan → List (List ℕ) → List ℕ
 own_words code frame lists = map (place_of frame.bases lists) (numbers_from 0 code.scalars)
-
--- the words of objects at these addresses
-abbrev pub object_words : List ℕ → List ObjectTree → List ℕ
-object_words [] os = []
-object_words (a ∷ rest) [] = []
-object_words (a ∷ rest) (o ∷ os) = numbers_from a o.length ++ object_words rest os
 
 -- those of static objects, of its own local ones, and of its return address
 abbrev pub place_words : Emission → FunctionCode → FramePlan → List ℕ

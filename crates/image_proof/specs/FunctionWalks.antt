@@ -1,5 +1,5 @@
 -- The functions of an image, and what a walk finds in their ranges.
-use Rattle.std.specs.Prelude.{◌≡◌, ℕ, ◌+◌, List, map, sum_by, slice_get, slice_index, Some}
+use Rattle.std.specs.Prelude.{◌≡◌, ℕ, List, map, sum_by, slice_get, Some}
 use Rattle.tree_code.specs.WordTree.{FunctionCode}
 use Rattle.acc_code.specs.AccTree.{FunctionItems}
 use Rattle.acc_code.specs.AccSequence.{blocks_of}
@@ -9,8 +9,9 @@ use Rattle.c25_isa.specs.Image.{Contents}
 use Rattle.c25_isa.specs.Walk.{Blocks, walk}
 use Rattle.c25_isa.specs.AddressCount.{address_count}
 use Rattle.lay_cost.specs.Cost.{block_cost}
-use Rattle.lay_cost.specs.Placements.{list_of, place_in, placement_of}
+use Rattle.lay_cost.specs.Placements.{placement_of}
 use Rattle.image_proof.specs.Emissions.{Emission}
+use Rattle.image_proof.specs.FrameWords.{place_of}
 
 -- a function with its code, its frame and its lists
 pub record IsFunctionOf (e : Emission) (k : ℕ) (code : FunctionCode) (g : FunctionItems) (frame : FramePlan) (lists : List (List ℕ)) : Type 0 where
@@ -18,10 +19,6 @@ pub record IsFunctionOf (e : Emission) (k : ℕ) (code : FunctionCode) (g : Func
   pub items_at : slice_get e.items k ≡ Some g
   pub frame_at : slice_get e.plan.frames k ≡ Some frame
   pub lists_at : slice_get e.arrangements k ≡ Some lists
-
--- where a scalar is, by the lists of its frame and the addresses at which they begin
-abbrev pub place_of : List ℕ → List (List ℕ) → ℕ → ℕ
-place_of bases lists n = slice_index bases (list_of lists n) + place_in lists n
 
 -- the function has a range in the image. A walk of it finds the accesses of each block where the frame has its scalars, and it has so many address
 -- instructions as these blocks cost by the lists of the frame

@@ -24,5 +24,6 @@ pub mod Outside
 pub mod PieceWalks
 pub mod DirectPieces
 pub mod DirectRuns
+pub mod FrameWords
 pub mod FunctionWalks
 pub mod Directs

@@ -13,10 +13,10 @@ use Rattle.c25_walk.specs.Walks.{walk_of}
 use Rattle.lay_model.specs.Sequences.{Block, Sequence}
 use Rattle.cc_compile.specs.c_tree.TypedTree.{ProgramTree}
 use Rattle.cc_compile.specs.Compiles.{IsBuilt}
-use Rattle.cc_compile.specs.Images.{AccessAs, AreWalked, IsWalked}
+use Rattle.cc_compile.specs.Walked.{AccessAs, AreWalked, IsWalked}
 use Rattle.cc_compile.specs.frame_layouts.declared.options.Options.{Options}
 use Rattle.cc_compile.specs.lay_cert.Frames.{Frame}
-use Rattle.cc_compile.specs.image_proof.FunctionWalks.{place_of}
+use Rattle.cc_compile.specs.image_proof.FrameWords.{place_of}
 use Rattle.cc_compile.specs.image_proof.acc_select_proof.SourceSequences.{source_sequence}
 use Rattle.lay_profile.specs.Shapes.{HasShape, HasShapeOf, accesses_of}
 use Rattle.lay_profile.proofs.ShapeLemmas.{listed_at}

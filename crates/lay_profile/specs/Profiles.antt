@@ -13,11 +13,12 @@ use Rattle.cc_compile.specs.c_syntax.declared.token.Token.{Token}
 use Rattle.cc_compile.specs.c_tree.SourceRun.{source_run}
 use Rattle.cc_compile.specs.c_tree.TypedTree.{ProgramTree}
 use Rattle.cc_compile.specs.Compiles.{HaveNames}
-use Rattle.cc_compile.specs.Images.{AreWalkedAs, FrameJobs, HasFrames, HasImage, HasLinkFault, HasPlanFault, IsDirect, KeepsRuns, TreeKeepsRuns}
+use Rattle.cc_compile.specs.Images.{FrameJobs, HasFrames, HasImage, HasLinkFault, HasPlanFault, IsDirect, KeepsRuns, TreeKeepsRuns}
 use Rattle.cc_compile.specs.declared.fault.BuildFault.TheVariants as build
 use Rattle.cc_compile.specs.image_proof.Agreeing.{EndsInTime}
 use Rattle.cc_compile.specs.lay_cert.Frames.{Frame}
 use Rattle.cc_compile.specs.lay_cert.declared.certificate.Claim.TheVariants.{Optimal}
+use Rattle.cc_compile.specs.Walked.{AreWalkedAs}
 use Rattle.cc_compile.specs.SourceFaults.{HasNoProgramFor, HasTree, IsTypedWith}
 use Rattle.lay_profile.specs.declared.fault.ProfileFault.{ProfileFault}
 use Rattle.lay_profile.specs.declared.fault.ProfileFault.TheVariants.{Lex, Parse, Types, OtherSource, Plan, Link}

@@ -9,8 +9,9 @@ use Rattle.frame_layouts.specs.Frames.{ClaimsHold}
 use Rattle.c_tree.specs.TypedTree.{ProgramTree}
 use Rattle.frame_layouts.specs.declared.options.Options.{Options}
 use Rattle.image_proof.specs.Agreeing.{EndsInTime}
-use Rattle.cc_compile.specs.Images.{AccessAs, AreWalked, HasFrames, HasImage, IsDirect, KeepsRuns, TreeKeepsRuns, source_jobs}
+use Rattle.cc_compile.specs.Images.{HasFrames, HasImage, IsDirect, KeepsRuns, TreeKeepsRuns, source_jobs}
 use Rattle.cc_compile.specs.Made.{IsMade}
+use Rattle.cc_compile.specs.Walked.{AccessAs, AreWalked}
 use Rattle.cc_compile.specs.PartFaults.{of_translation_fault}
 use Rattle.cc_compile.specs.SourceFaults.{HasFault, HasProgram}
 use Rattle.cc_compile.specs.declared.fault.BuildFault.{BuildFault}
