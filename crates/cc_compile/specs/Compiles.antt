@@ -11,13 +11,13 @@ use Rattle.c_rules.specs.Checked.{IsTyped}
 use Rattle.c25_isa.specs.Agrees.{Agrees}
 use Rattle.c25_isa.specs.declared.image.FunctionRange.{FunctionRange}
 use Rattle.c25_isa.specs.Image.{Contents}
-use Rattle.frame_layouts.specs.Frames.{IsFound}
+use Rattle.frame_layouts.specs.Claims.{IsFound}
 use Rattle.frame_layouts.specs.lay_cert.Frames.{Frame}
 use Rattle.frame_layouts.specs.mem_plan.declared.data_plan.DataPlan.{DataPlan}
 use Rattle.frame_layouts.specs.mem_plan.declared.data_plan.FramePlan.{FramePlan}
 use Rattle.frame_layouts.specs.mem_plan.Plan.{IsPlan}
 use Rattle.frame_layouts.specs.declared.options.Options.{Options}
-use Rattle.image_proof.specs.Agreeing.{EndsInTime}
+use Rattle.image_proof.specs.InTime.{EndsInTime}
 use Rattle.tree_code.specs.Lowered.{lowered_program}
 use Rattle.cc_compile.specs.DataWords.{AllNameDirectly}
 use Rattle.cc_compile.specs.Walked.{AccessAs, AreWalked}

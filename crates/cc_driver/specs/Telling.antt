@@ -5,9 +5,9 @@ use Rattle.word_base.specs.Ports.{Input, Outputs}
 use Rattle.c_tree.specs.TypedTree.{ProgramTree}
 use Rattle.c25_isa.specs.declared.event.Stop.{Stop}
 use Rattle.c25_isa.specs.declared.event.Stop.TheVariants as stop
-use Rattle.ir_semantics.specs.Keeps.{Ended}
+use Rattle.ir_semantics.specs.WorkOutcomes.{Ended}
 use Rattle.ir_semantics.specs.SourceWork.{worked_run}
-use Rattle.cc_files.specs.frame_emit.Startup.{static_words}
+use Rattle.cc_files.specs.frame_emit.StaticWords.{static_words}
 use Rattle.cc_files.specs.image_proof.Telling.{EndsSo, IsUndefined}
 
 -- a run of so many steps that put these outputs and stands here was answered with this status: with 0 the program ends with the same outputs and ending, or

@@ -1,6 +1,6 @@
 -- The startup: it makes the modes those of the compiler, clears the static objects and gives them their first values, calls `main` and ends
 -- (docs/TRANSLATION.md, "Pieces").
-use Rattle.std.specs.Prelude.{ℕ, ◌+◌, nat_lt, ◌==◌, Bool, false, if◌then◌else◌, List, [], ◌∷◌, ◌++◌, map, sum_by, codes, Option, Some, None}
+use Rattle.std.specs.Prelude.{ℕ, ◌+◌, nat_lt, ◌==◌, Bool, false, if◌then◌else◌, List, [], ◌∷◌, ◌++◌, map, codes, Option, Some, None}
 use Rattle.c_tree.specs.declared.program.Initial.{Initial}
 use Rattle.c_tree.specs.declared.program.Initial.TheVariants.{Word, Address, Null}
 use Rattle.c_tree.specs.SourceRun.{main_name}
@@ -17,6 +17,7 @@ use Rattle.c25_code.specs.Items.{plain_items}
 use Rattle.c25_code.specs.ClearingLoops.{clears_at_one}
 use Rattle.c25_code.specs.Startups.{startup_items}
 use Rattle.emit_blocks.specs.Places.{address_in}
+pub use Rattle.frame_emit.specs.StaticWords.{static_words}
 
 -- no function of a program has this name
 abbrev pub startup_name : List ℕ
@@ -25,10 +26,6 @@ startup_name = codes ".start"
 -- the first word behind the scratch words
 abbrev pub STATICS_START : ℕ
 STATICS_START = 784
-
--- the words of static objects, each with its spare word
-abbrev pub static_words : List ObjectTree → ℕ
-static_words os = sum_by (λ o. o.length + 1) os
 
 -- all of them become 0. Their number may have bit 15 set, so it is loaded without its sign
 abbrev pub clearing_head : ℕ → List PieceItem

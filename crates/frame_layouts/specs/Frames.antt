@@ -4,19 +4,14 @@ use Rattle.acc_code.specs.AccTree.{FunctionItems}
 use Rattle.acc_code.specs.AccSequence.{sequence_of}
 use Rattle.lay_model.specs.Sequences.{Sequence, IsSequence}
 use Rattle.lay_par.specs.Jobs.{Job}
-use Rattle.lay_tree.specs.declared.answer.Mark.{Mark}
 use Rattle.lay_tree.specs.declared.answer.Answer.{Answer}
-use Rattle.lay_tree.specs.declared.answer.Answer.TheVariants.{Certified, Exhausted}
 use Rattle.lay_tree.specs.Search.{search_answer, answer_lists, answer_cost}
-use Rattle.lay_cert.specs.declared.certificate.Claim.{Claim}
-use Rattle.lay_cert.specs.declared.certificate.Claim.TheVariants.{Optimal, Best}
 use Rattle.lay_cert.specs.Frames.{Frame}
-use Rattle.lay_cost.specs.Cost.{arranged_cost, Least}
-use Rattle.lay_tree.specs.Replays.{Replays}
 use Rattle.mem_plan.specs.declared.data_plan.FramePlan.{FramePlan}
 use Rattle.frame_layouts.specs.declared.options.Options.{Options}
 use Rattle.frame_layouts.specs.declared.layouts.Finding.{Finding}
 use Rattle.frame_layouts.specs.declared.layouts.Layouts.{Layouts}
+pub use Rattle.frame_layouts.specs.Claims.{claim_of, log_of, IsFound, ClaimsHold}
 
 -- the registers and the step are in their ranges; each budget has an answer
 pub record AreOptions (o : Options) : Type 0 where
@@ -49,15 +44,6 @@ answer_for job = search_answer job.registers job.sequence job.budget
 -- the layout that is found
 abbrev pub layout_of : Job → List (List ℕ)
 layout_of job = answer_lists (answer_for job)
-
--- what an answer claims, and the log that shows it
-abbrev pub claim_of : Answer → Claim
-claim_of (Certified lists cost log) = Optimal
-claim_of (Exhausted lists cost piece quota log) = Best piece quota
-
-abbrev pub log_of : Answer → List Mark
-log_of (Certified lists cost log) = log
-log_of (Exhausted lists cost piece quota log) = log
 
 abbrev pub finding_of : List ℕ → Job → Answer → Finding
 finding_of name job a = record { name = name; job = job; cost = answer_cost a; claim = claim_of a; log = log_of a }
@@ -124,17 +110,3 @@ frames_with xs rest plans = []
 -- each plan has a base for each list of a job's layout
 abbrev pub AreBased : List Job → List FramePlan → Type 0
 AreBased jobs plans = map (λ plan. length plan.bases) plans ≡ map (λ job. length (layout_of job)) jobs
-
--- a frame is what the search answers for its sequence, as is chosen
-pub record IsFound (o : Options) (f : Frame) : Type 0 where
-  pub registers : f.registers ≡ o.registers
-  pub layout : f.arr ≡ answer_lists (search_answer o.registers f.seq o.budget)
-  pub cost : f.cost ≡ answer_cost (search_answer o.registers f.seq o.budget)
-  pub claim : f.claim ≡ claim_of (search_answer o.registers f.seq o.budget)
-  pub log : f.log ≡ log_of (search_answer o.registers f.seq o.budget)
-
--- a frame costs what it says. Where it is claimed to be optimal, its log shows that no layout costs less
-pub record ClaimsHold (f : Frame) : Type 0 where
-  pub cost : f.cost ≡ arranged_cost f.seq f.arr
-  pub log : f.claim ≡ Optimal → Replays f.registers f.seq f.cost f.log
-  pub least : f.claim ≡ Optimal → Least f.seq f.registers f.cost

@@ -1,25 +1,12 @@
--- Images beside typed programs: they agree, and end in time.
-use Rattle.std.specs.Prelude.{◌≡◌, ◌≤◌, ◌<◌, ℕ, ◌+◌, ◌*◌, List}
-use Rattle.word_base.specs.declared.outcome.Ending.{Ending}
-use Rattle.word_base.specs.Ports.{Input, IsInput, Outputs}
+-- What the pieces of typed programs are emitted from, and when their images end in time.
+use Rattle.std.specs.Prelude.{ℕ, List}
 use Rattle.c_tree.specs.TypedTree.{ProgramTree}
 use Rattle.tree_code.specs.Lowered.{lowered_program}
 use Rattle.acc_select.specs.Selected.{selected}
-use Rattle.c25_isa.specs.State.{Start, IsStart, BeginsWith}
-use Rattle.c25_isa.specs.MachineRun as machine
-use Rattle.c25_isa.specs.MachineRun.{machine_run}
-use Rattle.ir_semantics.specs.Keeps.{Ended}
-use Rattle.ir_semantics.specs.SourceWork.{worked_run}
 use Rattle.mem_plan.specs.declared.data_plan.DataPlan.{DataPlan}
-use Rattle.frame_emit.specs.Startup.{static_words}
 use Rattle.image_proof.specs.Emissions.{Emission}
+pub use Rattle.image_proof.specs.InTime.{EndsInTime}
 
 -- what the pieces of a typed program are emitted from
 abbrev pub emission_of : ProgramTree → DataPlan → List (List (List ℕ)) → ℕ → Emission
 emission_of t plan arrangements step = record { code = lowered_program t; items = selected (lowered_program t); plan = plan; arrangements = arrangements; step = step }
-
--- where the program ends, the image does within 1,000 steps, 16 for each word of static objects, and 64 for each unit of the program's work
-abbrev pub EndsInTime : ProgramTree → List ℕ → Type 0
-EndsInTime t words =
-    (b : Start) (input : Input) (n : ℕ) (outs : Outputs) (ending : Ending) (work : ℕ) → IsStart b → BeginsWith words b → IsInput input → worked_run t input n ≡ Ended outs ending work
-    → (m : ℕ) × (m ≤ 1000 + 16 * static_words t.statics + 64 * work) × (machine_run b input m ≡ machine.Ended outs ending)

@@ -16,6 +16,7 @@ pub mod ActiveSites
 pub mod Kept
 pub mod Beginnings
 pub mod Keeping
+pub mod InTime
 pub mod Agreeing
 pub mod Telling
 pub mod RunWalks

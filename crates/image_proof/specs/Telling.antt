@@ -9,9 +9,9 @@ use Rattle.c_tree.specs.TypedTree.{ProgramTree}
 use Rattle.c25_isa.specs.declared.event.Stop.{Stop}
 use Rattle.c25_isa.specs.declared.event.Stop.TheVariants as stop
 use Rattle.c25_isa.specs.declared.trap.TrapKind.{TrapKind}
-use Rattle.ir_semantics.specs.Keeps.{Ended}
+use Rattle.ir_semantics.specs.WorkOutcomes.{Ended}
 use Rattle.ir_semantics.specs.SourceWork.{worked_run}
-use Rattle.frame_emit.specs.Startup.{static_words}
+use Rattle.frame_emit.specs.StaticWords.{static_words}
 
 -- the program does something undefined, where each execution of each loop has at most so many turns
 pub record IsUndefined (t : ProgramTree) (input : Input) : Type 0 where

@@ -11,17 +11,7 @@ use Rattle.ir_semantics.specs.Outside.{Places, no_words, first_outside}
 use Rattle.ir_semantics.specs.TreeRun.{Tree, run_tree}
 use Rattle.ir_semantics.specs.AccRows.{Gone, low_half}
 use Rattle.ir_semantics.specs.AccRun.{Machine, run_items}
-
--- the end of a run with its work, a run with a turn too many, or one with an undefined operation
-pub data WorkOutcome : Type 0 where
-  Ended : Outputs → Ending → ℕ → WorkOutcome
-  More : Outputs → WorkOutcome
-  Undefined : Outputs → WorkOutcome
-
-abbrev pub outputs_of : WorkOutcome → Outputs
-outputs_of (Ended outs ending work) = outs
-outputs_of (More outs) = outs
-outputs_of (Undefined outs) = outs
+pub use Rattle.ir_semantics.specs.WorkOutcomes.{WorkOutcome, Ended, More, Undefined, outputs_of}
 
 -- a `main` that ended without a value returns 0
 abbrev pub word_or_zero : Option ℕ → ℕ

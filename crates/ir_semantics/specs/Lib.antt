@@ -5,6 +5,7 @@ pub mod Meanings
 pub mod TreeRun
 pub mod AccRows
 pub mod AccRun
+pub mod WorkOutcomes
 pub mod Keeps
 pub mod Weights
 pub mod SourceWeights

@@ -11,7 +11,7 @@ use Rattle.c_tree.specs.Eval.{Env, Calls, points, lvalue_place, test_of, eval, v
 use Rattle.c_tree.specs.Exec.{Flow, Next, Broke, Continued, Returned, enter, third_of, test_or_true, word_or_zero, exec}
 use Rattle.c_tree.specs.Labels.{has_case}
 use Rattle.c_tree.specs.SourceRun.{nothing_named, pass, call_within, main_of, first_world, source_run}
-use Rattle.ir_semantics.specs.Keeps.{WorkOutcome, Ended, More, Undefined}
+use Rattle.ir_semantics.specs.WorkOutcomes.{WorkOutcome, Ended, More, Undefined}
 
 -- the work of a part of a run, from the world in which it begins
 abbrev pub Work : Type 0
