@@ -1,5 +1,5 @@
 -- A call of a function: parameters get objects and arguments, the body runs, and behind it the caller's state stands again.
-use Rattle.std.proofs.Common.{◌≡◌, ℕ, ◌+◌, true, false, List, ◌∷◌, ◌++◌, Option, Some, None, refl, sym, subst}
+use Rattle.std.proofs.Common.{◌≡◌, ℕ, ◌+◌, List, ◌∷◌, ◌++◌, Option, Some, None, refl, sym, subst}
 use Rattle.std.specs.Prelude.{map, slice_get}
 use Rattle.std.proofs.lemmas.Bool.{false≢true}
 use Rattle.std.proofs.lemmas.List.Elements.{recursion_from_All}
@@ -20,7 +20,7 @@ use Rattle.c_tree.specs.WellFormedProgram.{IsFunction, IsParameter, program_call
 use Rattle.tree_code.specs.Lowered.{lowered_statement, lowered_function}
 use Rattle.tree_code.specs.WordTree.{FunctionCode}
 use Rattle.ir_semantics.specs.Outside.{Frame, Places, address_of}
-use Rattle.ir_semantics.specs.Parts.{Res, Gives, Finished, TooMany, Fails, Does, after, ◌>>=◌, Flow, Next, Broke, Continued, Returned}
+use Rattle.ir_semantics.specs.Parts.{Res, Gives, Finished, TooMany, Fails, Does, after, Flow, Next, Broke, Continued, Returned}
 use Rattle.ir_semantics.specs.TreeRun as run
 use Rattle.ir_semantics.specs.TreeRun.{Tree}
 use Rattle.tree_code_proof.specs.Seats.{Seats}

@@ -1,5 +1,5 @@
 -- Each form of a typed program counts, and then does what its parts do, with what they cost.
-use Rattle.std.proofs.Common.{◌≡◌, ℕ, ◌+◌, Bool, true, false, not, List, [], ◌∷◌, Option, Some, None, refl, ap, ◌∙◌}
+use Rattle.std.proofs.Common.{◌≡◌, ℕ, ◌+◌, Bool, not, ◌∷◌, Option, Some, None, refl, ap, ◌∙◌}
 use Rattle.std.specs.Prelude.{if◌then◌else◌}
 use Rattle.word_base.specs.Words.{truth}
 use Rattle.c_syntax.specs.declared.operator.UnaryOp.{UnaryOp}

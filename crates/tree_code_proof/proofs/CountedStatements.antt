@@ -20,7 +20,7 @@ use Rattle.ir_semantics.specs.SourceWork.{Work, Part, no_work, following, in_tur
 use Rattle.tree_code_proof.specs.Counted.{Does, ◌>>=◌, give, ticked, counted, free}
 use Rattle.tree_code_proof.specs.Evaluated as evaluation
 use Rattle.tree_code_proof.specs.Evaluated.{choose}
-use Rattle.tree_code_proof.specs.Executed.{too_many, enter, leave, fill, pass, after_turn, in_order, behind_switch, turns, turns_first, third_of, test_or_true, exec, exec_all, from_case, from_default, run_choices, call_function}
+use Rattle.tree_code_proof.specs.Executed.{enter, leave, fill, pass, after_turn, in_order, behind_switch, turns, turns_first, third_of, test_or_true, exec, exec_all, from_case, from_default, run_choices, call_function}
 use Rattle.tree_code_proof.proofs.Counting.{counted_behind, counted_nothing, bind_counted, bind_later, bind_first, bind_free, then_same, first_same, chosen_counted}
 
 chosen_free : {A : Type 0} (t : Bool) (f g : store.Does A) → free (evaluated.choose t f g) ≡ choose t (free f) (free g)

@@ -1,5 +1,5 @@
 -- What parts of a run cost together they cost one after another.
-use Rattle.std.proofs.Common.{◌≡◌, ℕ, ◌+◌, Bool, true, false, refl, ap, ◌∙◌, arith}
+use Rattle.std.proofs.Common.{◌≡◌, ℕ, ◌+◌, Bool, true, false, refl, ap, arith}
 use Rattle.std.specs.Prelude.{if◌then◌else◌}
 use mathlib.Core.Path.{fun_ext}
 use Rattle.word_base.specs.declared.outcome.Ending.{Ending}
@@ -7,7 +7,7 @@ use Rattle.word_base.specs.Ports.{Outputs}
 use Rattle.c_tree.specs.Store as plain
 use Rattle.c_tree.specs.Eval as plain_eval
 use Rattle.ir_semantics.specs.SourceWork.{Work, no_work, following, in_turn}
-use Rattle.tree_code_proof.specs.Counted.{World, Res, Finished, Does, after, ◌>>=◌, give, ticked, at_work, without_work, counted, free}
+use Rattle.tree_code_proof.specs.Counted.{Res, Finished, Does, after, ◌>>=◌, ticked, at_work, without_work, counted, free}
 use Rattle.tree_code_proof.specs.Evaluated.{choose}
 
 module _ {A : Type 0} (f : plain.Does A) where

@@ -1,5 +1,5 @@
 -- Forms of expressions, each from what its parts keep: constants, names and their addresses, what a pointer points to, and assignments.
-use Rattle.std.proofs.Common.{◌≡◌, ◌≢◌, ◌⊎◌, ⊎_elim, ℕ, ◌+◌, ◌<◌, ◌≤◌, Bool, true, false, List, Option, Some, None, refl, sym, ◌∙◌, subst, arith}
+use Rattle.std.proofs.Common.{◌≡◌, ◌≢◌, ⊎_elim, ℕ, ◌+◌, ◌<◌, ◌≤◌, Bool, true, false, List, Option, Some, None, refl, sym, ◌∙◌, subst, arith}
 use Rattle.std.proofs.lemmas.Bool.{cases_lt}
 use Rattle.word_base.specs.declared.outcome.UndefinedKind.TheVariants.{BadPointer}
 use Rattle.c_tree.specs.declared.program.VarRef.{VarRef}
@@ -10,7 +10,7 @@ use Rattle.c_tree.specs.Store.{Value, Word, Pointer, Null}
 use Rattle.tree_code_proof.specs.Counted.{World}
 use Rattle.tree_code_proof.specs.Evaluated as evaluation
 use Rattle.tree_code_proof.specs.Evaluated.{spot_of}
-use Rattle.ir_semantics.specs.Parts.{Res, Gives, Finished, TooMany, Fails, Does, after, ◌>>=◌}
+use Rattle.ir_semantics.specs.Parts.{Res, Gives, Finished, TooMany, Fails, Does, after}
 use Rattle.ir_semantics.specs.TreeRun as run
 use Rattle.ir_semantics.specs.TreeRun.{Tree, Addresses, need}
 use Rattle.tree_code_proof.specs.Seats.{Seat, Vacant, LiesAt, InFrame, Waits, Seats, PointsAt}

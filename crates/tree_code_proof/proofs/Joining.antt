@@ -5,7 +5,7 @@ use Rattle.tree_code_proof.specs.Counted as source
 use Rattle.c_tree.specs.Store.{Value, Word}
 use Rattle.tree_code_proof.specs.Counted.{World}
 use Rattle.tree_code_proof.specs.Evaluated as evaluation
-use Rattle.ir_semantics.specs.Parts.{Does, ◌>>=◌, choose}
+use Rattle.ir_semantics.specs.Parts.{Does, choose}
 use Rattle.ir_semantics.specs.TreeRun as run
 use Rattle.ir_semantics.specs.TreeRun.{Tree}
 use Rattle.tree_code_proof.specs.Seats.{Seats}

@@ -1,6 +1,5 @@
 -- What both runs come to: where `main` gives a word, or none, both return it, the word tree with at most as much work.
 use Rattle.std.proofs.Common.{◌≡◌, ℕ, ◌+◌, ◌≤◌, false, [], Option, Some, None, sym, ap, ◌∙◌, subst, arith}
-use Rattle.word_base.specs.declared.outcome.Ending.{Ending}
 use Rattle.word_base.specs.declared.outcome.Ending.TheVariants as ending
 use Rattle.word_base.specs.Ports.{Outputs, Prefix}
 use Rattle.c_tree.specs.Store as plain

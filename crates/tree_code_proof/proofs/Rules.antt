@@ -3,7 +3,6 @@ use Rattle.std.proofs.Common.{◌≡◌, ◌≤◌}
 use Rattle.word_base.specs.Ports.{Prefix}
 use Rattle.tree_code_proof.specs.Counted as source
 use Rattle.tree_code_proof.specs.Counted.{World}
-use Rattle.tree_code_proof.specs.Evaluated as evaluation
 use Rattle.ir_semantics.specs.Parts.{Res, Gives, Finished, TooMany, Fails, Does, after}
 use Rattle.ir_semantics.specs.TreeRun.{Tree}
 use Rattle.tree_code_proof.proofs.Growing.{outs_of, behind, Grows}

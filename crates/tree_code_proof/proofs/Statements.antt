@@ -1,5 +1,5 @@
 -- All statements of a function keep what they do, from what its expressions keep.
-use Rattle.std.proofs.Common.{◌≡◌, sym, ℕ, ◌+◌, Bool, true, false, cond, List, ◌∷◌, ◌++◌, Option, Some, None, refl, ap, subst}
+use Rattle.std.proofs.Common.{◌≡◌, sym, ℕ, ◌+◌, Bool, true, false, cond, List, ◌∷◌, ◌++◌, Option, Some, None, refl, subst}
 use Rattle.std.specs.Prelude.{◌==◌, slice_get}
 use Rattle.std.specs.List.{AllByRecursion}
 use Rattle.c_tree.specs.declared.enclosing.Enclosing.{Enclosing}

@@ -13,7 +13,7 @@ use Rattle.tree_code_proof.specs.Counted.{World}
 use Rattle.tree_code_proof.specs.Evaluated as evaluation
 use Rattle.c_tree.specs.Store as store
 use Rattle.c_tree.specs.Eval as plain
-use Rattle.ir_semantics.specs.Parts.{Res, Gives, Finished, TooMany, Fails, Does, after, ◌>>=◌, give}
+use Rattle.ir_semantics.specs.Parts.{Res, Gives, Finished, TooMany, Fails, Does, after, give}
 use Rattle.ir_semantics.specs.TreeRun as run
 use Rattle.ir_semantics.specs.TreeRun.{Tree}
 use Rattle.tree_code_proof.specs.Seats.{Seats, PointsAt}

@@ -4,7 +4,6 @@ use Rattle.c_syntax.specs.declared.operator.UnaryOp.{UnaryOp}
 use Rattle.c_syntax.specs.declared.operator.BinaryOp.{BinaryOp}
 use Rattle.word_base.specs.Words.{Calc}
 use Rattle.c_tree.specs.TypedTree.{Kind, Expr, Exprs}
-use Rattle.c_tree.specs.Store as store
 use Rattle.c_tree.specs.Store.{Value}
 use Rattle.c_tree.specs.Eval as plain
 use Rattle.c_tree.specs.Eval.{Env, Spot}

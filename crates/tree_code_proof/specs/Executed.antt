@@ -1,8 +1,8 @@
 -- The parts of statements that count nothing by themselves, turns of loops, and statements with their work.
-use Rattle.std.specs.Prelude.{ℕ, zero, suc, Bool, true, false, List, [], ◌∷◌, ◌++◌, Option}
+use Rattle.std.specs.Prelude.{ℕ, zero, suc, Bool, List, Option}
 use Rattle.c_tree.specs.declared.program.VarRef.{VarRef}
 use Rattle.c_tree.specs.TypedTree.{Expr, Stmt, Stmts, Choices, ObjectTree, FunctionTree, ProgramTree}
-use Rattle.c_tree.specs.Store.{Value, Obj}
+use Rattle.c_tree.specs.Store.{Value}
 use Rattle.c_tree.specs.Eval as evaluation
 use Rattle.c_tree.specs.Eval.{Env}
 use Rattle.c_tree.specs.Exec as plain
