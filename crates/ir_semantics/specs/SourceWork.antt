@@ -55,7 +55,8 @@ module _ (calls : Calls) (calls_work : CallsWork) (env : Env) where
     expression_work (Node (And a b) kind at) w = 20 + in_turn (truth_of a at) (expression_work a) (λ t. if t then expression_work b else no_work) w
     expression_work (Node (Or a b) kind at) w = 20 + in_turn (truth_of a at) (expression_work a) (λ t. if t then no_work else expression_work b) w
     expression_work (Node (Not a) kind at) w = 10 + expression_work a w
-    expression_work (Node (Pick c a b) kind at) w = 14 + in_turn (truth_of c at) (expression_work c) (λ t. if t then expression_work a else expression_work b) w
+    expression_work (Node (Pick c a b) kind at) w = 14 + in_turn (truth_of c at) (expression_work c)
+        (λ t. if t then expression_work a else expression_work b) w
     expression_work (Node (Assign (Named v place) e) kind at) w = 19 + expression_work e w
     expression_work (Node (Assign (At p place) e) kind at) w = 19 + in_turn (value calls env p) (expression_work p) (λ _. expression_work e) w
     expression_work (Node (AssignOp o l e) kind at) w = 48 + in_turn (old_value l (points kind)) (lvalue_work l) (λ _. expression_work e) w
@@ -127,7 +128,7 @@ fill_work (Some o) = 9 + (9 * length o.initial + 64 * o.length)
 
 -- where a loop makes at most n turns each time that it is executed
 module _ (calls : Calls) (calls_work : CallsWork) (n : ℕ) where
-  -- what statements evaluate: a test, which may be absent; the first or third part of a for; and a statement
+  -- what a loop evaluates in each turn besides its statement: a test, which may be absent in a for, and the third part of a for
   abbrev pub test_part : Expr → Env → Part Bool
   test_part e env = record { does = condition calls env e; work = expression_work calls calls_work env e }
 
@@ -144,7 +145,8 @@ module _ (calls : Calls) (calls_work : CallsWork) (n : ℕ) where
     exec_work (Do_expr e) env w = 1 + expression_work calls calls_work env e w
     exec_work (If test s other) env w = 6 + in_turn (condition calls env test) (expression_work calls calls_work env test)
         (λ t. if t then exec_work s env else exec_work other env) w
-    exec_work (While test s) env w = 14 + turns_work n (test_part test env) (record { does = exec calls n s env; work = exec_work s env }) (third_part None env) w
+    exec_work (While test s) env w = 14 + turns_work n (test_part test env)
+        (record { does = exec calls n s env; work = exec_work s env }) (third_part None env) w
     exec_work (Do_while s test) env w = 14 + turns_first_work n (record { does = exec calls n s env; work = exec_work s env }) (test_part test env) w
     exec_work (For first test third s) env w = 14 + in_turn (third_of calls env first) (optional_work calls calls_work env first)
         (λ _. turns_work n (optional_test_part test env) (record { does = exec calls n s env; work = exec_work s env }) (third_part third env)) w

@@ -3,10 +3,11 @@ use Rattle.std.proofs.Common.{◌≡◌, ℕ, ◌+◌, Bool, true, List, ◌∷�
 use Rattle.word_base.specs.declared.outcome.UndefinedKind.TheVariants.{BadPointer}
 use Rattle.c_tree.specs.declared.program.VarRef.{VarRef}
 use Rattle.c_tree.specs.declared.program.VarRef.TheVariants.{Scalar, Local, Static}
-use Rattle.c_tree.specs.Store as source
-use Rattle.c_tree.specs.Store.{Value, Word, Pointer, Null, World}
-use Rattle.c_tree.specs.Eval as evaluation
-use Rattle.c_tree.specs.Eval.{spot_of}
+use Rattle.tree_code_proof.specs.Counted as source
+use Rattle.c_tree.specs.Store.{Value, Word, Pointer, Null}
+use Rattle.tree_code_proof.specs.Counted.{World}
+use Rattle.tree_code_proof.specs.Evaluated as evaluation
+use Rattle.tree_code_proof.specs.Evaluated.{spot_of}
 use Rattle.ir_semantics.specs.Parts.{Does, after, ◌>>=◌}
 use Rattle.ir_semantics.specs.TreeRun as run
 use Rattle.ir_semantics.specs.TreeRun.{Tree, Addresses, need}
@@ -44,10 +45,10 @@ module _ (seats : Seats) where
   write_named addresses (Static n) hs w t wanted v x a object at h = write_memory hs w t wanted v x a object at (addresses (Static n)) (seats.seat object) refl h
 
   pub assign_name_kept : {f : source.Does Value} {g : Does Tree ℕ} (addresses : Addresses) (name : VarRef) (object : ℕ) (wanted : Bool) (at : ℕ) → IsSeatOf addresses name (seats.seat object) → Values seats wanted f g
-      → Forms seats wanted (source.◌>>=◌ f (λ x. source.◌>>=◌ (source.save object 0 wanted x at) evaluation.some)) (run.assign_name_does addresses name g)
+      → Forms seats wanted (source.ticked 19 (source.◌>>=◌ f (λ x. source.◌>>=◌ (source.save object 0 wanted x at) evaluation.some))) (run.assign_name_does addresses name g)
   assign_name_kept {f = f} {g = g} addresses name object wanted at is h = record {
     by = λ hs w t a.
-        rel_after (Valued seats hs wanted) (Optional seats hs wanted) (f w) (g (record t { work = t.work + 19 })) _ (λ x. run.write_name addresses name x) (h.by hs w _ (worked seats hs w t _ a)) (λ x. write_name_grows addresses name x)
+        rel_after (Valued seats hs wanted) (Optional seats hs wanted) (f (record w { work = w.work + 19 })) (g (record t { work = t.work + 19 })) _ (λ x. run.write_name addresses name x) (h.by hs _ _ (worked seats hs w t _ a)) (λ x. write_name_grows addresses name x)
         (λ v x w t a. some_kept seats hs wanted (source.save object 0 wanted v at w) (run.write_name addresses name x t) (write_named addresses name hs w t wanted v x a object at is));
   }
 
@@ -60,9 +61,9 @@ module _ (seats : Seats) where
       some_kept seats hs wanted (source.save object i wanted v at w) (run.write_word y x t) (write_at seats hs w t wanted v x (let_second_go seats hs _ _ w t a) object i y at a.held.1.0.1.1)
 
   pub assign_at_kept : {f h : source.Does Value} {g k : Does Tree ℕ} (wanted : Bool) (at : ℕ) → Values seats true f g → Values seats wanted h k
-      → Forms seats wanted (source.◌>>=◌ f (λ q. source.◌>>=◌ h (λ x. source.◌>>=◌ (spot_of q at) (λ s. source.◌>>=◌ (source.save s.0 s.1 wanted x at) evaluation.some)))) (run.assign_at_does g k)
+      → Forms seats wanted (source.ticked 19 (source.◌>>=◌ f (λ q. source.◌>>=◌ h (λ x. source.◌>>=◌ (spot_of q at) (λ s. source.◌>>=◌ (source.save s.0 s.1 wanted x at) evaluation.some))))) (run.assign_at_does g k)
   assign_at_kept wanted at a b = record {
     by = λ hs w t s.
-        both_kept (λ hs. Optional seats hs wanted) (λ q x. source.◌>>=◌ (spot_of q at) (λ s. source.◌>>=◌ (source.save s.0 s.1 wanted x at) evaluation.some)) (λ y x. run.write_word y x) a b (λ y x. write_word_grows y x) (assigned wanted at) hs w _
+        both_kept (λ hs. Optional seats hs wanted) (λ q x. source.◌>>=◌ (spot_of q at) (λ s. source.◌>>=◌ (source.save s.0 s.1 wanted x at) evaluation.some)) (λ y x. run.write_word y x) a b (λ y x. write_word_grows y x) (assigned wanted at) hs _ _
         (worked seats hs w t _ s);
   }

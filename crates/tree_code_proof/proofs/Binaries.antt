@@ -8,9 +8,10 @@ use Rattle.c_syntax.specs.declared.operator.BinaryOp.{BinaryOp}
 use Rattle.c_syntax.specs.declared.operator.BinaryOp.TheVariants as op
 use Rattle.c_tree.specs.TypedTree.{Kind}
 use Rattle.c_tree.specs.WellFormed.{is_comparison, moves}
-use Rattle.c_tree.specs.Store as source
-use Rattle.c_tree.specs.Store.{Value, Word, Pointer, Null, World}
-use Rattle.c_tree.specs.Eval as evaluation
+use Rattle.tree_code_proof.specs.Counted as source
+use Rattle.c_tree.specs.Store.{Value, Word, Pointer, Null}
+use Rattle.tree_code_proof.specs.Counted.{World}
+use Rattle.tree_code_proof.specs.Evaluated as evaluation
 use Rattle.c_tree.specs.Eval.{points, is_unsigned, without_sign}
 use Rattle.tree_code.specs.Operations.{one_of, word_op, is_ordered_unsigned}
 use Rattle.tree_code.specs.declared.operator.WordOp.{WordOp}

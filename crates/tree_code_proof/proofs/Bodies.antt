@@ -8,17 +8,17 @@ use Rattle.c_tree.specs.declared.enclosing.Enclosing.TheVariants as within
 use Rattle.c_tree.specs.declared.program.VarRef.{VarRef}
 use Rattle.c_tree.specs.declared.program.VarRef.TheVariants.{Scalar, Local, Static}
 use Rattle.c_tree.specs.TypedTree.{ObjectTree, FunctionTree, ProgramTree}
-use Rattle.c_tree.specs.Eval as evaluation
-use Rattle.c_tree.specs.SourceRun.{source_run}
+use Rattle.c_tree.specs.Eval as plain
+use Rattle.ir_semantics.specs.SourceWork.{CallsWork, worked_run}
+use Rattle.tree_code_proof.specs.Evaluated as evaluation
 use Rattle.c_tree.specs.Uses.{called, statement_uses}
 use Rattle.c_tree.specs.WellFormed.{Shape, Signature, opened}
 use Rattle.c_tree.specs.WellFormedProgram.{IsObject, IsFunction, IsProgram, static_names, names_within, object_in}
 use Rattle.tree_code.specs.Lowered.{lowered, lowered_program}
-use Rattle.ir_semantics.specs.Keeps.{tree_run}
+use Rattle.ir_semantics.specs.Keeps.{Keeps, tree_run}
 use Rattle.ir_semantics.specs.Outside.{Places, address_of}
 use Rattle.ir_semantics.specs.TreeRun as run
 use Rattle.c_tree.specs.TypedOfWords.{StartsWithWord, FunctionHasWords, ProgramHasWords}
-use Rattle.tree_code_proof.proofs.Outcomes.{KeepsSource}
 use Rattle.tree_code_proof.specs.Surroundings.{ArePlaces}
 use Rattle.tree_code_proof.proofs.Growing.{value_grows, decide_grows, effect_grows}
 use Rattle.tree_code_proof.proofs.Interfaces.{CallsKeep, CallsOf}
@@ -30,11 +30,11 @@ use Rattle.tree_code_proof.proofs.Statements.{ExpressionsKeep, opened_objects, s
 use Rattle.tree_code_proof.proofs.Whole as whole
 
 -- expressions where other names are known too
-expressions_keep : (q : Places) (p : ProgramTree) (f : ℕ) (objects : VarRef → Option Shape) (functions : ℕ → Option Signature) (calls : evaluation.Calls) (does : run.Calls) → CallsKeep q p f functions calls does → ExpressionsKeep q p f objects functions calls does
-expressions_keep q p f objects functions calls does keep = record {
-  value = λ names known env seats around e typed words calling. value_keeps q p f objects names env seats around calls does (subst (λ s. CallsKeep q p f s calls does) (sym known) keep) e typed words calling;
-  test = λ names known env seats around e typed words calling. test_keeps q p f objects names env seats around calls does (subst (λ s. CallsKeep q p f s calls does) (sym known) keep) e typed.0 typed.1 words calling;
-  effect = λ names known env seats around e typed words calling. effect_keeps q p f objects names env seats around calls does (subst (λ s. CallsKeep q p f s calls does) (sym known) keep) e typed words calling;
+expressions_keep : (q : Places) (p : ProgramTree) (f : ℕ) (objects : VarRef → Option Shape) (functions : ℕ → Option Signature) (calls : plain.Calls) (work : CallsWork) (does : run.Calls) → CallsKeep q p f functions (evaluation.calling calls work) does → ExpressionsKeep q p f objects functions calls work does
+expressions_keep q p f objects functions calls work does keep = record {
+  value = λ names known env seats around e typed words calling. value_keeps q p f objects names env seats around calls work does (subst (λ s. CallsKeep q p f s (evaluation.calling calls work) does) (sym known) keep) e typed words calling;
+  test = λ names known env seats around e typed words calling. test_keeps q p f objects names env seats around calls work does (subst (λ s. CallsKeep q p f s (evaluation.calling calls work) does) (sym known) keep) e typed.0 typed.1 words calling;
+  effect = λ names known env seats around e typed words calling. effect_keeps q p f objects names env seats around calls work does (subst (λ s. CallsKeep q p f s (evaluation.calling calls work) does) (sym known) keep) e typed words calling;
   value_grows = λ e. value_grows does (address_of q f) keep.grow (lowered e);
   test_grows = λ e. decide_grows does (address_of q f) keep.grow (lowered e);
   effect_grows = λ e. effect_grows does (address_of q f) keep.grow (lowered e);
@@ -65,10 +65,10 @@ module _ (q : Places) (p : ProgramTree) (is : IsProgram p) (has : ProgramHasWord
   )
 
   bodies_keep : BodiesKeep q p n
-  bodies_keep f g get calls does keep =
-      statement_keeps q p f g get places (names_within p g).function calls does n (expressions_keep q p f (object_in p g) (names_within p g).function calls does keep) (locals_are f g get)
+  bodies_keep f g get calls work does keep =
+      statement_keeps q p f g get places (names_within p g).function calls work does n (expressions_keep q p f (object_in p g) (names_within p g).function calls work does keep) (locals_are f g get)
       (opened (object_in p g) g.params (names_within p g)) refl (opened_objects (object_in p g) g.params (names_within p g) (static_objects p g)) within.Body g.body (function_is f g get).body
       (element_of FunctionHasWords p.functions has.functions f g get).body (calls_of_body f g get)
 
-  pub lowering_keeps : (input : Input) → IsInput input → KeepsSource (source_run p input n) (tree_run q (lowered_program p) input n)
+  pub lowering_keeps : (input : Input) → IsInput input → Keeps (worked_run p input n) (tree_run q (lowered_program p) input n)
   lowering_keeps input inputs = whole.lowering_keeps q p is has places n bodies_keep input inputs

@@ -6,11 +6,12 @@ use Rattle.c_tree.specs.declared.enclosing.Enclosing.TheVariants as within
 use Rattle.c_tree.specs.declared.program.VarRef.{VarRef}
 use Rattle.c_tree.specs.TypedTree as tree
 use Rattle.c_tree.specs.TypedTree.{Choices, ProgramTree}
-use Rattle.c_tree.specs.Store as source
-use Rattle.c_tree.specs.Store.{Value, Word, Pointer, Null, World}
-use Rattle.c_tree.specs.Eval as evaluation
+use Rattle.tree_code_proof.specs.Counted as source
+use Rattle.c_tree.specs.Store.{Value, Word, Pointer, Null}
+use Rattle.tree_code_proof.specs.Counted.{World}
+use Rattle.tree_code_proof.specs.Evaluated as evaluation
 use Rattle.c_tree.specs.Eval.{Env}
-use Rattle.c_tree.specs.Exec as execution
+use Rattle.tree_code_proof.specs.Executed as execution
 use Rattle.c_tree.specs.Labels.{has_case, may_continue, in_switch}
 use Rattle.c_tree.specs.WellFormed.{Shape, Names}
 use Rattle.tree_code.specs.WordLabels.{has_word_case}
@@ -78,11 +79,11 @@ module _ (q : Places) (p : ProgramTree) (f : ℕ) (objects : VarRef → Option S
         switch_grows (switched seats hs c))
 
     pub switch_runs : {s : Env → source.Does Value} {does : Does Tree ℕ} (k : ℕ) → ((env : Env) (seats : Seats) → Surrounds q p f objects names.object env seats → Values seats false (s env) does) → Grows does
-        → Runs q p f objects pointing names c (λ env. source.◌>>=◌ (s env) (λ v. source.◌>>=◌ (evaluation.choose (has_case (execution.word_or_zero v) cs) (entry (execution.word_or_zero v) env) (other env)) execution.behind_switch))
+        → Runs q p f objects pointing names c (λ env. source.ticked k (source.◌>>=◌ (s env) (λ v. source.◌>>=◌ (evaluation.choose (has_case (execution.word_or_zero v) cs) (entry (execution.word_or_zero v) env) (other env)) execution.behind_switch)))
         (tick k >>= λ _. does >>= λ x. choose (has_word_case x (lowered_choices cs)) (enters x) enters_other >>= behind_switch)
     switch_runs {s = s} {does = does} k values grow = record {
       by = λ env seats around hs w t a.
-          rel_after (Valued seats hs false) (Left seats hs pointing c) (s env w) (does (record t { work = t.work + k })) _ _ ((values env seats around).by hs w _ (worked seats hs w t _ a))
+          rel_after (Valued seats hs false) (Left seats hs pointing c) (s env (record w { work = w.work + k })) (does (record t { work = t.work + k })) _ _ ((values env seats around).by hs _ _ (worked seats hs w t _ a))
           (λ x. bind_grows (choose_grows (has_word_case x (lowered_choices cs)) (cases x).grows others.grows) switch_grows) (selected env seats around hs);
       grows = ticked k (λ _. bind_grows grow (λ x. bind_grows (choose_grows (has_word_case x (lowered_choices cs)) (cases x).grows others.grows) switch_grows));
     }

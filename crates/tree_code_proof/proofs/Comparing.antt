@@ -9,9 +9,12 @@ use Rattle.c_syntax.specs.declared.operator.BinaryOp.{BinaryOp}
 use Rattle.c_syntax.specs.declared.operator.BinaryOp.TheVariants as op
 use Rattle.c_tree.specs.TypedTree.{Kind}
 use Rattle.c_tree.specs.WellFormed.{is_comparison}
-use Rattle.c_tree.specs.Store as source
-use Rattle.c_tree.specs.Store.{Value, Word, Pointer, Null, Obj, World}
-use Rattle.c_tree.specs.Eval as evaluation
+use Rattle.tree_code_proof.specs.Counted as source
+use Rattle.c_tree.specs.Store.{Value, Word, Pointer, Null, Obj}
+use Rattle.tree_code_proof.specs.Counted.{World}
+use Rattle.tree_code_proof.specs.Evaluated as evaluation
+use Rattle.c_tree.specs.Store as store
+use Rattle.c_tree.specs.Eval as plain
 use Rattle.ir_semantics.specs.Parts.{Gives, give}
 use Rattle.ir_semantics.specs.Outside.{Memory, Frame}
 use Rattle.ir_semantics.specs.TreeRun.{Tree}
@@ -129,31 +132,31 @@ module _ (seats : Seats) where
     nulls op.Shr y z is e = none_asked is
 
     -- where an object lives
-    if_lives : (next : source.Does Value) (x k : ℕ) (p : Option Obj) → w.store.living k ≡ p → (seats.seat k ≢ Vacant → Rel (Optional seats hs false) (source.after (next w) evaluation.some) (Gives x t))
-        → Rel (Optional seats hs false) (source.after (evaluation.if_living p at next w) evaluation.some) (Gives x t)
+    if_lives : (next : store.Does Value) (x k : ℕ) (p : Option Obj) → w.store.living k ≡ p → (seats.seat k ≢ Vacant → Rel (Optional seats hs false) (source.after (source.free next w) evaluation.some) (Gives x t))
+        → Rel (Optional seats hs false) (source.after (source.free (plain.if_living p at next) w) evaluation.some) (Gives x t)
     if_lives next x k None e h = fails hs w t x at a
     if_lives next x k (Some o) e h = h (lives seats w.store.made (seats.seat k) (w.store.living k) o t.outside.memory t.frame (a.objects k) e)
 
-    where_lives : (next : source.Does Value) (x k : ℕ) → (seats.seat k ≢ Vacant → Rel (Optional seats hs false) (source.after (next w) evaluation.some) (Gives x t)) → Rel (Optional seats hs false) (source.after (evaluation.where_living k at next w) evaluation.some) (Gives x t)
+    where_lives : (next : store.Does Value) (x k : ℕ) → (seats.seat k ≢ Vacant → Rel (Optional seats hs false) (source.after (source.free next w) evaluation.some) (Gives x t)) → Rel (Optional seats hs false) (source.after (source.free (plain.where_living k at next) w) evaluation.some) (Gives x t)
     where_lives next x k h = if_lives next x k (w.store.living k) refl h
 
     two_objects : (o : BinaryOp) (k i y l j z : ℕ) (b : Bool) → is_comparison o ≡ true → (k == l) ≡ b → Points seats k i y → Points seats l j z
-        → Rel (Optional seats hs false) (source.after ((if b then evaluation.ordering o i j at else evaluation.equality o false at) w) evaluation.some) (Gives (truth (asks o y z)) t)
+        → Rel (Optional seats hs false) (source.after (source.free (if b then plain.ordering o i j at else plain.equality o false at) w) evaluation.some) (Gives (truth (asks o y z)) t)
     two_objects o k i y l j z true is e p q = one_object o k i y j z is p (subst (λ l. Points seats l j z) (sym (eqb-true k l e)) q)
     two_objects o k i y l j z false is e p q = unequal o y z is (objects_differ seats k i y l j z a.seated (eqb-false k l e) p q)
 
     pub pointers_kept : (o : BinaryOp) (k i y l j z : ℕ) → is_comparison o ≡ true → PointsAt (seats.seat k) i y → PointsAt (seats.seat l) j z
-        → Rel (Optional seats hs false) (source.after (evaluation.where_living k at (evaluation.where_living l at (if k == l then evaluation.ordering o i j at else evaluation.equality o false at)) w) evaluation.some) (Gives (truth (asks o y z)) t)
+        → Rel (Optional seats hs false) (source.after (source.free (plain.where_living k at (plain.where_living l at (if k == l then plain.ordering o i j at else plain.equality o false at))) w) evaluation.some) (Gives (truth (asks o y z)) t)
     pointers_kept o k i y l j z is p q =
         where_lives _ (truth (asks o y z)) k
         (λ v. where_lives _ (truth (asks o y z)) l (λ u. two_objects o k i y l j z (k == l) is refl (to_living seats k i y (seats.seat k) refl v p) (to_living seats l j z (seats.seat l) refl u q)))
 
     pub beside_null : (o : BinaryOp) (k i y z : ℕ) → is_comparison o ≡ true → PointsAt (seats.seat k) i y → z ≡ 0
-        → Rel (Optional seats hs false) (source.after (evaluation.where_living k at (evaluation.equality o false at) w) evaluation.some) (Gives (truth (asks o y z)) t)
+        → Rel (Optional seats hs false) (source.after (source.free (plain.where_living k at (plain.equality o false at)) w) evaluation.some) (Gives (truth (asks o y z)) t)
     beside_null o k i y z is p e = where_lives _ (truth (asks o y z)) k (λ v. unequal o y z is (λ f. never_0 seats k i y a.seated (to_living seats k i y (seats.seat k) refl v p) (f ∙ e)))
 
     pub null_beside : (o : BinaryOp) (k i y z : ℕ) → is_comparison o ≡ true → PointsAt (seats.seat k) i y → z ≡ 0
-        → Rel (Optional seats hs false) (source.after (evaluation.where_living k at (evaluation.equality o false at) w) evaluation.some) (Gives (truth (asks o z y)) t)
+        → Rel (Optional seats hs false) (source.after (source.free (plain.where_living k at (plain.equality o false at)) w) evaluation.some) (Gives (truth (asks o z y)) t)
     null_beside o k i y z is p e = where_lives _ (truth (asks o z y)) k (λ v. unequal o z y is (λ f. never_0 seats k i y a.seated (to_living seats k i y (seats.seat k) refl v p) (sym f ∙ e)))
 
     pub both_null : (o : BinaryOp) (y z : ℕ) → is_comparison o ≡ true → y ≡ 0 → z ≡ 0 → Rel (Optional seats hs false) (source.after (evaluation.equality o true at w) evaluation.some) (Gives (truth (asks o y z)) t)

@@ -7,9 +7,12 @@ use Rattle.word_base.specs.Words.{Good, Bad, signed_of, low16, unsigned_subtract
 use Rattle.word_base.specs.declared.outcome.UndefinedKind.TheVariants.{BadPointer, Overflow}
 use Rattle.c_syntax.specs.declared.operator.BinaryOp.TheVariants as op
 use Rattle.c_tree.specs.TypedTree.{Kind}
-use Rattle.c_tree.specs.Store as source
-use Rattle.c_tree.specs.Store.{Value, Word, Pointer, Null, Obj, World}
-use Rattle.c_tree.specs.Eval as evaluation
+use Rattle.tree_code_proof.specs.Counted as source
+use Rattle.c_tree.specs.Store.{Value, Word, Pointer, Null, Obj}
+use Rattle.tree_code_proof.specs.Counted.{World}
+use Rattle.tree_code_proof.specs.Evaluated as evaluation
+use Rattle.c_tree.specs.Store as store
+use Rattle.c_tree.specs.Eval as plain
 use Rattle.ir_semantics.specs.Parts.{Gives, give}
 use Rattle.ir_semantics.specs.TreeRun as run
 use Rattle.ir_semantics.specs.TreeRun.{Tree}
@@ -49,13 +52,13 @@ module _ (seats : Seats) (hs : List Held) (w : World) (t : Tree) (a : Alike seat
       let same : pos i -ℤ pos j ≡ pos y -ℤ pos z = same_difference p.start i j y z p.word (q.word ∙ ap (λ s. s + j) (sym start)) in
       fitted (signed_of i -ℤ signed_of j) (pos y -ℤ pos z) _ (ap (λ n. n -ℤ signed_of j) left ∙ ap (λ n. pos i -ℤ n) right ∙ same)
 
-  if_lives : (next : source.Does Value) (x k : ℕ) (p : Option Obj) → w.store.living k ≡ p → (seats.seat k ≢ Vacant → Rel (Optional seats hs false) (source.after (next w) evaluation.some) (Gives x t))
-      → Rel (Optional seats hs false) (source.after (evaluation.if_living p at next w) evaluation.some) (Gives x t)
+  if_lives : (next : store.Does Value) (x k : ℕ) (p : Option Obj) → w.store.living k ≡ p → (seats.seat k ≢ Vacant → Rel (Optional seats hs false) (source.after (source.free next w) evaluation.some) (Gives x t))
+      → Rel (Optional seats hs false) (source.after (source.free (plain.if_living p at next) w) evaluation.some) (Gives x t)
   if_lives next x k None e h = fails x
   if_lives next x k (Some o) e h = h (lives seats w.store.made (seats.seat k) (w.store.living k) o t.outside.memory t.frame (a.objects k) e)
 
   two_objects : (k i y l j z : ℕ) (b : Bool) → (k == l) ≡ b → Points seats k i y → Points seats l j z
-      → Rel (Optional seats hs false) (source.after ((if b then evaluation.ordering op.Sub i j at else evaluation.equality op.Sub false at) w) evaluation.some) (Gives (low16 (pos y -ℤ pos z)) t)
+      → Rel (Optional seats hs false) (source.after (source.free (if b then plain.ordering op.Sub i j at else plain.equality op.Sub false at) w) evaluation.some) (Gives (low16 (pos y -ℤ pos z)) t)
   two_objects k i y l j z true e p q = distance k i y j z p (subst (λ l. Points seats l j z) (sym (eqb-true k l e)) q)
   two_objects k i y l j z false e p q = fails (low16 (pos y -ℤ pos z))
 

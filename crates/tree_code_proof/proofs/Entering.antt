@@ -9,7 +9,7 @@ use Rattle.c_tree.specs.declared.program.ScalarType.{ScalarType}
 use Rattle.c_tree.specs.declared.program.VarRef.{VarRef}
 use Rattle.c_tree.specs.declared.program.VarRef.TheVariants.{Scalar, Local, Static}
 use Rattle.c_tree.specs.TypedTree.{ObjectTree, FunctionTree, ProgramTree}
-use Rattle.c_tree.specs.Store as source
+use Rattle.tree_code_proof.specs.Counted as source
 use Rattle.c_tree.specs.Store.{Obj}
 use Rattle.c_tree.specs.Eval.{Env, object_number}
 use Rattle.c_tree.specs.Exec.{fresh, unset_scalar, unset_object, named}

@@ -10,10 +10,12 @@ use Rattle.c_tree.specs.declared.enclosing.Enclosing.{Enclosing}
 use Rattle.c_tree.specs.declared.program.VarRef.{VarRef}
 use Rattle.c_tree.specs.declared.program.VarRef.TheVariants.{Local, Static}
 use Rattle.c_tree.specs.TypedTree.{ObjectTree, FunctionTree, ProgramTree}
-use Rattle.c_tree.specs.Store as source
-use Rattle.c_tree.specs.Store.{Obj, World, Cell, is_pointer, with_object}
+use Rattle.ir_semantics.specs.SourceWork.{fill_work}
+use Rattle.tree_code_proof.specs.Counted as source
+use Rattle.c_tree.specs.Store.{Obj, Cell, is_pointer, with_object}
+use Rattle.tree_code_proof.specs.Counted.{World}
 use Rattle.c_tree.specs.Eval.{points}
-use Rattle.c_tree.specs.Exec as execution
+use Rattle.tree_code_proof.specs.Executed as execution
 use Rattle.c_tree.specs.Exec.{set_cells, cells_set}
 use Rattle.c_tree.specs.WellFormed.{Shape, Names, IsInitial, IsFilled, IsThere}
 use Rattle.c_tree.specs.WellFormedProgram.{IsObject, object_in, static_in, object_shape}
@@ -139,6 +141,7 @@ module _ (q : Places) (p : ProgramTree) (places : ArePlaces q p) (o : ObjectTree
     input = a.input;
     words = a.words;
     outs = a.outs;
+    work = a.work;
   }
 
   -- its cells live before
@@ -163,7 +166,7 @@ module _ (q : Places) (p : ProgramTree) (f : ℕ) (g : FunctionTree) (function :
   there (Some s) h = (s, refl)
 
   pub fill_keeps : (names : Names) (c : Enclosing) (k : ℕ) → AreObjects (object_in p g) names.object → IsFilled names k
-      → Runs q p f (object_in p g) (points g.result) names c (λ env. execution.fill (slice_get env.function.locals k) (env.local k)) (run.fill_does q (slice_get g.locals k) (address_of q f (Local k)))
+      → Runs q p f (object_in p g) (points g.result) names c (λ env. source.ticked (fill_work (slice_get env.function.locals k)) (execution.fill (slice_get env.function.locals k) (env.local k))) (run.fill_does q (slice_get g.locals k) (address_of q f (Local k)))
   fill_keeps names c k objects h = record {
     by = λ env seats around hs w t a.
         let s = there (names.object (Local k)) h.lives in
@@ -173,10 +176,10 @@ module _ (q : Places) (p : ProgramTree) (f : ℕ) (g : FunctionTree) (function :
         let seat : seats.seat (env.local k) ≡ LiesAt (q.local f k) o.0.length = around.named (Local k) s.0 s.1 ∙ ap (λ n. LiesAt (q.local f k) n) (sym o.2) in
         let kind : seats.points (env.local k) ≡ is_pointer o.0.kind = around.kinds (Local k) s.0 s.1 ∙ ap is_pointer (sym o.3) in
         let seated : (n : ℕ) (r : ObjectTree) → slice_get p.statics n ≡ Some r → seats.seat n ≡ LiesAt (q.static n) r.length = λ n r get. around.named (Static n) _ (objects.statics n _ (ap object_shape get)) in
-        let ready = worked seats hs w t (t.work + (9 + (9 * length o.0.initial + 64 * o.0.length))) a in
-        subst (λ x. Rel (Left seats hs (points g.result) c) (execution.fill x (env.local k) w) (run.fill_does q (slice_get g.locals k) (address_of q f (Local k)) t)) (sym same)
-        (subst (λ x. Rel (Left seats hs (points g.result) c) (execution.fill (Some o.0) (env.local k) w) (run.fill_does q x (Some (q.local f k)) t)) (sym o.1)
-        (subst (λ r. Rel (Left seats hs (points g.result) c) (execution.fill (Some o.0) (env.local k) w) (after r (λ _. give Next))) (sym (fill_wrote q p places o.0 facts.0 facts.1 seats hs w _ ready seated (env.local k) (q.local f k) seat kind))
-        (filled q p places o.0 facts.0 facts.1 seats hs w _ ready seated (env.local k) (q.local f k) seat kind)));
+        let ready = worked seats hs w t (9 + (9 * length o.0.initial + 64 * o.0.length)) a in
+        subst (λ x. Rel (Left seats hs (points g.result) c) (source.ticked (fill_work x) (execution.fill x (env.local k)) w) (run.fill_does q (slice_get g.locals k) (address_of q f (Local k)) t)) (sym same)
+        (subst (λ x. Rel (Left seats hs (points g.result) c) (source.ticked (fill_work (Some o.0)) (execution.fill (Some o.0) (env.local k)) w) (run.fill_does q x (Some (q.local f k)) t)) (sym o.1)
+        (subst (λ r. Rel (Left seats hs (points g.result) c) (source.ticked (fill_work (Some o.0)) (execution.fill (Some o.0) (env.local k)) w) (after r (λ _. give Next))) (sym (fill_wrote q p places o.0 facts.0 facts.1 seats hs _ _ ready seated (env.local k) (q.local f k) seat kind))
+        (filled q p places o.0 facts.0 facts.1 seats hs _ _ ready seated (env.local k) (q.local f k) seat kind)));
     grows = fill_grows q (slice_get g.locals k) (address_of q f (Local k));
   }

@@ -1,5 +1,5 @@
 -- A word tree only adds to its outputs, whatever it does: so where a typed program is undefined, its outputs are a beginning of the tree's.
-use Rattle.std.proofs.Common.{ℕ, suc, ◌+◌, Bool, true, false, not, List, [], ◌∷◌, ◌++◌, Option, Some, None, refl, sym, ap, ◌∙◌, append_assoc, append-nil}
+use Rattle.std.proofs.Common.{ℕ, suc, Bool, true, false, not, List, [], ◌∷◌, ◌++◌, Option, Some, None, refl, sym, ap, ◌∙◌, append_assoc, append-nil}
 use Rattle.word_base.specs.Ports.{Outputs, Prefix}
 use Rattle.word_base.specs.Words.{Calc, Good, Bad}
 use Rattle.c_syntax.specs.declared.operator.UnaryOp.{UnaryOp}

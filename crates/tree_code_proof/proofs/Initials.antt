@@ -9,7 +9,7 @@ use Rattle.c_tree.specs.declared.program.Initial.{Initial}
 use Rattle.c_tree.specs.declared.program.Initial.TheVariants as initial
 use Rattle.c_tree.specs.declared.program.ScalarType.{ScalarType}
 use Rattle.c_tree.specs.TypedTree.{ObjectTree, ProgramTree}
-use Rattle.c_tree.specs.Store as source
+use Rattle.tree_code_proof.specs.Counted as source
 use Rattle.c_tree.specs.Store.{Word, Pointer, Null, is_pointer}
 use Rattle.c_tree.specs.Exec.{zero_of, initial_cell, set_cells}
 use Rattle.c_tree.specs.WellFormed.{IsInitial, StartsAt}

@@ -8,11 +8,12 @@ use Rattle.c_tree.specs.declared.program.VarRef.{VarRef}
 use Rattle.c_tree.specs.declared.uses.Use.{Use}
 use Rattle.c_tree.specs.declared.uses.Use.TheVariants as use_of
 use Rattle.c_tree.specs.TypedTree.{ProgramTree}
-use Rattle.c_tree.specs.Store as source
-use Rattle.c_tree.specs.Store.{Value, World}
-use Rattle.c_tree.specs.Eval as evaluation
+use Rattle.tree_code_proof.specs.Counted as source
+use Rattle.c_tree.specs.Store.{Value}
+use Rattle.tree_code_proof.specs.Counted.{World}
+use Rattle.tree_code_proof.specs.Evaluated as evaluation
 use Rattle.c_tree.specs.Eval.{Env, object_number, points}
-use Rattle.c_tree.specs.Exec as execution
+use Rattle.tree_code_proof.specs.Executed as execution
 use Rattle.c_tree.specs.Labels.{may_break, may_continue}
 use Rattle.c_tree.specs.Rounds.{CallsAmong}
 use Rattle.c_tree.specs.Uses.{called}

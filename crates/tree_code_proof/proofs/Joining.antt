@@ -1,10 +1,11 @@
 -- And, or, one of two arms, a comma and a conversion.
 use Rattle.std.proofs.Common.{◌≡◌, ℕ, ◌+◌, ◌<◌, Bool, true, false, List, Option, Some, None, refl, ap, arith}
 use Rattle.word_base.specs.Words.{truth}
-use Rattle.c_tree.specs.Store as source
-use Rattle.c_tree.specs.Store.{Value, Word, World}
-use Rattle.c_tree.specs.Eval as evaluation
-use Rattle.ir_semantics.specs.Parts.{Does, ◌>>=◌, choose}
+use Rattle.tree_code_proof.specs.Counted as source
+use Rattle.c_tree.specs.Store.{Value, Word}
+use Rattle.tree_code_proof.specs.Counted.{World}
+use Rattle.tree_code_proof.specs.Evaluated as evaluation
+use Rattle.ir_semantics.specs.Parts.{Does, choose}
 use Rattle.ir_semantics.specs.TreeRun as run
 use Rattle.ir_semantics.specs.TreeRun.{Tree}
 use Rattle.tree_code_proof.specs.Seats.{Seats}
@@ -12,7 +13,7 @@ use Rattle.tree_code_proof.specs.Beside.{Held, Alike}
 use Rattle.tree_code_proof.proofs.Growing.{Grows, give_grows, bind_grows, ticked, choose_grows}
 use Rattle.tree_code_proof.proofs.Rules.{Post, Rel, rel_after}
 use Rattle.tree_code_proof.proofs.Reading.{Valued, holding, let_go}
-use Rattle.tree_code_proof.proofs.Forms.{Optional, Values, Forms, some_kept, followed, worked}
+use Rattle.tree_code_proof.proofs.Forms.{Optional, Values, Forms, some_kept, followed, worked, worked_alone}
 use Rattle.tree_code_proof.proofs.Truths.{Same, Deciding, Tests, Decides, regrouped, tree_followed}
 
 -- what an expression keeps whose value isn't used
@@ -51,54 +52,54 @@ module _ (seats : Seats) where
       (followed (Same seats hs) (Deciding seats hs) _ (g t) (λ u. evaluation.some (Word (truth u))) (h.by at hs w t a) (same_truth hs))
 
   pub and_kept : {f h : source.Does Value} {g k : Does Tree Bool} (at : ℕ) → Tests seats f g → Tests seats h k
-      → Decides seats (source.◌>>=◌ f (λ v. source.◌>>=◌ (evaluation.test_of v at) (λ t. evaluation.choose t (source.◌>>=◌ h (λ v. source.◌>>=◌ (evaluation.test_of v at) (λ u. evaluation.some (Word (truth u))))) (evaluation.some (Word 0))))) (run.and_does g k)
+      → Decides seats (source.ticked 20 (source.◌>>=◌ f (λ v. source.◌>>=◌ (evaluation.test_of v at) (λ t. evaluation.choose t (source.◌>>=◌ h (λ v. source.◌>>=◌ (evaluation.test_of v at) (λ u. evaluation.some (Word (truth u))))) (evaluation.some (Word 0)))))) (run.and_does g k)
   and_kept {f = f} {g = g} at a b = record {
     by = λ hs w t s.
-        regrouped (Deciding seats hs) (f w) (λ v. evaluation.test_of v at) _ _
-        (rel_after (Same seats hs) (Deciding seats hs) _ (g (record t { work = t.work + 20 })) _ _ (a.by at hs w _ (worked seats hs w t _ s)) (λ c. choose_grows c b.grows (give_grows false))
+        regrouped (Deciding seats hs) (f (record w { work = w.work + 20 })) (λ v. evaluation.test_of v at) _ _
+        (rel_after (Same seats hs) (Deciding seats hs) _ (g (record t { work = t.work + 20 })) _ _ (a.by at hs _ _ (worked seats hs w t _ s)) (λ c. choose_grows c b.grows (give_grows false))
         (λ x y w t e. chosen (Deciding seats hs) x y _ _ _ _ w t e.0 (second at b hs w t e.1) (same_truth hs false false w t (refl, e.1))));
   }
 
   pub or_kept : {f h : source.Does Value} {g k : Does Tree Bool} (at : ℕ) → Tests seats f g → Tests seats h k
-      → Decides seats (source.◌>>=◌ f (λ v. source.◌>>=◌ (evaluation.test_of v at) (λ t. evaluation.choose t (evaluation.some (Word 1)) (source.◌>>=◌ h (λ v. source.◌>>=◌ (evaluation.test_of v at) (λ u. evaluation.some (Word (truth u)))))))) (run.or_does g k)
+      → Decides seats (source.ticked 20 (source.◌>>=◌ f (λ v. source.◌>>=◌ (evaluation.test_of v at) (λ t. evaluation.choose t (evaluation.some (Word 1)) (source.◌>>=◌ h (λ v. source.◌>>=◌ (evaluation.test_of v at) (λ u. evaluation.some (Word (truth u))))))))) (run.or_does g k)
   or_kept {f = f} {g = g} at a b = record {
     by = λ hs w t s.
-        regrouped (Deciding seats hs) (f w) (λ v. evaluation.test_of v at) _ _
-        (rel_after (Same seats hs) (Deciding seats hs) _ (g (record t { work = t.work + 20 })) _ _ (a.by at hs w _ (worked seats hs w t _ s)) (λ c. choose_grows c (give_grows true) b.grows)
+        regrouped (Deciding seats hs) (f (record w { work = w.work + 20 })) (λ v. evaluation.test_of v at) _ _
+        (rel_after (Same seats hs) (Deciding seats hs) _ (g (record t { work = t.work + 20 })) _ _ (a.by at hs _ _ (worked seats hs w t _ s)) (λ c. choose_grows c (give_grows true) b.grows)
         (λ x y w t e. chosen (Deciding seats hs) x y _ _ _ _ w t e.0 (same_truth hs true true w t (refl, e.1)) (second at b hs w t e.1)));
   }
 
   -- one of two arms, whose value is used or isn't
   pub pick_kept : {pointing : Bool} {f h l : source.Does Value} {g : Does Tree Bool} {k m : Does Tree ℕ} (at : ℕ) → Tests seats f g → Values seats pointing h k → Values seats pointing l m
-      → Values seats pointing (source.◌>>=◌ f (λ v. source.◌>>=◌ (evaluation.test_of v at) (λ t. evaluation.choose t h l))) (run.pick_does g k m)
+      → Values seats pointing (source.ticked 14 (source.◌>>=◌ f (λ v. source.◌>>=◌ (evaluation.test_of v at) (λ t. evaluation.choose t h l)))) (run.pick_does g k m)
   pick_kept {pointing = pointing} {f = f} {g = g} at c a b = record {
     by = λ hs w t s.
-        regrouped (Valued seats hs pointing) (f w) (λ v. evaluation.test_of v at) _ _
-        (rel_after (Same seats hs) (Valued seats hs pointing) _ (g (record t { work = t.work + 14 })) _ _ (c.by at hs w _ (worked seats hs w t _ s)) (λ u. choose_grows u a.grows b.grows)
+        regrouped (Valued seats hs pointing) (f (record w { work = w.work + 14 })) (λ v. evaluation.test_of v at) _ _
+        (rel_after (Same seats hs) (Valued seats hs pointing) _ (g (record t { work = t.work + 14 })) _ _ (c.by at hs _ _ (worked seats hs w t _ s)) (λ u. choose_grows u a.grows b.grows)
         (λ x y w t e. chosen (Valued seats hs pointing) x y _ _ _ _ w t e.0 (a.by hs w t e.1) (b.by hs w t e.1)));
     grows = bind_grows (ticked 14 (λ _. c.grows)) (λ u. choose_grows u a.grows b.grows);
   }
 
   pub pick_unused : {f : source.Does Value} {h l : source.Does (Option Value)} {g : Does Tree Bool} {k m : Does Tree (Unit {0})} (at : ℕ) → Tests seats f g → Effects seats h k → Effects seats l m
-      → Effects seats (source.◌>>=◌ f (λ v. source.◌>>=◌ (evaluation.test_of v at) (λ t. evaluation.choose t h l))) (run.pick_does g k m)
+      → Effects seats (source.ticked 14 (source.◌>>=◌ f (λ v. source.◌>>=◌ (evaluation.test_of v at) (λ t. evaluation.choose t h l)))) (run.pick_does g k m)
   pick_unused {f = f} {g = g} at c a b = record {
     by = λ hs w t s.
-        regrouped (Nothing seats hs) (f w) (λ v. evaluation.test_of v at) _ _
-        (rel_after (Same seats hs) (Nothing seats hs) _ (g (record t { work = t.work + 14 })) _ _ (c.by at hs w _ (worked seats hs w t _ s)) (λ u. choose_grows u a.grows b.grows)
+        regrouped (Nothing seats hs) (f (record w { work = w.work + 14 })) (λ v. evaluation.test_of v at) _ _
+        (rel_after (Same seats hs) (Nothing seats hs) _ (g (record t { work = t.work + 14 })) _ _ (c.by at hs _ _ (worked seats hs w t _ s)) (λ u. choose_grows u a.grows b.grows)
         (λ x y w t e. chosen (Nothing seats hs) x y _ _ _ _ w t e.0 (a.by hs w t e.1) (b.by hs w t e.1)));
     grows = bind_grows (ticked 14 (λ _. c.grows)) (λ u. choose_grows u a.grows b.grows);
   }
 
   -- a comma
-  pub comma_kept : {pointing : Bool} {f : source.Does (Option Value)} {h : source.Does Value} {g : Does Tree (Unit {0})} {k : Does Tree ℕ} → Effects seats f g → Values seats pointing h k → Values seats pointing (source.◌>>=◌ f (λ _. h)) (run.comma_does g k)
+  pub comma_kept : {pointing : Bool} {f : source.Does (Option Value)} {h : source.Does Value} {g : Does Tree (Unit {0})} {k : Does Tree ℕ} → Effects seats f g → Values seats pointing h k → Values seats pointing (source.ticked 1 (source.◌>>=◌ f (λ _. h))) (run.comma_does g k)
   comma_kept {pointing = pointing} {f = f} {g = g} a b = record {
-    by = λ hs w t s. rel_after (Nothing seats hs) (Valued seats hs pointing) (f w) (g (record t { work = t.work + 1 })) _ _ (a.by hs w _ (worked seats hs w t _ s)) (λ _. b.grows) (λ v u w t e. b.by hs w t e);
+    by = λ hs w t s. rel_after (Nothing seats hs) (Valued seats hs pointing) (f (record w { work = w.work + 1 })) (g (record t { work = t.work + 1 })) _ _ (a.by hs _ _ (worked seats hs w t _ s)) (λ _. b.grows) (λ v u w t e. b.by hs w t e);
     grows = bind_grows (ticked 1 (λ _. a.grows)) (λ _. b.grows);
   }
 
-  pub comma_unused : {f h : source.Does (Option Value)} {g k : Does Tree (Unit {0})} → Effects seats f g → Effects seats h k → Effects seats (source.◌>>=◌ f (λ _. h)) (run.comma_does g k)
+  pub comma_unused : {f h : source.Does (Option Value)} {g k : Does Tree (Unit {0})} → Effects seats f g → Effects seats h k → Effects seats (source.ticked 1 (source.◌>>=◌ f (λ _. h))) (run.comma_does g k)
   comma_unused {f = f} {g = g} a b = record {
-    by = λ hs w t s. rel_after (Nothing seats hs) (Nothing seats hs) (f w) (g (record t { work = t.work + 1 })) _ _ (a.by hs w _ (worked seats hs w t _ s)) (λ _. b.grows) (λ v u w t e. b.by hs w t e);
+    by = λ hs w t s. rel_after (Nothing seats hs) (Nothing seats hs) (f (record w { work = w.work + 1 })) (g (record t { work = t.work + 1 })) _ _ (a.by hs _ _ (worked seats hs w t _ s)) (λ _. b.grows) (λ v u w t e. b.by hs w t e);
     grows = bind_grows (ticked 1 (λ _. a.grows)) (λ _. b.grows);
   }
 
@@ -114,5 +115,5 @@ module _ (seats : Seats) where
   }
 
   -- a value of another type, which is the same word
-  pub convert_kept : {pointing : Bool} {f : source.Does Value} {g : Does Tree ℕ} → Values seats pointing f g → Forms seats pointing (source.◌>>=◌ f evaluation.some) g
-  convert_kept {pointing = pointing} {f = f} {g = g} h = record { by = λ hs w t a. some_kept seats hs pointing (f w) (g t) (h.by hs w t a) }
+  pub convert_kept : {pointing : Bool} {f : source.Does Value} {g : Does Tree ℕ} → Values seats pointing f g → Forms seats pointing (source.ticked 1 (source.◌>>=◌ f evaluation.some)) g
+  convert_kept {pointing = pointing} {f = f} {g = g} h = record { by = λ hs w t a. some_kept seats hs pointing (f (record w { work = w.work + 1 })) (g t) (h.by hs _ t (worked_alone seats hs w t 1 a)) }

@@ -3,11 +3,12 @@ use Rattle.std.proofs.Common.{◌≡◌, ℕ, Bool, true, List, Option, Some, No
 use Rattle.c_tree.specs.declared.enclosing.Enclosing.{Enclosing}
 use Rattle.c_tree.specs.declared.program.VarRef.{VarRef}
 use Rattle.c_tree.specs.TypedTree.{ProgramTree}
-use Rattle.c_tree.specs.Store as source
-use Rattle.c_tree.specs.Store.{Value, World}
-use Rattle.c_tree.specs.Eval as evaluation
+use Rattle.tree_code_proof.specs.Counted as source
+use Rattle.c_tree.specs.Store.{Value}
+use Rattle.tree_code_proof.specs.Counted.{World}
+use Rattle.tree_code_proof.specs.Evaluated as evaluation
 use Rattle.c_tree.specs.Eval.{Env}
-use Rattle.c_tree.specs.Exec as execution
+use Rattle.tree_code_proof.specs.Executed as execution
 use Rattle.c_tree.specs.Labels.{may_break, may_continue}
 use Rattle.c_tree.specs.WellFormed.{Shape, Names}
 use Rattle.ir_semantics.specs.Outside.{Places}
@@ -28,7 +29,7 @@ use Rattle.tree_code_proof.proofs.Interfaces.{Given, Left, Runs, Entered}
 
 -- the word that a function returns is known
 resulted : (seats : Seats) (hs : List Held) (w : World) (t : Tree) (r : Option ℕ) → Alike seats hs w t → Alike seats hs w (record t { result = r })
-resulted seats hs w t r a = record { seated = a.seated; rooms = a.rooms; least = a.least; unmade = a.unmade; kinds = a.kinds; objects = a.objects; held = a.held; input = a.input; words = a.words; outs = a.outs }
+resulted seats hs w t r a = record { seated = a.seated; rooms = a.rooms; least = a.least; unmade = a.unmade; kinds = a.kinds; objects = a.objects; held = a.held; input = a.input; words = a.words; outs = a.outs; work = a.work }
 
 -- a test, and a part whose value isn't used, wherever their function runs
 pub record Asks (q : Places) (p : ProgramTree) (f : ℕ) (objects names : VarRef → Option Shape) (s : Env → source.Does Bool) (does : Does Tree Bool) : Type 0 where
@@ -48,8 +49,8 @@ module _ (q : Places) (p : ProgramTree) (f : ℕ) (objects : VarRef → Option S
   next_runs names c = record { by = λ env seats around hs w t a. a; grows = give_grows Next }
 
   -- a node counts
-  pub ticked_runs : {names : Names} {c : Enclosing} {s : Env → source.Does execution.Flow} {does : Does Tree Flow} (k : ℕ) → Runs q p f objects pointing names c s does → Runs q p f objects pointing names c s (tick k >>= λ _. does)
-  ticked_runs k h = record { by = λ env seats around hs w t a. h.by env seats around hs w _ (worked seats hs w t _ a); grows = ticked k (λ _. h.grows) }
+  pub ticked_runs : {names : Names} {c : Enclosing} {s : Env → source.Does execution.Flow} {does : Does Tree Flow} (k : ℕ) → Runs q p f objects pointing names c s does → Runs q p f objects pointing names c (λ env. source.ticked k (s env)) (tick k >>= λ _. does)
+  ticked_runs k h = record { by = λ env seats around hs w t a. h.by env seats around hs _ _ (worked seats hs w t _ a); grows = ticked k (λ _. h.grows) }
 
   -- behind a statement of a list
   pub in_order_runs : {names : Names} {c : Enclosing} {s r : Env → source.Does execution.Flow} {does then_does : Does Tree Flow} → Runs q p f objects pointing names c s does → Runs q p f objects pointing names c r then_does

@@ -1,4 +1,6 @@
 pub mod Counting
+pub mod CountedForms
+pub mod CountedStatements
 pub mod Examples
 pub mod Growing
 pub mod GrowingStatements

@@ -4,10 +4,10 @@ use Rattle.c_tree.specs.declared.enclosing.Enclosing.{Enclosing}
 use Rattle.c_tree.specs.declared.enclosing.Enclosing.TheVariants as within
 use Rattle.c_tree.specs.declared.program.VarRef.{VarRef}
 use Rattle.c_tree.specs.TypedTree.{ProgramTree}
-use Rattle.c_tree.specs.Store as source
-use Rattle.c_tree.specs.Store.{World}
+use Rattle.tree_code_proof.specs.Counted as source
+use Rattle.tree_code_proof.specs.Counted.{World}
 use Rattle.c_tree.specs.Eval.{Env}
-use Rattle.c_tree.specs.Exec as execution
+use Rattle.tree_code_proof.specs.Executed as execution
 use Rattle.c_tree.specs.WellFormed.{Shape, Names}
 use Rattle.ir_semantics.specs.Outside.{Places}
 use Rattle.ir_semantics.specs.Parts.{Does, Flow, Next, Broke, Continued, Returned, give}
@@ -59,7 +59,7 @@ module _ (q : Places) (p : ProgramTree) (f : ℕ) (objects : VarRef → Option S
           (λ b. choose_grows b (bind_grows (ticked 14 (λ _. body.grows)) (λ flow. turn_grows flow (bind_grows acts.grows (λ _. turns_grow n asks.grows body.grows acts.grows)))) (give_grows Next))
           (λ x y w t e.
           chosen seats (Left seats hs pointing c) x y _ (source.give execution.Next) _ (give Next) w t e.0
-          (rel_after (Left seats hs pointing within.Loop) (Left seats hs pointing c) (s env w) (does (record t { work = t.work + 14 })) _ _ (body.by env seats around hs w _ (worked seats hs w t _ e.1))
+          (rel_after (Left seats hs pointing within.Loop) (Left seats hs pointing c) (s env (record w { work = w.work + 14 })) (does (record t { work = t.work + 14 })) _ _ (body.by env seats around hs _ _ (worked seats hs w t _ e.1))
           (λ flow. turn_grows flow (bind_grows acts.grows (λ _. turns_grow n asks.grows body.grows acts.grows)))
           (turned env seats hs _ _ (λ w t a. rel_after (Still seats hs) (Left seats hs pointing c) (third env w) (then_third t) _ _ (acts.by env seats around hs w t a) (λ _. turns_grow n asks.grows body.grows acts.grows) (λ x y w t e. turns_keep n env seats around hs w t e))))
           e.1)
@@ -72,7 +72,7 @@ module _ (q : Places) (p : ProgramTree) (f : ℕ) (objects : VarRef → Option S
         → Rel (Left seats hs pointing c) (execution.turns_first n (s env) (test env) w) (run.turns_first n does decide t)
     turns_first_keep zero env seats around hs w t a = sym a.outs
     turns_first_keep (suc n) env seats around hs w t a =
-        rel_after (Left seats hs pointing within.Loop) (Left seats hs pointing c) (s env w) (does (record t { work = t.work + 14 })) _ _ (body.by env seats around hs w _ (worked seats hs w t _ a))
+        rel_after (Left seats hs pointing within.Loop) (Left seats hs pointing c) (s env (record w { work = w.work + 14 })) (does (record t { work = t.work + 14 })) _ _ (body.by env seats around hs _ _ (worked seats hs w t _ a))
         (λ flow. turn_grows flow (bind_grows asks.grows (λ b. choose_grows b (turns_first_grow n body.grows asks.grows) (give_grows Next))))
         (turned env seats hs _ _
         (λ w t a. rel_after (Same seats hs) (Left seats hs pointing c) (test env w) (decide t) _ _ (asks.by env seats around hs w t a) (λ b. choose_grows b (turns_first_grow n body.grows asks.grows) (give_grows Next))

@@ -3,8 +3,9 @@ use Rattle.std.proofs.Common.{◌≡◌, ◌≢◌, inl, inr, ℕ, suc, ◌+◌,
 use Rattle.std.specs.Prelude.{◌==◌}
 use Rattle.std.proofs.lemmas.Bool.{eq-eqb, ne_eqb, eqb-true, eqb-false}
 use Rattle.std.proofs.lemmas.Option.{none-some, same_Some}
-use Rattle.c_tree.specs.Store as source
-use Rattle.c_tree.specs.Store.{Value, Word, Pointer, Null, Obj, World, is_pointer, with_new, with_object}
+use Rattle.tree_code_proof.specs.Counted as source
+use Rattle.c_tree.specs.Store.{Value, Word, Pointer, Null, Obj, is_pointer, with_new, with_object}
+use Rattle.tree_code_proof.specs.Counted.{World}
 use Rattle.ir_semantics.specs.Outside as words
 use Rattle.ir_semantics.specs.Outside.{Memory, Frame, word_of}
 use Rattle.ir_semantics.specs.TreeRun.{Tree}
@@ -116,6 +117,7 @@ module _ (seats : Seats) (hs : List Held) (w : World) (t : Tree) (a : Alike seat
     input = a.input;
     words = a.words;
     outs = a.outs;
+    work = a.work;
   }
 
 -- whether the cells of each object hold pointers, said otherwise of objects that don't live
@@ -141,6 +143,7 @@ pointed seats hs w t points kinds a =
       input = a.input;
       words = a.words;
       outs = a.outs;
+      work = a.work;
     }
 
 -- an object ends
@@ -190,4 +193,5 @@ module _ (seats : Seats) (hs : List Held) (w : World) (t : Tree) (a : Alike seat
     input = a.input;
     words = a.words;
     outs = a.outs;
+    work = a.work;
   }

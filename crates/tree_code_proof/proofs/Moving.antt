@@ -7,9 +7,10 @@ use Rattle.word_base.specs.Words.{signed_of, low16, unsigned_add, unsigned_subtr
 use Rattle.word_base.specs.declared.outcome.UndefinedKind.TheVariants.{BadPointer}
 use Rattle.c_syntax.specs.declared.operator.BinaryOp.TheVariants as op
 use Rattle.c_tree.specs.TypedTree.{Kind}
-use Rattle.c_tree.specs.Store as source
-use Rattle.c_tree.specs.Store.{Word, Pointer, Obj, World}
-use Rattle.c_tree.specs.Eval as evaluation
+use Rattle.tree_code_proof.specs.Counted as source
+use Rattle.c_tree.specs.Store.{Word, Pointer, Obj}
+use Rattle.tree_code_proof.specs.Counted.{World}
+use Rattle.tree_code_proof.specs.Evaluated as evaluation
 use Rattle.c_tree.specs.Eval.{number, is_unsigned, index_within}
 use Rattle.ir_semantics.specs.Parts.{Gives, give}
 use Rattle.ir_semantics.specs.Outside.{Memory, Frame}

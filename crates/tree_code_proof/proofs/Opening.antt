@@ -9,8 +9,10 @@ use Rattle.std.proofs.lemmas.List.Elements.{All-contains, All-from_recursion}
 use Rattle.c_tree.specs.declared.program.VarRef.{VarRef}
 use Rattle.c_tree.specs.declared.program.VarRef.TheVariants.{Scalar, Local, Static}
 use Rattle.c_tree.specs.TypedTree.{Kind, FunctionTree, ProgramTree}
-use Rattle.c_tree.specs.Store as source
-use Rattle.c_tree.specs.Store.{Obj, World, is_pointer, with_new, with_object}
+use Rattle.tree_code_proof.specs.Counted as source
+use Rattle.c_tree.specs.Store as plain
+use Rattle.c_tree.specs.Store.{Obj, is_pointer, with_new, with_object}
+use Rattle.tree_code_proof.specs.Counted.{World}
 use Rattle.c_tree.specs.Eval.{Env, object_number}
 use Rattle.c_tree.specs.Exec.{fresh, named, make_object, enter, leave}
 use Rattle.c_tree.specs.WellFormed.{Shape, Names, IsAutomatic, same_reference, is_among, opened, AreNew}
@@ -184,11 +186,12 @@ record Opened (q : Places) (p : ProgramTree) (f : ℕ) (g : FunctionTree) (names
   numbers : List ℕ
   seats : Seats
   world : World
-  gives : enter declared before w ≡ source.Gives (env, numbers) world
+  gives : enter declared before (source.without_work w) ≡ plain.Gives (env, numbers) (source.without_work world)
+  work : world.work ≡ w.work
   surrounds : Surrounds q p f (object_in p g) (with_names (object_in p g) declared names) env seats
   fresh : AllByRecursion (λ v. world.store.living (object_number env v) ≡ fresh before.function v) declared
   alike : Alike seats hs world t
-  back : (kept : List Held) (v : World) (u : Tree) → Alike seats kept v u → (x : World) × ((leave numbers v ≡ source.Gives (tt {0}) x) × Alike outer kept x u)
+  back : (kept : List Held) (v : World) (u : Tree) → Alike seats kept v u → (x : World) × (((leave numbers (source.without_work v) ≡ plain.Gives (tt {0}) (source.without_work x)) × (x.work ≡ v.work)) × Alike outer kept x u)
   names_kept : (u : VarRef) → is_among u declared ≡ false → object_number env u ≡ object_number before u
   living_kept : (k : ℕ) → k < w.store.made → world.store.living k ≡ w.store.living k
 
@@ -205,10 +208,11 @@ module _ (q : Places) (p : ProgramTree) (f : ℕ) (g : FunctionTree) (function :
     seats = seats;
     world = w;
     gives = refl;
+    work = refl;
     surrounds = around;
     fresh = tt;
     alike = a;
-    back = λ kept v u b. (v, (refl, b));
+    back = λ kept v u b. (v, ((refl, refl), b));
     names_kept = λ u e. refl;
     living_kept = λ k less. refl;
   }
@@ -227,8 +231,9 @@ module _ (q : Places) (p : ProgramTree) (f : ℕ) (g : FunctionTree) (function :
         seats = rest.seats;
         world = rest.world;
         gives =
-            ap (λ x. source.after (make_object x v env w) (λ d. source.◌>>=◌ (enter vs d.0) (λ e. source.give (e.0, d.1 ++ e.1)))) is_made
-            ∙ ap (λ r. source.after r (λ e. source.give (e.0, (made ∷ []) ++ e.1))) rest.gives;
+            ap (λ x. plain.after (make_object x v env (source.without_work w)) (λ d. plain.◌>>=◌ (enter vs d.0) (λ e. plain.give (e.0, d.1 ++ e.1)))) is_made
+            ∙ ap (λ r. plain.after r (λ e. plain.give (e.0, (made ∷ []) ++ e.1))) rest.gives;
+        work = rest.work;
         surrounds = subst (λ n. Surrounds q p f (object_in p g) n rest.env rest.seats) (with_names_more (object_in p g) names v vs) rest.surrounds;
         fresh = (
           ap rest.world.store.living (rest.names_kept v apart ∙ number_here env v made new.0.automatic) ∙ rest.living_kept made (omega arith) ∙ ap (λ b. cond b (Some o) (w.store.living made)) (eq-eqb made made refl) ∙ sym is_made,
@@ -239,7 +244,7 @@ module _ (q : Places) (p : ProgramTree) (f : ℕ) (g : FunctionTree) (function :
             let r = rest.back kept x u b in (
               record r.0 { store = with_object made None r.0.store },
               (
-                ap (λ y. source.after y (λ _. source.finish made)) r.1.0,
+                (ap (λ y. plain.after y (λ _. plain.finish made)) r.1.0.0, r.1.0.1),
                 behind_end q p f g function places names env seats around hs w t a v new.0 kept (record r.0 { store = with_object made None r.0.store }) u (ap (λ b. cond b None (r.0.store.living made)) (eq-eqb made made refl)) (ended_object first_seats kept r.0 u r.1.1 made),
               ),
             );
@@ -253,4 +258,14 @@ module _ (q : Places) (p : ProgramTree) (f : ℕ) (g : FunctionTree) (function :
       → Entered q p f (object_in p g) (opened (object_in p g) declared names).object seats hs declared env w t
   enter_keeps names env seats hs w t declared new around a =
       let o = opened_all declared names.object env seats hs w t (new_are_fresh (object_in p g) names declared new) around a in
-      record { env = o.env; numbers = o.numbers; seats = o.seats; world = o.world; gives = o.gives; surrounds = o.surrounds; fresh = o.fresh; alike = o.alike; back = o.back }
+      record {
+        env = o.env;
+        numbers = o.numbers;
+        seats = o.seats;
+        world = o.world;
+        gives = ap (source.at_work w.work) o.gives ∙ ap (λ k. source.Gives (o.env, o.numbers) (record o.world { work = k })) (sym o.work);
+        surrounds = o.surrounds;
+        fresh = o.fresh;
+        alike = o.alike;
+        back = λ kept v u b. let r = o.back kept v u b in (r.0, (ap (source.at_work v.work) r.1.0.0 ∙ ap (λ k. source.Gives (tt {0}) (record r.0 { work = k })) (sym r.1.0.1), r.1.1));
+      }

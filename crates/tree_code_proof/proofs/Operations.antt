@@ -7,9 +7,10 @@ use Rattle.c_tree.specs.Kinds.{int, IsInteger, IsPointer}
 use Rattle.c_tree.specs.TypedTree.{Kind}
 use Rattle.c_tree.specs.WellFormed as formed
 use Rattle.c_tree.specs.WellFormed.{Takes, is_comparison, moves}
-use Rattle.c_tree.specs.Store as source
-use Rattle.c_tree.specs.Store.{Value, World}
-use Rattle.c_tree.specs.Eval as evaluation
+use Rattle.tree_code_proof.specs.Counted as source
+use Rattle.c_tree.specs.Store.{Value}
+use Rattle.tree_code_proof.specs.Counted.{World}
+use Rattle.tree_code_proof.specs.Evaluated as evaluation
 use Rattle.c_tree.specs.Eval.{points}
 use Rattle.tree_code.specs.Operations.{word_op}
 use Rattle.ir_semantics.specs.Parts.{Gives, Does, give}
@@ -39,36 +40,36 @@ module _ (seats : Seats) where
     both_gone : (hs : List Held) (v : Value) (x : ℕ) (u : Value) (y : ℕ) (w : World) (t : Tree) → Alike seats (record { pointing = q; value = u; word = y } ∷ record { pointing = p; value = v; word = x } ∷ hs) w t → Alike seats hs w t
     both_gone hs v x u y w t s = let_go seats hs _ w t (let_go seats _ _ w t s)
 
-    calculation_kept : (r : Bool) (c : ℕ → ℕ → Calc) → Operates seats p q r next c → Forms seats r (source.◌>>=◌ f (λ v. source.◌>>=◌ h (λ u. source.◌>>=◌ (next v u) evaluation.some))) (run.binary_does c g k)
+    calculation_kept : (r : Bool) (c : ℕ → ℕ → Calc) → Operates seats p q r next c → Forms seats r (source.ticked 24 (source.◌>>=◌ f (λ v. source.◌>>=◌ h (λ u. source.◌>>=◌ (next v u) evaluation.some)))) (run.binary_does c g k)
     calculation_kept r c o = record {
       by = λ hs w t s.
           both_kept (λ hs. Optional seats hs r) (λ v u. source.◌>>=◌ (next v u) evaluation.some) (λ x y. run.calc (c x y)) a b (λ x y. calc_grows (c x y))
-          (λ hs v x u y w t s. o.by hs w t (both_gone hs v x u y w t s) v x u y s.held.1.0 s.held.0) hs w _ (worked seats hs w t _ s);
+          (λ hs v x u y w t s. o.by hs w t (both_gone hs v x u y w t s) v x u y s.held.1.0 s.held.0) hs _ _ (worked seats hs w t _ s);
     }
 
     as_decided : (hs : List Held) (c : Bool) (t : Tree) (x : source.Res (Option Value)) → Rel (Optional seats hs false) x (Gives (truth c) t) → Rel (Deciding seats hs) x (Gives c t)
     as_decided hs c t (source.Gives v w) e = e
-    as_decided hs c t (source.Finished ending o) e = absurd e
+    as_decided hs c t (source.Finished ending o most) e = absurd e
     as_decided hs c t (source.TooMany o) e = absurd e
     as_decided hs c t (source.Fails kind at o) e = e
 
-    decision_kept : (c : ℕ → ℕ → Bool) → Operates seats p q false next (λ x y. Good (truth (c x y))) → truths.Decides seats (source.◌>>=◌ f (λ v. source.◌>>=◌ h (λ u. source.◌>>=◌ (next v u) evaluation.some))) (run.compare_does c g k)
+    decision_kept : (c : ℕ → ℕ → Bool) → Operates seats p q false next (λ x y. Good (truth (c x y))) → truths.Decides seats (source.ticked 24 (source.◌>>=◌ f (λ v. source.◌>>=◌ h (λ u. source.◌>>=◌ (next v u) evaluation.some)))) (run.compare_does c g k)
     decision_kept c o = record {
       by = λ hs w t s.
           both_kept (λ hs. Deciding seats hs) (λ v u. source.◌>>=◌ (next v u) evaluation.some) (λ x y. give (c x y)) a b (λ x y. give_grows (c x y))
-          (λ hs v x u y w t s. as_decided hs (c x y) t _ (o.by hs w t (both_gone hs v x u y w t s) v x u y s.held.1.0 s.held.0)) hs w _ (worked seats hs w t _ s);
+          (λ hs v x u y w t s. as_decided hs (c x y) t _ (o.by hs w t (both_gone hs v x u y w t s) v x u y s.held.1.0 s.held.0)) hs _ _ (worked seats hs w t _ s);
     }
 
     -- an integer is given
     integer_given : (kind : Kind) → points kind ≡ false → (at : ℕ) (m : Meaning) → Operates seats p q false next (calculated m)
-        → Kept seats kind (source.◌>>=◌ (source.◌>>=◌ f (λ v. source.◌>>=◌ h (λ u. source.◌>>=◌ (next v u) evaluation.some))) (evaluation.need at)) (source.◌>>=◌ f (λ v. source.◌>>=◌ h (λ u. source.◌>>=◌ (next v u) evaluation.some)))
+        → Kept seats kind (source.◌>>=◌ (source.ticked 24 (source.◌>>=◌ f (λ v. source.◌>>=◌ h (λ u. source.◌>>=◌ (next v u) evaluation.some)))) (evaluation.need at)) (source.ticked 24 (source.◌>>=◌ f (λ v. source.◌>>=◌ h (λ u. source.◌>>=◌ (next v u) evaluation.some))))
         (run.operation_word m g k) (run.operation_truth m g k) (run.operation_effect m g k)
     integer_given kind is at (Calculates c) o = of_forms seats kind false is at (calculation_kept false c (record { by = o.by })) (calculation_grows c a.grows b.grows)
     integer_given kind is at (Decides c) o = of_decides seats kind is at (decision_kept c (record { by = o.by })) (decision_grows c a.grows b.grows)
 
     -- a pointer is given
     pointer_given : (kind : Kind) → points kind ≡ true → (at : ℕ) (c : ℕ → ℕ → Calc) → Operates seats p q true next c
-        → Kept seats kind (source.◌>>=◌ (source.◌>>=◌ f (λ v. source.◌>>=◌ h (λ u. source.◌>>=◌ (next v u) evaluation.some))) (evaluation.need at)) (source.◌>>=◌ f (λ v. source.◌>>=◌ h (λ u. source.◌>>=◌ (next v u) evaluation.some)))
+        → Kept seats kind (source.◌>>=◌ (source.ticked 24 (source.◌>>=◌ f (λ v. source.◌>>=◌ h (λ u. source.◌>>=◌ (next v u) evaluation.some)))) (evaluation.need at)) (source.ticked 24 (source.◌>>=◌ f (λ v. source.◌>>=◌ h (λ u. source.◌>>=◌ (next v u) evaluation.some))))
         (run.operation_word (Calculates c) g k) (run.operation_truth (Calculates c) g k) (run.operation_effect (Calculates c) g k)
     pointer_given kind is at c o = of_forms seats kind true is at (calculation_kept true c o) (calculation_grows c a.grows b.grows)
 
@@ -81,7 +82,7 @@ is_pointer_kind None e = absurd e
 is_pointer_kind (Some kind) e = e
 
 abbrev two_values : source.Does Value → source.Does Value → BinaryOp → Kind → Kind → ℕ → source.Does (Option Value)
-two_values f h o k l at = source.◌>>=◌ f (λ v. source.◌>>=◌ h (λ u. source.◌>>=◌ (evaluation.of_two o k l v u at) evaluation.some))
+two_values f h o k l at = source.ticked 24 (source.◌>>=◌ f (λ v. source.◌>>=◌ h (λ u. source.◌>>=◌ (evaluation.of_two o k l v u at) evaluation.some)))
 
 abbrev OperatorKept : Seats → source.Does Value → source.Does Value → Does Tree ℕ → Does Tree ℕ → BinaryOp → Kind → Kind → Kind → ℕ → Type 0
 OperatorKept seats f h g m o k l kind at =

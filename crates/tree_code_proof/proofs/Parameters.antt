@@ -8,7 +8,8 @@ use Rattle.std.proofs.lemmas.Option.{none-some}
 use Rattle.c_tree.specs.declared.program.VarRef.{VarRef}
 use Rattle.c_tree.specs.declared.program.VarRef.TheVariants.{Scalar, Local, Static}
 use Rattle.c_tree.specs.TypedTree.{FunctionTree, ProgramTree}
-use Rattle.c_tree.specs.Store.{Value, Cell, Unset, Holds, Obj, World, is_pointer, same, cell_of, with_cell, store_value}
+use Rattle.c_tree.specs.Store.{Value, Cell, Unset, Holds, Obj, is_pointer, same, cell_of, with_cell}
+use Rattle.tree_code_proof.specs.Counted.{World, store_value}
 use Rattle.c_tree.specs.Eval.{Env, object_number, points}
 use Rattle.c_tree.specs.Exec.{fresh, unset_scalar, unset_object}
 use Rattle.c_tree.specs.WellFormed.{Shape, IsThere, IsNew, AreNew}

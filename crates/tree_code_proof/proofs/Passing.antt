@@ -1,14 +1,14 @@
 -- Arguments go to parameters: to the objects of a typed program, and to the names of its word tree.
-use Rattle.std.proofs.Common.{◌≡◌, ℕ, ◌+◌, true, cond, List, [], ◌∷◌, ◌++◌, Some, refl, sym, ap, ◌∙◌, subst}
+use Rattle.std.proofs.Common.{◌≡◌, ℕ, true, cond, List, [], ◌∷◌, ◌++◌, Some, refl, sym, ap, ◌∙◌, subst}
 use Rattle.std.specs.Prelude.{map}
 use Rattle.std.specs.List.{AllByRecursion}
 use Rattle.std.proofs.lemmas.Bool.{eq-eqb, or_left, or_right}
 use Rattle.c_tree.specs.declared.program.VarRef.{VarRef}
 use Rattle.c_tree.specs.declared.program.VarRef.TheVariants.{Scalar, Local, Static}
-use Rattle.c_tree.specs.Store as source
-use Rattle.c_tree.specs.Store.{World, store_value}
+use Rattle.tree_code_proof.specs.Counted as source
+use Rattle.tree_code_proof.specs.Counted.{World, store_value}
 use Rattle.c_tree.specs.Eval.{Env, object_number, points}
-use Rattle.c_tree.specs.SourceRun as source_run
+use Rattle.tree_code_proof.specs.Executed as execution
 use Rattle.c_tree.specs.TypedTree.{FunctionTree, ProgramTree}
 use Rattle.c_tree.specs.WellFormed.{Shape, opened, same_reference, is_among}
 use Rattle.c_tree.specs.WellFormedProgram.{IsParameter, kind_of_parameter, object_in, static_names, names_within}
@@ -72,7 +72,7 @@ module _ (q : Places) (f : ℕ) (g : FunctionTree) (env : Env) (seats : Seats) (
       (write_named seats (address_of q f) v (args ++ hs) w t x.pointing x.value x.word a (object_number env v) 0 seat)
 
   pub passed : (vs : List VarRef) (args : List Held) (w : World) (t : Tree) → map (λ h. h.pointing) args ≡ map points (map (kind_of_parameter g) vs) → AllByRecursion (λ v. IsSeatOf (address_of q f) v (seats.seat (object_number env v))) vs → AreReady w env g vs
-      → Alike seats (args ++ hs) w t → Rel (Passed seats hs) (source_run.pass vs (map (λ h. h.value) args) env w) (run.pass (address_of q f) vs (map (λ h. h.word) args) t)
+      → Alike seats (args ++ hs) w t → Rel (Passed seats hs) (execution.pass vs (map (λ h. h.value) args) env w) (run.pass (address_of q f) vs (map (λ h. h.word) args) t)
   passed [] [] w t kinds seated ready a = a
   passed [] (x ∷ args) w t kinds seated ready a = absurd cc
   passed (v ∷ vs) [] w t kinds seated ready a = absurd cc
@@ -80,6 +80,6 @@ module _ (q : Places) (f : ℕ) (g : FunctionTree) (env : Env) (seats : Seats) (
       let kind : x.pointing ≡ points (kind_of_parameter g v) = cc in
       let rest : map (λ (h : Held). h.pointing) args ≡ map points (map (kind_of_parameter g) vs) = cc in
       let at = object_number env v in
-      given_then (Valued seats (args ++ hs) x.pointing) (Passed seats hs) x.value (store_value at 0 x.value w) (run.write_name (address_of q f) v x.word t) (source_run.pass vs (map (λ h. h.value) args) env (store_value at 0 x.value w)) (λ _. run.pass (address_of q f) vs (map (λ h. h.word) args))
+      given_then (Valued seats (args ++ hs) x.pointing) (Passed seats hs) x.value (store_value at 0 x.value w) (run.write_name (address_of q f) v x.word t) (execution.pass vs (map (λ h. h.value) args) env (store_value at 0 x.value w)) (λ _. run.pass (address_of q f) vs (map (λ h. h.word) args))
       (stored v x args w t seated.0 (subst (IsReady w at) (sym kind) ready.0) a)
       (λ b u e. passed vs args (store_value at 0 x.value w) u rest seated.1 (stay_ready w env g at x.value vs ready.1) (let_go seats (args ++ hs) _ _ u e))

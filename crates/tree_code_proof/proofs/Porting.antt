@@ -5,9 +5,10 @@ use Rattle.word_base.specs.Ports.{Input, IsInput}
 use Rattle.word_base.specs.declared.outcome.UndefinedKind.TheVariants.{NoValue}
 use Rattle.c_tree.specs.Kinds.{IsValue}
 use Rattle.c_tree.specs.TypedTree.{Kind}
-use Rattle.c_tree.specs.Store as source
-use Rattle.c_tree.specs.Store.{Value, Word, Pointer, Null, World}
-use Rattle.c_tree.specs.Eval as evaluation
+use Rattle.tree_code_proof.specs.Counted as source
+use Rattle.c_tree.specs.Store.{Value, Word, Pointer, Null}
+use Rattle.tree_code_proof.specs.Counted.{World}
+use Rattle.tree_code_proof.specs.Evaluated as evaluation
 use Rattle.c_tree.specs.Eval.{points}
 use Rattle.ir_semantics.specs.Parts.{Does, ◌>>=◌}
 use Rattle.ir_semantics.specs.Outside.{with_input, with_output}
@@ -46,17 +47,18 @@ module _ (seats : Seats) where
     input = ap (λ i q. cond (q == port) xs (i q)) a.input;
     words = input_left w.input port x xs a.words is;
     outs = a.outs;
+    work = a.work;
   }
 
   taken_kept : (hs : List Held) (w : World) (t : Tree) → Alike seats hs w t → (port : ℕ) (xs : List ℕ) → w.input port ≡ xs → Rel (Optional seats hs false) (source.after (source.taken xs port w) evaluation.some) (run.taken xs port t)
-  taken_kept hs w t a port [] is = (refl, sym a.outs)
+  taken_kept hs w t a port [] is = (refl, (sym a.outs, a.work))
   taken_kept hs w t a port (x ∷ xs) is = holding seats hs (record { pointing = false; value = Word x; word = x }) _ _ (took hs w t a port x xs is) (refl, first_word w.input port x xs a.words is)
 
-  pub in_kept : (port : ℕ) → Forms seats false (source.◌>>=◌ (source.take_word port) evaluation.some) (run.in_does port)
+  pub in_kept : (port : ℕ) → Forms seats false (source.ticked 4 (source.◌>>=◌ (source.take_word port) evaluation.some)) (run.in_does port)
   in_kept port = record {
     by = λ hs w t a.
-        let s = worked seats hs w t (t.work + 4) a in
-        subst (λ i. Rel (Optional seats hs false) (source.after (source.taken (w.input port) port w) evaluation.some) (run.taken (i port) port (record t { work = t.work + 4 }))) (sym a.input) (taken_kept hs w _ s port (w.input port) refl);
+        let s = worked seats hs w t 4 a in
+        subst (λ i. Rel (Optional seats hs false) (source.after (source.taken (w.input port) port (record w { work = w.work + 4 })) evaluation.some) (run.taken (i port) port (record t { work = t.work + 4 }))) (sym a.input) (taken_kept hs _ _ s port (w.input port) refl);
   }
 
   pub in_grows : (port : ℕ) → Grows (run.in_does port)
@@ -79,6 +81,7 @@ module _ (seats : Seats) where
     input = a.input;
     words = a.words;
     outs = ap (λ o. o ++ (port, x) ∷ []) a.outs;
+    work = a.work;
   }
 
   emitted : (hs : List Held) (port at : ℕ) (v : Value) (x : ℕ) (w : World) (t : Tree) → Valued seats hs false v x w t → Rel (Silent hs) (evaluation.emit port v at w) (run.put port x t)
@@ -87,13 +90,13 @@ module _ (seats : Seats) where
   emitted hs port at Null x w t s = absurd s.held.0
 
   module _ {f : source.Does Value} {g : Does Tree ℕ} (port at : ℕ) (h : Values seats false f g) where
-    emits : (hs : List Held) (w : World) (t : Tree) → Alike seats hs w t → Rel (Silent hs) (source.after (f w) (λ v. evaluation.emit port v at)) (run.out_does port g t)
-    emits hs w t a = rel_after (Valued seats hs false) (Silent hs) (f w) (g (record t { work = t.work + 4 })) _ (λ x. run.put port x) (h.by hs w _ (worked seats hs w t _ a)) (λ x. put_grows port x) (emitted hs port at)
+    emits : (hs : List Held) (w : World) (t : Tree) → Alike seats hs w t → Rel (Silent hs) (source.ticked 4 (source.◌>>=◌ f (λ v. evaluation.emit port v at)) w) (run.out_does port g t)
+    emits hs w t a = rel_after (Valued seats hs false) (Silent hs) (f (record w { work = w.work + 4 })) (g (record t { work = t.work + 4 })) _ (λ x. run.put port x) (h.by hs _ _ (worked seats hs w t _ a)) (λ x. put_grows port x) (emitted hs port at)
 
     out_grows : Grows (run.out_does port g)
     out_grows = bind_grows (ticked 4 (λ _. h.grows)) (λ x. put_grows port x)
 
-    out_value : (pointing : Bool) → Values seats pointing (source.◌>>=◌ (source.◌>>=◌ f (λ v. evaluation.emit port v at)) (evaluation.need at)) (run.out_does port g >>= λ _. run.fail)
+    out_value : (pointing : Bool) → Values seats pointing (source.◌>>=◌ (source.ticked 4 (source.◌>>=◌ f (λ v. evaluation.emit port v at))) (evaluation.need at)) (run.out_does port g >>= λ _. run.fail)
     out_value pointing = record {
       by = λ hs w t a. rel_after (Silent hs) (Valued seats hs pointing) _ (run.out_does port g t) (evaluation.need at) (λ _. run.fail) (emits hs w t a) (λ _. fail_grows) (λ o u w t e. silent hs pointing o u w t e);
       grows = bind_grows out_grows (λ _. fail_grows);
@@ -107,11 +110,11 @@ module _ (seats : Seats) where
     gone hs None u w t e = e
     gone hs (Some v) u w t e = absurd e
 
-    out_effect : Effects seats (source.◌>>=◌ f (λ v. evaluation.emit port v at)) (run.out_does port g)
-    out_effect = record { by = λ hs w t a. rel_weaker (gone hs) (source.after (f w) (λ v. evaluation.emit port v at)) (run.out_does port g t) (emits hs w t a); grows = out_grows }
+    out_effect : Effects seats (source.ticked 4 (source.◌>>=◌ f (λ v. evaluation.emit port v at))) (run.out_does port g)
+    out_effect = record { by = λ hs w t a. rel_weaker (gone hs) (source.ticked 4 (source.◌>>=◌ f (λ v. evaluation.emit port v at)) w) (run.out_does port g t) (emits hs w t a); grows = out_grows }
 
     pub out_kept : (kind : Kind) → kind ≡ None
-        → Kept seats kind (source.◌>>=◌ (source.◌>>=◌ f (λ v. evaluation.emit port v at)) (evaluation.need at)) (source.◌>>=◌ f (λ v. evaluation.emit port v at)) (run.out_does port g >>= λ _. run.fail) (run.as_truth (run.out_does port g >>= λ _. run.fail))
+        → Kept seats kind (source.◌>>=◌ (source.ticked 4 (source.◌>>=◌ f (λ v. evaluation.emit port v at))) (evaluation.need at)) (source.ticked 4 (source.◌>>=◌ f (λ v. evaluation.emit port v at))) (run.out_does port g >>= λ _. run.fail) (run.as_truth (run.out_does port g >>= λ _. run.fail))
         (run.out_does port g)
     out_kept kind none = record {
       valued = out_value (points kind);

@@ -4,8 +4,9 @@ use Rattle.std.proofs.lemmas.Option.{none-some}
 use Rattle.word_base.specs.Ports.{Prefix}
 use Rattle.word_base.specs.declared.outcome.UndefinedKind.{UndefinedKind}
 use Rattle.word_base.specs.declared.outcome.UndefinedKind.TheVariants.{BadPointer, Indeterminate}
-use Rattle.c_tree.specs.Store as source
-use Rattle.c_tree.specs.Store.{Value, Obj, World, cell_of}
+use Rattle.tree_code_proof.specs.Counted as source
+use Rattle.c_tree.specs.Store.{Value, Obj, cell_of}
+use Rattle.tree_code_proof.specs.Counted.{World}
 use Rattle.ir_semantics.specs.Parts.{Res}
 use Rattle.ir_semantics.specs.Outside as words
 use Rattle.ir_semantics.specs.Outside.{Memory, Frame, word_of}
@@ -23,15 +24,15 @@ Valued seats hs pointing v x w t = Alike seats (record { pointing = pointing; va
 
 -- a value joins those that are held
 pub holding : (seats : Seats) (hs : List Held) (h : Held) (w : World) (t : Tree) → Alike seats hs w t → ValueAlike seats w.store.made h.pointing h.value h.word → Alike seats (h ∷ hs) w t
-holding seats hs h w t a v = record { seated = a.seated; rooms = a.rooms; least = a.least; unmade = a.unmade; kinds = a.kinds; objects = a.objects; held = (v, a.held); input = a.input; words = a.words; outs = a.outs }
+holding seats hs h w t a v = record { seated = a.seated; rooms = a.rooms; least = a.least; unmade = a.unmade; kinds = a.kinds; objects = a.objects; held = (v, a.held); input = a.input; words = a.words; outs = a.outs; work = a.work }
 
 -- and is held no more
 pub let_go : (seats : Seats) (hs : List Held) (h : Held) (w : World) (t : Tree) → Alike seats (h ∷ hs) w t → Alike seats hs w t
-let_go seats hs h w t a = record { seated = a.seated; rooms = a.rooms; least = a.least; unmade = a.unmade; kinds = a.kinds; objects = a.objects; held = a.held.1; input = a.input; words = a.words; outs = a.outs }
+let_go seats hs h w t a = record { seated = a.seated; rooms = a.rooms; least = a.least; unmade = a.unmade; kinds = a.kinds; objects = a.objects; held = a.held.1; input = a.input; words = a.words; outs = a.outs; work = a.work }
 
 -- the first of two is held no more
 pub let_second_go : (seats : Seats) (hs : List Held) (g h : Held) (w : World) (t : Tree) → Alike seats (g ∷ h ∷ hs) w t → Alike seats (g ∷ hs) w t
-let_second_go seats hs g h w t a = record { seated = a.seated; rooms = a.rooms; least = a.least; unmade = a.unmade; kinds = a.kinds; objects = a.objects; held = (a.held.0, a.held.1.1); input = a.input; words = a.words; outs = a.outs }
+let_second_go seats hs g h w t a = record { seated = a.seated; rooms = a.rooms; least = a.least; unmade = a.unmade; kinds = a.kinds; objects = a.objects; held = (a.held.0, a.held.1.1); input = a.input; words = a.words; outs = a.outs; work = a.work }
 
 -- where a typed program fails, the outputs so far are a beginning
 pub failing : (seats : Seats) (hs : List Held) {A B : Type 0} (q : Post A B) (kind : UndefinedKind) (at : ℕ) (w : World) (t : Tree) (f : Tree → Res Tree B) → Alike seats hs w t → Grows f → Rel q (source.fail kind at w) (f t)

@@ -1,9 +1,8 @@
 -- How a typed program's run and its word tree's go side by side: the relation between what two parts of runs came to, and the rules that compose it.
-use Rattle.std.proofs.Common.{◌≡◌}
+use Rattle.std.proofs.Common.{◌≡◌, ◌≤◌}
 use Rattle.word_base.specs.Ports.{Prefix}
-use Rattle.c_tree.specs.Store as source
-use Rattle.c_tree.specs.Store.{World}
-use Rattle.c_tree.specs.Eval as evaluation
+use Rattle.tree_code_proof.specs.Counted as source
+use Rattle.tree_code_proof.specs.Counted.{World}
 use Rattle.ir_semantics.specs.Parts.{Res, Gives, Finished, TooMany, Fails, Does, after}
 use Rattle.ir_semantics.specs.TreeRun.{Tree}
 use Rattle.tree_code_proof.proofs.Growing.{outs_of, behind, Grows}
@@ -12,16 +11,16 @@ use Rattle.tree_code_proof.proofs.Growing.{outs_of, behind, Grows}
 abbrev pub Post : Type 0 → Type 0 → Type 1
 Post A B = A → B → World → Tree → Type 0
 
--- both give values, both end alike, both have a turn too many, or the typed program is undefined and its outputs are a beginning
+-- both give values, both end alike, the word tree with at most as much work, both have a turn too many, or the typed program is undefined and its outputs are a beginning
 abbrev pub Rel : {A B : Type 0} → Post A B → source.Res A → Res Tree B → Type 0
 Rel q (source.Gives a w) (Gives b t) = q a b w t
 Rel q (source.Gives a w) (Finished e o k) = ⊥
 Rel q (source.Gives a w) (TooMany o) = ⊥
 Rel q (source.Gives a w) (Fails o) = ⊥
-Rel q (source.Finished e o) (Gives b t) = ⊥
-Rel q (source.Finished e o) (Finished e2 o2 k) = (e ≡ e2) × (o ≡ o2)
-Rel q (source.Finished e o) (TooMany o2) = ⊥
-Rel q (source.Finished e o) (Fails o2) = ⊥
+Rel q (source.Finished e o most) (Gives b t) = ⊥
+Rel q (source.Finished e o most) (Finished e2 o2 k) = (e ≡ e2) × ((o ≡ o2) × (k ≤ most))
+Rel q (source.Finished e o most) (TooMany o2) = ⊥
+Rel q (source.Finished e o most) (Fails o2) = ⊥
 Rel q (source.TooMany o) (Gives b t) = ⊥
 Rel q (source.TooMany o) (Finished e o2 k) = ⊥
 Rel q (source.TooMany o) (TooMany o2) = o ≡ o2
@@ -34,10 +33,10 @@ rel_after q r (source.Gives a w) (Gives b t) g h e grow next = next a b w t e
 rel_after q r (source.Gives a w) (Finished p o k) g h e grow next = absurd e
 rel_after q r (source.Gives a w) (TooMany o) g h e grow next = absurd e
 rel_after q r (source.Gives a w) (Fails o) g h e grow next = absurd e
-rel_after q r (source.Finished p o) (Gives b t) g h e grow next = absurd e
-rel_after q r (source.Finished p o) (Finished p2 o2 k) g h e grow next = e
-rel_after q r (source.Finished p o) (TooMany o2) g h e grow next = absurd e
-rel_after q r (source.Finished p o) (Fails o2) g h e grow next = absurd e
+rel_after q r (source.Finished p o most) (Gives b t) g h e grow next = absurd e
+rel_after q r (source.Finished p o most) (Finished p2 o2 k) g h e grow next = e
+rel_after q r (source.Finished p o most) (TooMany o2) g h e grow next = absurd e
+rel_after q r (source.Finished p o most) (Fails o2) g h e grow next = absurd e
 rel_after q r (source.TooMany o) (Gives b t) g h e grow next = absurd e
 rel_after q r (source.TooMany o) (Finished p o2 k) g h e grow next = absurd e
 rel_after q r (source.TooMany o) (TooMany o2) g h e grow next = e
@@ -49,10 +48,10 @@ rel_weaker k (source.Gives a w) (Gives b t) e = k a b w t e
 rel_weaker k (source.Gives a w) (Finished p o m) e = absurd e
 rel_weaker k (source.Gives a w) (TooMany o) e = absurd e
 rel_weaker k (source.Gives a w) (Fails o) e = absurd e
-rel_weaker k (source.Finished p o) (Gives b t) e = absurd e
-rel_weaker k (source.Finished p o) (Finished p2 o2 m) e = e
-rel_weaker k (source.Finished p o) (TooMany o2) e = absurd e
-rel_weaker k (source.Finished p o) (Fails o2) e = absurd e
+rel_weaker k (source.Finished p o most) (Gives b t) e = absurd e
+rel_weaker k (source.Finished p o most) (Finished p2 o2 m) e = e
+rel_weaker k (source.Finished p o most) (TooMany o2) e = absurd e
+rel_weaker k (source.Finished p o most) (Fails o2) e = absurd e
 rel_weaker k (source.TooMany o) (Gives b t) e = absurd e
 rel_weaker k (source.TooMany o) (Finished p o2 m) e = absurd e
 rel_weaker k (source.TooMany o) (TooMany o2) e = e

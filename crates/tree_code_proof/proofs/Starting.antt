@@ -7,7 +7,8 @@ use Rattle.word_base.specs.Ports.{Input, IsInput}
 use Rattle.c_tree.specs.TypedTree.{ObjectTree, ProgramTree}
 use Rattle.c_tree.specs.Store.{Obj, is_pointer}
 use Rattle.c_tree.specs.Exec.{set_cells}
-use Rattle.c_tree.specs.SourceRun.{static_object, first_world}
+use Rattle.c_tree.specs.SourceRun.{static_object, first_store}
+use Rattle.tree_code_proof.specs.Counted.{World}
 use Rattle.c_tree.specs.WellFormed.{IsInitial}
 use Rattle.c_tree.specs.WellFormedProgram.{IsObject, IsProgram, static_in}
 use Rattle.ir_semantics.specs.Outside.{Nowhere, Places, no_words, with_statics, first_outside}
@@ -37,6 +38,10 @@ same_count e = (cc, cc)
 
 vacant_lies : {a n : ℕ} → Vacant ≡ LiesAt a n → ⊥
 vacant_lies e = cc
+
+-- before a run nothing counts yet
+abbrev pub starts : ProgramTree → Input → World
+starts p input = record { store = first_store p; input = input; outs = []; work = 0 }
 
 module _ (q : Places) (p : ProgramTree) (places : ArePlaces q p) (is : IsProgram p) (has : ProgramHasWords p) where
   abbrev seats : Seats
@@ -88,8 +93,8 @@ module _ (q : Places) (p : ProgramTree) (places : ArePlaces q p) (is : IsProgram
   static_kind None o e = absurd (none-some o e)
   static_kind (Some r) o e = sym (ap (λ (x : Obj). is_pointer x.kind) (same_Some _ o e))
 
-  pub first_alike : (input : Input) → IsInput input → (work : ℕ) → Alike seats [] (first_world p input) (record { frame = no_words; result = None; outside = first_outside q p.statics input; work = work })
-  first_alike input words work = record {
+  pub first_alike : (input : Input) → IsInput input → Alike seats [] (starts p input) (record { frame = no_words; result = None; outside = first_outside q p.statics input; work = 0 })
+  first_alike input words = record {
     seated = record { place = λ k a n e. seat_place k a n (slice_get p.statics k) refl e; apart = λ k l ne. seats_apart k l (slice_get p.statics k) (slice_get p.statics l) ne refl refl };
     rooms = tt;
     least = omega arith;
@@ -100,6 +105,7 @@ module _ (q : Places) (p : ProgramTree) (places : ArePlaces q p) (is : IsProgram
     input = refl;
     words = words;
     outs = refl;
+    work = omega arith;
   }
 
   -- no static object lies where a local one may

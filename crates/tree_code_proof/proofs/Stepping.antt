@@ -7,10 +7,12 @@ use Rattle.c_syntax.specs.declared.operator.BinaryOp.TheVariants as op
 use Rattle.c_tree.specs.declared.program.VarRef.{VarRef}
 use Rattle.c_tree.specs.declared.program.VarRef.TheVariants.{Scalar, Local, Static}
 use Rattle.c_tree.specs.TypedTree.{Kind}
-use Rattle.c_tree.specs.Store as source
-use Rattle.c_tree.specs.Store.{Value, Word, Pointer, Null, World}
-use Rattle.c_tree.specs.Eval as evaluation
-use Rattle.c_tree.specs.Eval.{points, spot_of}
+use Rattle.tree_code_proof.specs.Counted as source
+use Rattle.c_tree.specs.Store.{Value, Word, Pointer, Null}
+use Rattle.tree_code_proof.specs.Counted.{World}
+use Rattle.tree_code_proof.specs.Evaluated as evaluation
+use Rattle.c_tree.specs.Eval.{points}
+use Rattle.tree_code_proof.specs.Evaluated.{spot_of}
 use Rattle.ir_semantics.specs.Parts.{Res, Gives, Finished, TooMany, Fails, Does, after, ◌>>=◌, give}
 use Rattle.ir_semantics.specs.Outside as words
 use Rattle.ir_semantics.specs.TreeRun as run
@@ -57,10 +59,10 @@ rel_same q z (source.Gives a w) (Gives b t) s e = (e, s)
 rel_same q z (source.Gives a w) (Finished p o k) s e = absurd e
 rel_same q z (source.Gives a w) (TooMany o) s e = absurd e
 rel_same q z (source.Gives a w) (Fails o) s e = absurd e
-rel_same q z (source.Finished p o) (Gives b t) s e = absurd e
-rel_same q z (source.Finished p o) (Finished p2 o2 k) s e = e
-rel_same q z (source.Finished p o) (TooMany o2) s e = absurd e
-rel_same q z (source.Finished p o) (Fails o2) s e = absurd e
+rel_same q z (source.Finished p o most) (Gives b t) s e = absurd e
+rel_same q z (source.Finished p o most) (Finished p2 o2 k) s e = e
+rel_same q z (source.Finished p o most) (TooMany o2) s e = absurd e
+rel_same q z (source.Finished p o most) (Fails o2) s e = absurd e
 rel_same q z (source.TooMany o) (Gives b t) s e = absurd e
 rel_same q z (source.TooMany o) (Finished p o2 k) s e = absurd e
 rel_same q z (source.TooMany o) (TooMany o2) s e = e

@@ -7,10 +7,13 @@ use Rattle.word_base.specs.declared.outcome.UndefinedKind.TheVariants.{BadPointe
 use Rattle.c_syntax.specs.declared.operator.BinaryOp.{BinaryOp}
 use Rattle.c_tree.specs.TypedTree.{Kind}
 use Rattle.c_tree.specs.WellFormed.{is_comparison}
-use Rattle.c_tree.specs.Store as source
-use Rattle.c_tree.specs.Store.{Value, Word, Pointer, Null, Obj, World}
-use Rattle.c_tree.specs.Eval as evaluation
-use Rattle.ir_semantics.specs.Parts.{Res, Gives, Finished, TooMany, Fails, Does, after, ◌>>=◌, give}
+use Rattle.tree_code_proof.specs.Counted as source
+use Rattle.c_tree.specs.Store.{Value, Word, Pointer, Null, Obj}
+use Rattle.tree_code_proof.specs.Counted.{World}
+use Rattle.tree_code_proof.specs.Evaluated as evaluation
+use Rattle.c_tree.specs.Store as store
+use Rattle.c_tree.specs.Eval as plain
+use Rattle.ir_semantics.specs.Parts.{Res, Gives, Finished, TooMany, Fails, Does, after, give}
 use Rattle.ir_semantics.specs.TreeRun as run
 use Rattle.ir_semantics.specs.TreeRun.{Tree}
 use Rattle.tree_code_proof.specs.Seats.{Seats, PointsAt}
@@ -29,10 +32,10 @@ tree_followed q r (source.Gives a w) (Gives b t) g e grow next = next a b w t e
 tree_followed q r (source.Gives a w) (Finished p o k) g e grow next = absurd e
 tree_followed q r (source.Gives a w) (TooMany o) g e grow next = absurd e
 tree_followed q r (source.Gives a w) (Fails o) g e grow next = absurd e
-tree_followed q r (source.Finished p o) (Gives b t) g e grow next = absurd e
-tree_followed q r (source.Finished p o) (Finished p2 o2 k) g e grow next = e
-tree_followed q r (source.Finished p o) (TooMany o2) g e grow next = absurd e
-tree_followed q r (source.Finished p o) (Fails o2) g e grow next = absurd e
+tree_followed q r (source.Finished p o most) (Gives b t) g e grow next = absurd e
+tree_followed q r (source.Finished p o most) (Finished p2 o2 k) g e grow next = e
+tree_followed q r (source.Finished p o most) (TooMany o2) g e grow next = absurd e
+tree_followed q r (source.Finished p o most) (Fails o2) g e grow next = absurd e
 tree_followed q r (source.TooMany o) (Gives b t) g e grow next = absurd e
 tree_followed q r (source.TooMany o) (Finished p o2 k) g e grow next = absurd e
 tree_followed q r (source.TooMany o) (TooMany o2) g e grow next = e
@@ -42,7 +45,7 @@ tree_followed q r (source.Fails kind at o) y g e grow next = behind o y g e grow
 -- parts in another group
 pub regrouped : {A B C D : Type 0} (r : Post C D) (x : source.Res A) (f : A → source.Does B) (g : B → source.Does C) (y : Res Tree D) → Rel r (source.after (source.after x f) g) y → Rel r (source.after x (λ a. source.◌>>=◌ (f a) g)) y
 regrouped r (source.Gives a w) f g y e = e
-regrouped r (source.Finished p o) f g y e = e
+regrouped r (source.Finished p o most) f g y e = e
 regrouped r (source.TooMany o) f g y e = e
 regrouped r (source.Fails kind at o) f g y e = e
 
@@ -63,7 +66,7 @@ pub record Decides (seats : Seats) (f : source.Does (Option Value)) (g : Does Tr
   pub by : (hs : List Held) (w : World) (t : Tree) → Alike seats hs w t → Rel (Deciding seats hs) (f w) (g t)
 
 module _ (seats : Seats) where
-  ask : (hs : List Held) (w : World) (t : Tree) (k i y at : ℕ) (p : Option Obj) → w.store.living k ≡ p → Alike seats hs w t → PointsAt (seats.seat k) i y → Rel (Same seats hs) (evaluation.if_living p at (source.give true) w) (Gives (not (y == 0)) t)
+  ask : (hs : List Held) (w : World) (t : Tree) (k i y at : ℕ) (p : Option Obj) → w.store.living k ≡ p → Alike seats hs w t → PointsAt (seats.seat k) i y → Rel (Same seats hs) (source.free (plain.if_living p at (store.give true)) w) (Gives (not (y == 0)) t)
   ask hs w t k i y at None e a p = failing seats hs (Same seats hs) BadPointer at w t (give (not (y == 0))) a (give_grows _)
   ask hs w t k i y at (Some o) e a p =
       let there = to_living seats k i y (seats.seat k) refl (lives seats w.store.made (seats.seat k) (w.store.living k) o t.outside.memory t.frame (a.objects k) e) p in
@@ -112,22 +115,22 @@ module _ (seats : Seats) where
     where
       grouped : (x : source.Res (Option Value)) (m : Option Value → source.Does Value) (n : Value → source.Does Bool) (y : Res Tree Bool) (hs : List Held) → Rel (Same seats hs) (source.after x (λ o. source.◌>>=◌ (m o) n)) y → Rel (Same seats hs) (source.after (source.after x m) n) y
       grouped (source.Gives a w) m n y hs e = e
-      grouped (source.Finished p o) m n y hs e = e
+      grouped (source.Finished p o most) m n y hs e = e
       grouped (source.TooMany o) m n y hs e = e
       grouped (source.Fails kind at o) m n y hs e = e
 
   -- pointers are compared
   pub compare_kept : {f h : source.Does Value} {g k : Does Tree ℕ} (o : BinaryOp) (m n : Kind) (at : ℕ) → is_comparison o ≡ true → Values seats true f g → Values seats true h k
-      → Decides seats (source.◌>>=◌ f (λ v. source.◌>>=◌ h (λ u. source.◌>>=◌ (evaluation.of_two o m n v u at) evaluation.some))) (run.compare_does (asks o) g k)
+      → Decides seats (source.ticked 24 (source.◌>>=◌ f (λ v. source.◌>>=◌ h (λ u. source.◌>>=◌ (evaluation.of_two o m n v u at) evaluation.some)))) (run.compare_does (asks o) g k)
   compare_kept o m n at is a b = record {
     by = λ hs w t s.
         both_kept (λ hs. Deciding seats hs) (λ v u. source.◌>>=◌ (evaluation.of_two o m n v u at) evaluation.some) (λ y z. give (asks o y z)) a b (λ y z. give_grows (asks o y z))
-        (λ hs v y u z w t s. compared hs v y u z w t s) hs w _ (worked seats hs w t _ s);
+        (λ hs v y u z w t s. compared hs v y u z w t s) hs _ _ (worked seats hs w t _ s);
   }
     where
       truth_or_none : (hs : List Held) (c : Bool) (t : Tree) (x : source.Res (Option Value)) → Rel (Optional seats hs false) x (Gives (truth c) t) → Rel (Deciding seats hs) x (Gives c t)
       truth_or_none hs c t (source.Gives v w) e = e
-      truth_or_none hs c t (source.Finished p o) e = absurd e
+      truth_or_none hs c t (source.Finished p o most) e = absurd e
       truth_or_none hs c t (source.TooMany o) e = absurd e
       truth_or_none hs c t (source.Fails kind at o) e = e
 
@@ -137,11 +140,11 @@ module _ (seats : Seats) where
 
   -- not
   pub not_kept : {f : source.Does Value} {g : Does Tree Bool} (at : ℕ) → Tests seats f g
-      → Decides seats (source.◌>>=◌ f (λ v. source.◌>>=◌ (evaluation.test_of v at) (λ t. evaluation.some (Word (truth (not t)))))) (run.not_does g)
+      → Decides seats (source.ticked 10 (source.◌>>=◌ f (λ v. source.◌>>=◌ (evaluation.test_of v at) (λ t. evaluation.some (Word (truth (not t))))))) (run.not_does g)
   not_kept {f = f} {g = g} at h = record {
     by = λ hs w t a.
-        regrouped (Deciding seats hs) (f w) (λ v. evaluation.test_of v at) (λ b. evaluation.some (Word (truth (not b)))) _
-        (rel_after (Same seats hs) (Deciding seats hs) _ (g (record t { work = t.work + 10 })) _ (λ c. give (not c)) (h.by at hs w _ (worked seats hs w t _ a)) (λ c. give_grows (not c)) (inverted hs));
+        regrouped (Deciding seats hs) (f (record w { work = w.work + 10 })) (λ v. evaluation.test_of v at) (λ b. evaluation.some (Word (truth (not b)))) _
+        (rel_after (Same seats hs) (Deciding seats hs) _ (g (record t { work = t.work + 10 })) _ (λ c. give (not c)) (h.by at hs _ _ (worked seats hs w t _ a)) (λ c. give_grows (not c)) (inverted hs));
   }
     where
       few : (c : Bool) → truth c < 65536

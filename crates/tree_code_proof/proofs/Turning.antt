@@ -2,7 +2,8 @@
 use Rattle.std.proofs.Common.{◌≡◌, ℕ, ◌+◌, Bool, true, false, List, [], ◌∷◌, ◌++◌, Some, None, arith}
 use Rattle.std.specs.Prelude.{slice_get}
 use Rattle.std.specs.List.{AllByRecursion}
-use Rattle.c_tree.specs.Store.{Value, Word, Pointer, Null, World}
+use Rattle.c_tree.specs.Store.{Value, Word, Pointer, Null}
+use Rattle.tree_code_proof.specs.Counted.{World}
 use Rattle.c_tree.specs.TypedTree.{ObjectTree, FunctionTree, ProgramTree}
 use Rattle.tree_code.specs.Lowered.{lowered_function}
 use Rattle.ir_semantics.specs.Outside.{Nowhere, Unwritten, Memory, Places, no_words, with_memory, with_objects}
@@ -39,8 +40,9 @@ module _ (q : Places) (p : ProgramTree) (f : ℕ) (g : FunctionTree) (is : slice
   rooms_apart j r get = (own_open q p f g is seats may j r get).rooms
 
   -- at the entry
-  pub on_entry : Alike inner hs w (run.entered q f (lowered_function g) t)
+  pub on_entry : Alike inner hs (record w { work = w.work + 10 }) (run.entered q f (lowered_function g) t)
   on_entry =
+      let less = a.work in
       let b = waits_for_call seats hs w t no_words None a in
       let m : Memory = with_objects Unwritten q f 0 g.locals t.outside.memory in
       let to : Carried (waiting w.store.living seats) w.store.made inner w.store.made = with_rooms (waiting w.store.living seats) (rooms_of q f 0 g.locals ++ seats.rooms) w.store.made w.store.made in
@@ -57,6 +59,7 @@ module _ (q : Places) (p : ProgramTree) (f : ℕ) (g : FunctionTree) (is : slice
         input = a.input;
         words = a.words;
         outs = a.outs;
+        work = omega (arith, less);
       }
 
   module _ (kept : List Held) (v : World) (u : Tree) (b : Alike inner kept v u) where
@@ -77,6 +80,7 @@ module _ (q : Places) (p : ProgramTree) (f : ℕ) (g : FunctionTree) (is : slice
           input = b.input;
           words = b.words;
           outs = b.outs;
+          work = b.work;
         }
       where
         rest_of : (xs ys : List Room) → AllByRecursion (IsRoom u.outside.memory) (xs ++ ys) → AllByRecursion (IsRoom u.outside.memory) ys

@@ -3,10 +3,11 @@ use Rattle.std.proofs.Common.{ℕ, ◌+◌, Bool, true, List, ◌∷◌}
 use Rattle.word_base.specs.Words.{Calc}
 use Rattle.word_base.specs.declared.outcome.UndefinedKind.TheVariants.{BadPointer}
 use Rattle.c_tree.specs.declared.program.VarRef.{VarRef}
-use Rattle.c_tree.specs.Store as source
-use Rattle.c_tree.specs.Store.{Value, Word, Pointer, Null, World}
-use Rattle.c_tree.specs.Eval as evaluation
-use Rattle.c_tree.specs.Eval.{spot_of}
+use Rattle.tree_code_proof.specs.Counted as source
+use Rattle.c_tree.specs.Store.{Value, Word, Pointer, Null}
+use Rattle.tree_code_proof.specs.Counted.{World}
+use Rattle.tree_code_proof.specs.Evaluated as evaluation
+use Rattle.tree_code_proof.specs.Evaluated.{spot_of}
 use Rattle.ir_semantics.specs.Parts.{Does, after, ◌>>=◌}
 use Rattle.ir_semantics.specs.TreeRun as run
 use Rattle.ir_semantics.specs.TreeRun.{Tree, Addresses}
@@ -33,10 +34,10 @@ module _ (seats : Seats) {q : Bool} {h : source.Does Value} {k : Does Tree ℕ} 
       (λ z m w t s. some_kept seats hs wanted (save z w) (write m t) (saved z m w t s)))
 
   pub update_name_kept : (addresses : Addresses) (name : VarRef) (object : ℕ) → IsSeatOf addresses name (seats.seat object)
-      → Forms seats wanted (source.◌>>=◌ (source.load object 0 wanted place) (λ x. source.◌>>=◌ h (λ y. source.◌>>=◌ (next x y) (λ z. source.◌>>=◌ (source.save object 0 wanted z place) evaluation.some)))) (run.update_name_does addresses c name k)
+      → Forms seats wanted (source.ticked 48 (source.◌>>=◌ (source.load object 0 wanted place) (λ x. source.◌>>=◌ h (λ y. source.◌>>=◌ (next x y) (λ z. source.◌>>=◌ (source.save object 0 wanted z place) evaluation.some))))) (run.update_name_does addresses c name k)
   update_name_kept addresses name object is = record {
     by = λ hs w t a.
-        rel_after (Valued seats hs wanted) (Optional seats hs wanted) (source.load object 0 wanted place w) (run.read_name addresses name (record t { work = t.work + 48 })) _ _ (read_named seats addresses name hs w _ (worked seats hs w t _ a) object wanted place is)
+        rel_after (Valued seats hs wanted) (Optional seats hs wanted) (source.load object 0 wanted place (record w { work = w.work + 48 })) (run.read_name addresses name (record t { work = t.work + 48 })) _ _ (read_named seats addresses name hs _ _ (worked seats hs w t _ a) object wanted place is)
         (λ x. bind_grows b.grows (λ y. bind_grows (calc_grows (c x y)) (λ z. write_name_grows addresses name z)))
         (operated hs (λ z. source.save object 0 wanted z place) (λ z. run.write_name addresses name z) (λ z. write_name_grows addresses name z)
         (λ v z w t s. write_named seats addresses name hs w t wanted v z s object place is));
@@ -57,11 +58,11 @@ module _ (seats : Seats) {q : Bool} {h : source.Does Value} {k : Does Tree ℕ} 
 
   pub update_at_kept : {f : source.Does Value} {g : Does Tree ℕ} → Values seats true f g
       → Forms seats wanted
-      (source.◌>>=◌ (source.◌>>=◌ f (λ p. spot_of p place)) (λ s. source.◌>>=◌ (source.load s.0 s.1 wanted place) (λ x. source.◌>>=◌ h (λ y. source.◌>>=◌ (next x y) (λ z. source.◌>>=◌ (source.save s.0 s.1 wanted z place) evaluation.some)))))
+      (source.ticked 48 (source.◌>>=◌ (source.◌>>=◌ f (λ p. spot_of p place)) (λ s. source.◌>>=◌ (source.load s.0 s.1 wanted place) (λ x. source.◌>>=◌ h (λ y. source.◌>>=◌ (next x y) (λ z. source.◌>>=◌ (source.save s.0 s.1 wanted z place) evaluation.some))))))
       (run.update_at_does c g k)
   update_at_kept {f = f} {g = g} d = record {
     by = λ hs w t a.
-        grouped (Optional seats hs wanted) (f w) (λ p. spot_of p place) _ _
-        (rel_after (Valued seats hs true) (Optional seats hs wanted) (f w) (g (record t { work = t.work + 48 })) _ _ (d.by hs w _ (worked seats hs w t _ a))
+        grouped (Optional seats hs wanted) (f (record w { work = w.work + 48 })) (λ p. spot_of p place) _ _
+        (rel_after (Valued seats hs true) (Optional seats hs wanted) (f (record w { work = w.work + 48 })) (g (record t { work = t.work + 48 })) _ _ (d.by hs _ _ (worked seats hs w t _ a))
         (λ y. bind_grows (read_word_grows y) (λ x. bind_grows b.grows (λ u. bind_grows (calc_grows (c x u)) (λ z. write_word_grows y z)))) (updated_at hs));
   }

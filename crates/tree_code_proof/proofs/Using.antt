@@ -5,9 +5,10 @@ use Rattle.word_base.specs.Words.{truth}
 use Rattle.word_base.specs.declared.outcome.UndefinedKind.TheVariants.{NoValue}
 use Rattle.c_tree.specs.Kinds.{IsValue}
 use Rattle.c_tree.specs.TypedTree.{Kind}
-use Rattle.c_tree.specs.Store as source
-use Rattle.c_tree.specs.Store.{Value, World}
-use Rattle.c_tree.specs.Eval as evaluation
+use Rattle.tree_code_proof.specs.Counted as source
+use Rattle.c_tree.specs.Store.{Value}
+use Rattle.tree_code_proof.specs.Counted.{World}
+use Rattle.tree_code_proof.specs.Evaluated as evaluation
 use Rattle.c_tree.specs.Eval.{points}
 use Rattle.ir_semantics.specs.Parts.{Res, Gives, Finished, TooMany, Fails, Does, give}
 use Rattle.ir_semantics.specs.TreeRun as run
@@ -24,7 +25,7 @@ use Rattle.tree_code_proof.proofs.Joining.{Nothing, Effects, unused}
 -- the other way round than `regrouped`
 pub grouped : {A B C D : Type 0} (r : Post C D) (x : source.Res A) (f : A → source.Does B) (g : B → source.Does C) (y : Res Tree D) → Rel r (source.after x (λ a. source.◌>>=◌ (f a) g)) y → Rel r (source.after (source.after x f) g) y
 grouped r (source.Gives a w) f g y e = e
-grouped r (source.Finished p o) f g y e = e
+grouped r (source.Finished p o most) f g y e = e
 grouped r (source.TooMany o) f g y e = e
 grouped r (source.Fails kind at o) f g y e = e
 
@@ -34,10 +35,10 @@ without_some seats hs pointing (source.Gives a w) (Gives b t) e = e
 without_some seats hs pointing (source.Gives a w) (Finished p o k) e = absurd e
 without_some seats hs pointing (source.Gives a w) (TooMany o) e = absurd e
 without_some seats hs pointing (source.Gives a w) (Fails o) e = absurd e
-without_some seats hs pointing (source.Finished p o) (Gives b t) e = absurd e
-without_some seats hs pointing (source.Finished p o) (Finished p2 o2 k) e = e
-without_some seats hs pointing (source.Finished p o) (TooMany o2) e = absurd e
-without_some seats hs pointing (source.Finished p o) (Fails o2) e = absurd e
+without_some seats hs pointing (source.Finished p o most) (Gives b t) e = absurd e
+without_some seats hs pointing (source.Finished p o most) (Finished p2 o2 k) e = e
+without_some seats hs pointing (source.Finished p o most) (TooMany o2) e = absurd e
+without_some seats hs pointing (source.Finished p o most) (Fails o2) e = absurd e
 without_some seats hs pointing (source.TooMany o) (Gives b t) e = absurd e
 without_some seats hs pointing (source.TooMany o) (Finished p o2 k) e = absurd e
 without_some seats hs pointing (source.TooMany o) (TooMany o2) e = e
@@ -85,10 +86,10 @@ module _ (seats : Seats) where
   missing hs pointing at place (source.Gives (Some v) w) (Finished p o k) e = absurd e
   missing hs pointing at place (source.Gives (Some v) w) (TooMany o) e = absurd e
   missing hs pointing at place (source.Gives (Some v) w) (Fails o) e = absurd e
-  missing hs pointing at place (source.Finished p o) (Gives b t) e = absurd e
-  missing hs pointing at place (source.Finished p o) (Finished p2 o2 k) e = e
-  missing hs pointing at place (source.Finished p o) (TooMany o2) e = absurd e
-  missing hs pointing at place (source.Finished p o) (Fails o2) e = absurd e
+  missing hs pointing at place (source.Finished p o most) (Gives b t) e = absurd e
+  missing hs pointing at place (source.Finished p o most) (Finished p2 o2 k) e = e
+  missing hs pointing at place (source.Finished p o most) (TooMany o2) e = absurd e
+  missing hs pointing at place (source.Finished p o most) (Fails o2) e = absurd e
   missing hs pointing at place (source.TooMany o) (Gives b t) e = absurd e
   missing hs pointing at place (source.TooMany o) (Finished p o2 k) e = absurd e
   missing hs pointing at place (source.TooMany o) (TooMany o2) e = e

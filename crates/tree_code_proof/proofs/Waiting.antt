@@ -1,6 +1,7 @@
 -- While a function waits for a call, the scalars of its frame stay as they are, and behind the call they stand in its frame again.
 use Rattle.std.proofs.Common.{◌≡◌, ℕ, ◌≤◌, Bool, true, false, List, Option, Some, None, refl, sym, ap, subst, arith}
-use Rattle.c_tree.specs.Store.{Value, Word, Pointer, Null, Obj, World}
+use Rattle.c_tree.specs.Store.{Value, Word, Pointer, Null, Obj}
+use Rattle.tree_code_proof.specs.Counted.{World}
 use Rattle.ir_semantics.specs.Outside.{Memory, Frame}
 use Rattle.ir_semantics.specs.TreeRun.{Tree}
 use Rattle.tree_code_proof.specs.Seats.{Seat, Vacant, LiesAt, InFrame, Waits, Seats, PointsAt, ValueAlike, Apart}
@@ -88,6 +89,7 @@ waits_for_call seats hs w t f r a = record {
   input = a.input;
   words = a.words;
   outs = a.outs;
+  work = a.work;
 }
 
 -- behind the call
@@ -148,4 +150,5 @@ called_back seats hs held w v t u r a le b = record {
   input = b.input;
   words = b.words;
   outs = b.outs;
+  work = b.work;
 }

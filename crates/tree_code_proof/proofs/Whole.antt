@@ -10,23 +10,24 @@ use Rattle.word_base.specs.Ports.{Input, IsInput}
 use Rattle.c_tree.specs.TypedTree.{FunctionTree, ProgramTree}
 use Rattle.c_tree.specs.Eval.{points}
 use Rattle.c_tree.specs.SourceRun as source_run
-use Rattle.c_tree.specs.SourceRun.{main_name, main_of, first_world}
+use Rattle.c_tree.specs.SourceRun.{main_name, main_of}
 use Rattle.c_tree.specs.WellFormedProgram.{IsMain, IsProgram, kind_of_parameter}
 use Rattle.tree_code.specs.Lowered.{lowered_function, lowered_program}
 use Rattle.tree_code.specs.WordTree.{FunctionCode}
-use Rattle.ir_semantics.specs.Keeps.{tree_run}
+use Rattle.ir_semantics.specs.Keeps.{Keeps, tree_run}
+use Rattle.ir_semantics.specs.SourceWork.{call_within_work, source_work, worked_run}
+use Rattle.tree_code_proof.specs.Executed as execution
 use Rattle.ir_semantics.specs.Outside.{Places, no_words, first_outside}
 use Rattle.ir_semantics.specs.TreeRun as run
 use Rattle.ir_semantics.specs.TreeRun.{Tree, main_from}
 use Rattle.c_tree.specs.TypedOfWords.{ProgramHasWords}
-use Rattle.tree_code_proof.proofs.Outcomes.{KeepsSource}
 use Rattle.tree_code_proof.specs.Seats.{Seats}
 use Rattle.tree_code_proof.specs.Surroundings.{ArePlaces}
 use Rattle.tree_code_proof.proofs.Rules.{Rel}
 use Rattle.tree_code_proof.proofs.Interfaces.{Given}
 use Rattle.tree_code_proof.proofs.Depths.{BodiesKeep, calls_kept, function_called}
 use Rattle.tree_code_proof.proofs.Outcomes.{outcome_kept}
-use Rattle.tree_code_proof.proofs.Starting.{first_seats, first_alike, first_call}
+use Rattle.tree_code_proof.proofs.Starting.{starts, first_seats, first_alike, first_call}
 
 -- the function named main, of those whose names differ
 abbrev names : List FunctionTree → List (List ℕ)
@@ -58,23 +59,24 @@ module _ (q : Places) (p : ProgramTree) (is : IsProgram p) (has : ProgramHasWord
   start = record { frame = no_words; result = None; outside = first_outside q p.statics input; work = 0 }
 
   main_kept : (k : ℕ) (g : FunctionTree) → slice_get p.functions k ≡ Some g → IsMain g
-      → Rel (Given seats [] false) (source_run.call_function (source_run.call_within p n (length p.functions)) n (main_of p.functions) [] (first_world p input)) (run.run_tree q (lowered_program p) n start)
+      → Rel (Given seats [] false) (execution.call_function (source_run.call_within p n (length p.functions)) (call_within_work p n (length p.functions)) n (main_of p.functions) [] (starts p input)) (run.run_tree q (lowered_program p) n start)
   main_kept k g get main =
       let found = main_found p.functions 0 k g is.differ get main.name in
       let number = found.1 in
       let at : main_from 0 functions ≡ k = omega (arith, number) in
       let slot : slice_get functions k ≡ Some (lowered_function g) = slice_get-map lowered_function p.functions k ∙ ap (option_map lowered_function) get in
-      let source = λ (m : Option FunctionTree). source_run.call_function (source_run.call_within p n (length p.functions)) n m [] (first_world p input) in
+      let source = λ (m : Option FunctionTree). execution.call_function (source_run.call_within p n (length p.functions)) (call_within_work p n (length p.functions)) n m [] (starts p input) in
       subst (λ d. Rel (Given seats [] false) (source (main_of p.functions)) (run.called (run.call_within q functions n d) q n (main_from 0 functions) (slice_get functions (main_from 0 functions)) [] start)) (sym (length-map p.functions lowered_function))
       (subst (λ m. Rel (Given seats [] false) (source (main_of p.functions)) (run.called (run.call_within q functions n (length p.functions)) q n m (slice_get functions m) [] start)) (sym at)
       (subst (λ m. Rel (Given seats [] false) (source (main_of p.functions)) (run.called (run.call_within q functions n (length p.functions)) q n k m [] start)) (sym slot)
       (subst (λ m. Rel (Given seats [] false) (source m) (run.called (run.call_within q functions n (length p.functions)) q n k (Some (lowered_function g)) [] start)) (sym found.0)
       (subst (λ b. Rel (Given seats [] b) (source (Some g)) (run.called (run.call_within q functions n (length p.functions)) q n k (Some (lowered_function g)) [] start)) (ap points main.result)
-      (function_called q p places is n bodies (length p.functions) (calls_kept q p places is n bodies (length p.functions)) k g get seats (first_call q p places is has k) [] (sym (ap (λ ps. map points (map (kind_of_parameter g) ps)) main.parameters)) [] (first_world p input) start
-      (first_alike q p places is has input inputs 0))))))
+      (function_called q p places is n bodies (length p.functions) (calls_kept q p places is n bodies (length p.functions)) k g get seats (first_call q p places is has k) [] (sym (ap (λ ps. map points (map (kind_of_parameter g) ps)) main.parameters)) [] (starts p input) start
+      (first_alike q p places is has input inputs))))))
 
-  pub lowering_keeps : KeepsSource (source_run.source_run p input n) (tree_run q (lowered_program p) input n)
+  pub lowering_keeps : Keeps (worked_run p input n) (tree_run q (lowered_program p) input n)
   lowering_keeps =
       let m = is.main in
-      outcome_kept seats (source_run.call_function (source_run.call_within p n (length p.functions)) n (main_of p.functions) [] (first_world p input)) (run.run_tree q (lowered_program p) n start)
+      let calls = source_run.call_within p n (length p.functions) in
+      outcome_kept seats (source_work p input n) (source_run.call_function calls n (main_of p.functions) [] (source_run.first_world p input)) (run.run_tree q (lowered_program p) n start)
       (main_kept m.0 m.1 (slice_get-get_or p.functions m.0 m.1 m.2 ∙ ap Some m.3) m.4)

@@ -5,8 +5,9 @@ use Rattle.std.specs.List.{AllByRecursion}
 use Rattle.std.proofs.lemmas.Bool.{eq-eqb, ne_eqb, eqb-true, eqb-false}
 use Rattle.std.proofs.lemmas.Option.{none-some, same_Some, slice_get_within}
 use Rattle.word_base.specs.declared.outcome.UndefinedKind.TheVariants.{BadPointer}
-use Rattle.c_tree.specs.Store as source
-use Rattle.c_tree.specs.Store.{Value, Obj, World, is_pointer, cell_of, with_cell, store_value}
+use Rattle.tree_code_proof.specs.Counted as source
+use Rattle.c_tree.specs.Store.{Value, Obj, is_pointer, cell_of, with_cell}
+use Rattle.tree_code_proof.specs.Counted.{World, store_value}
 use Rattle.ir_semantics.specs.Outside as words
 use Rattle.ir_semantics.specs.Outside.{Memory, Frame, with_word, with_scalar, with_memory}
 use Rattle.ir_semantics.specs.TreeRun as run
@@ -124,7 +125,7 @@ module _ (seats : Seats) (hs : List Held) (w : World) (t : Tree) (a : Alike seat
 
   -- both states behind a write
   pub written : Alike seats hs (store_value object i v w) (record t { outside = with_memory (with_word y x t.outside.memory) t.outside })
-  written = record { seated = a.seated; rooms = rooms_written t.outside.memory y x seats.rooms a.rooms; least = a.least; unmade = a.unmade; kinds = kinds_written seats.points w.store.living object i v a.kinds; objects = λ k. seat_behind k (k == object) refl; held = a.held; input = a.input; words = a.words; outs = a.outs }
+  written = record { seated = a.seated; rooms = rooms_written t.outside.memory y x seats.rooms a.rooms; least = a.least; unmade = a.unmade; kinds = kinds_written seats.points w.store.living object i v a.kinds; objects = λ k. seat_behind k (k == object) refl; held = a.held; input = a.input; words = a.words; outs = a.outs; work = a.work }
 
 module _ (seats : Seats) (hs : List Held) (w : World) (t : Tree) (wanted : Bool) (v : Value) (x : ℕ) (a : Alike seats (record { pointing = wanted; value = v; word = x } ∷ hs) w t) where
   put_word : (object i y at : ℕ) (c : source.Cell) (m : words.Cell) → t.outside.memory y ≡ m → Lives m → PointsAt (seats.seat object) i y → cell_of (w.store.living object) i wanted ≡ Some c

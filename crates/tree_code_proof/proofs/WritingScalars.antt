@@ -4,8 +4,9 @@ use Rattle.std.specs.Prelude.{◌==◌, slice_set}
 use Rattle.std.proofs.lemmas.Bool.{eqb-true, eqb-false}
 use Rattle.std.proofs.lemmas.Option.{none-some}
 use Rattle.word_base.specs.declared.outcome.UndefinedKind.TheVariants.{BadPointer}
-use Rattle.c_tree.specs.Store as source
-use Rattle.c_tree.specs.Store.{Value, Obj, World, is_pointer, cell_of, with_cell, store_value}
+use Rattle.tree_code_proof.specs.Counted as source
+use Rattle.c_tree.specs.Store.{Value, Obj, is_pointer, cell_of, with_cell}
+use Rattle.tree_code_proof.specs.Counted.{World, store_value}
 use Rattle.c_tree.specs.declared.program.VarRef.TheVariants.{Scalar}
 use Rattle.ir_semantics.specs.Outside.{Memory, Frame, with_scalar}
 use Rattle.ir_semantics.specs.TreeRun as run
@@ -58,7 +59,7 @@ module _ (seats : Seats) (hs : List Held) (w : World) (t : Tree) (a : Alike seat
 
   -- both states behind a write
   pub wrote_scalar : Alike seats hs (store_value object 0 v w) (record t { frame = with_scalar k x t.frame })
-  wrote_scalar = record { seated = a.seated; rooms = a.rooms; least = a.least; unmade = a.unmade; kinds = kinds_written seats.points w.store.living object 0 v a.kinds; objects = λ j. seat_behind j (j == object) refl; held = a.held; input = a.input; words = a.words; outs = a.outs }
+  wrote_scalar = record { seated = a.seated; rooms = a.rooms; least = a.least; unmade = a.unmade; kinds = kinds_written seats.points w.store.living object 0 v a.kinds; objects = λ j. seat_behind j (j == object) refl; held = a.held; input = a.input; words = a.words; outs = a.outs; work = a.work }
 
 module _ (seats : Seats) (hs : List Held) (w : World) (t : Tree) (wanted : Bool) (v : Value) (x : ℕ) (a : Alike seats (record { pointing = wanted; value = v; word = x } ∷ hs) w t) where
   put_scalar : (object k place : ℕ) (c : Option source.Cell) → cell_of (w.store.living object) 0 wanted ≡ c → seats.seat object ≡ InFrame k → Rel (Valued seats hs wanted) (source.write_cell c object 0 v place w) (run.write_scalar k x t)

@@ -2,8 +2,9 @@
 use Rattle.std.specs.Prelude.{◌≡◌, ⊤, ℕ, ◌+◌, ◌<◌, ◌≤◌, Bool, List, [], ◌∷◌, length, slice_get, Option, Some, None}
 use Rattle.std.specs.List.{AllByRecursion}
 use Rattle.word_base.specs.Ports.{IsInput}
-use Rattle.c_tree.specs.Store as source
-use Rattle.c_tree.specs.Store.{Value, Obj, World, is_pointer}
+use Rattle.tree_code_proof.specs.Counted as source
+use Rattle.c_tree.specs.Store.{Value, Obj, is_pointer}
+use Rattle.tree_code_proof.specs.Counted.{World}
 use Rattle.ir_semantics.specs.Outside as words
 use Rattle.ir_semantics.specs.Outside.{Memory, Frame}
 use Rattle.c_tree.specs.declared.program.VarRef.{VarRef}
@@ -78,6 +79,7 @@ pub record Alike (seats : Seats) (hs : List Held) (w : World) (t : Tree) : Type 
   pub input : t.outside.input ≡ w.input
   pub words : IsInput w.input
   pub outs : t.outside.outs ≡ w.outs
+  pub work : t.work ≤ w.work
 
 -- a name stands for an object in the frame, or at the address of the name
 abbrev pub LiesThere : Option ℕ → Seat → Type 0

@@ -1,5 +1,5 @@
 -- Parts of a run of a typed program that carry its work so far, as those of word trees do: those of c_tree, each with what it costs.
-use Rattle.std.specs.Prelude.{ℕ, ◌+◌, Bool, true, false, List, Option}
+use Rattle.std.specs.Prelude.{ℕ, ◌+◌, Bool, List, Option}
 use Rattle.word_base.specs.declared.outcome.Ending.{Ending}
 use Rattle.word_base.specs.declared.outcome.UndefinedKind.{UndefinedKind}
 use Rattle.word_base.specs.Ports.{Input, Outputs}
