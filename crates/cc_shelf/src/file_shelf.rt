@@ -75,7 +75,7 @@ impl<'a, R: Files> Shelf for FileShelf<'a, R> {
             (untold_stock self.new.fetch_faults self.new.store_faults self.new.read) result }
         ensures reliable { StaysReliable (untold_stock self.old.fetch_faults self.old.store_faults self.old.read)
             (untold_stock self.new.fetch_faults self.new.store_faults self.new.read) }
-        ensures fails { IsErrOf result ShelfFault.Failed → ¬ IsTrue (untold_stock self.old.fetch_faults self.old.store_faults self.old.read).reliable }
+        ensures unreliable { IsErrOf result ShelfFault.Failed → ¬ IsTrue (untold_stock self.old.fetch_faults self.old.store_faults self.old.read).reliable }
 
         // It takes no memory.
         ensures never { IsOkUnless result ShelfFault.Failed }

@@ -49,7 +49,7 @@ impl<'a, R: Print> Sink for OutSink<'a, R> {
         ensures found { OnOk result ((untold_output self.new.calls self.new.faults).wants
             ≡ (untold_output self.old.calls self.old.faults).wants) }
         ensures reliable { PutsStayReliable (untold_output self.old.calls self.old.faults) (untold_output self.new.calls self.new.faults) }
-        ensures fails { IsErrOf result SinkFault.Failed → ¬ IsTrue (untold_output self.old.calls self.old.faults).reliable }
+        ensures unreliable { IsErrOf result SinkFault.Failed → ¬ IsTrue (untold_output self.old.calls self.old.faults).reliable }
 
         // It takes no memory.
         ensures never { IsOkUnless result SinkFault.Failed }

@@ -74,7 +74,7 @@ pub trait Shelf {
         ensures asked { FetchTold tells name.now (stock self.old) (stock self.new) result }
         ensures stored { (stock self.new).stored ≡ (stock self.old).stored }
         ensures reliable { StaysReliable (stock self.old) (stock self.new) }
-        ensures fails { IsErrOf result ShelfFault.Failed → ¬ IsTrue (stock self.old).reliable };
+        ensures unreliable { IsErrOf result ShelfFault.Failed → ¬ IsTrue (stock self.old).reliable };
 
     /// Makes the name hold the bytes. Where it fails, that name may hold anything.
     fn store(&mut self, alloc: Global, name: &str, bytes: &[u8]) -> Result<(), ShelfFault>
@@ -88,5 +88,5 @@ pub trait Shelf {
         ensures asked { IsTrue tells → (stock self.new).fetched ≡ (stock self.old).fetched }
         ensures stored { StoreTold tells name.now (stock self.old) (stock self.new) result }
         ensures reliable { StaysReliable (stock self.old) (stock self.new) }
-        ensures fails { IsErrOf result ShelfFault.Failed → ¬ IsTrue (stock self.old).reliable };
+        ensures unreliable { IsErrOf result ShelfFault.Failed → ¬ IsTrue (stock self.old).reliable };
 }

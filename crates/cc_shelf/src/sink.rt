@@ -45,5 +45,5 @@ pub trait Sink {
         ensures success { OnOk result ((output self.new).faults ≡ (output self.old).faults) }
         ensures found { OnOk result ((output self.new).wants ≡ (output self.old).wants) }
         ensures reliable { PutsStayReliable (output self.old) (output self.new) }
-        ensures fails { IsErrOf result SinkFault.Failed → ¬ IsTrue (output self.old).reliable };
+        ensures unreliable { IsErrOf result SinkFault.Failed → ¬ IsTrue (output self.old).reliable };
 }
