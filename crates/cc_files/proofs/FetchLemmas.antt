@@ -6,12 +6,13 @@ use Rattle.std.specs.Borrow.{Bor}
 use Rattle.std.specs.Prelude.{All, IsTrue, Vec, unwrap_or}
 use Rattle.std.specs.declared.alloc.Global.{Global}
 use Rattle.cc_files.specs.Wants.{of_names, contents_of}
-use Rattle.cc_shelf.specs.Stock.{Stock, Fetch}
+use Rattle.cc_shelf.specs.Stock.{Stock, Call}
 use Rattle.cc_shelf.specs.ShelfAnswers.{AfterFetch}
 use Rattle.cc_text.specs.Refusals.{Why, OfMemory}
 use Rattle.cc_files.specs.World.{Shelves, shelves}
 use Rattle.cc_files.specs.Fetches.{Wanted, wanted, fetch_of, IsFetched, AreFetched, AllFetched, AreAsked, NoneFailed, NotFetched, AtFile, ForMemory}
 use Rattle.cc_files.specs.Stores.{NothingStored}
+use Rattle.cc_files.proofs.StoreLemmas.{nothing_yet, nothing_both}
 use Rattle.cc_files.proofs.ShelfLemmas.{first_refused, fetched_before, still_fetched, still_cause}
 
 -- the first files of a list were fetched
@@ -25,8 +26,8 @@ pub none_so_far : (tells : Bool) (stock : Stock) → SoFar (shelves tells stock 
 none_so_far tells stock = record {
   fetched = tt {0};
   none_failed = record { asked = λ t. sym (append-nil stock.fetched); count = refl };
-  stored = record { files = λ n. refl; faults = refl };
-  counts = record { fetch_faults = omega arith; store_faults = refl; bytes_read = omega arith };
+  stored = nothing_yet tells stock;
+  counts = record { fetch_faults = omega arith; store_faults = refl; store_wants = refl; bytes_read = omega arith };
 }
 
 -- what is fetched has bytes
@@ -67,7 +68,7 @@ module _ (tells : Bool) (first between last : Stock) where
   one_more_fetched (v ∷ ws) (more ∷ contents) w bytes all one = (all.0, one_more_fetched ws contents w bytes all.1 one)
 
   module _ (ws : List Wanted) (contents : List (List ℕ)) (so_far : SoFar (shelves tells first between) ws contents) where
-    names_asked : (fs : List Fetch) → AreAsked (shelves tells between last) fs → AreAsked (shelves tells first last) (map (fetch_of false) ws ++ fs)
+    names_asked : (fs : List Call) → AreAsked (shelves tells between last) fs → AreAsked (shelves tells first last) (map (fetch_of false) ws ++ fs)
     names_asked fs more t = more t ∙ ap (λ names. names ++ fs) (so_far.none_failed.asked t) ∙ append_assoc first.fetched (map (fetch_of false) ws) fs
 
     all_asked : (vs : List Wanted) → NoneFailed (shelves tells between last) vs → NoneFailed (shelves tells first last) (ws ++ vs)
@@ -85,10 +86,11 @@ module _ (tells : Bool) (first between last : Stock) where
     one_more w bytes one asked stored counts = record {
       fetched = one_more_fetched ws contents w bytes (fetched_still ws contents so_far.fetched) (fetched_before tells first between last so_far.stored.files so_far.counts w bytes one);
       none_failed = all_asked (w ∷ []) asked;
-      stored = record { files = λ n. stored.files n ∙ so_far.stored.files n; faults = stored.faults ∙ so_far.stored.faults };
+      stored = nothing_both tells first between last so_far.stored stored;
       counts = record {
         fetch_faults = omega (arith, counts.fetch_faults, so_far.counts.fetch_faults);
         store_faults = counts.store_faults ∙ so_far.counts.store_faults;
+        store_wants = counts.store_wants ∙ so_far.counts.store_wants;
         bytes_read = omega (arith, counts.bytes_read, so_far.counts.bytes_read);
       };
     }

@@ -8,3 +8,4 @@ pub mod PassedOn
 pub mod ShelfLemmas
 pub mod FetchLemmas
 pub mod PutLemmas
+pub mod StoreLemmas

@@ -1,13 +1,16 @@
 -- What puts make of a sink.
-use Rattle.std.proofs.Common.{arith, ◌≡◌, ◌∙◌, ℕ, Bool, subst, ap, List, ◌++◌, take, Ok, Err, OnOk, IfErr, IsTrue}
-use Rattle.std.specs.Prelude.{Result}
+use Rattle.std.proofs.Common.{arith, ◌≡◌, ◌∙◌, ℕ, Bool, subst, ap, List, ◌++◌, take, Ok, Err, OnOk, IfOk, IfErr, IsTrue, inl, inr}
+use Rattle.std.specs.Prelude.{Result, String, string_bytes}
+use Rattle.std.specs.declared.alloc.Global.{Global}
+use Rattle.word_base.specs.declared.text.NoMemory.{NoMemory as Wanting}
 use Rattle.cc_shelf.specs.Counts.{Rose}
 use Rattle.cc_shelf.specs.Output.{Output}
 use Rattle.cc_shelf.specs.declared.sink.SinkFault.{SinkFault}
 use Rattle.cc_shelf.specs.declared.sink.SinkFault.TheVariants.{Failed, NoMemory}
 use Rattle.cc_shelf.specs.SinkAnswers.{PutRefused}
+use Rattle.cc_shelf.specs.Reliable.{PutsStayReliable}
 use Rattle.cc_files.specs.World.{Sinks}
-use Rattle.cc_files.specs.Puts.{LinePut, Whole, Part, Nothing, PutsLine}
+use Rattle.cc_files.specs.Puts.{LinePut, Whole, Part, Nothing, PutsLine, TextPut, SaysLine, SaysMade}
 
 -- a put of a line, whatever it answers
 pub line_put : (tells : Bool) (line : List ℕ) (before now : Output) (r : Result (Unit {0}) SinkFault) → OnOk r (IsTrue tells → now.bytes ≡ before.bytes ++ line) → OnOk r (now.faults ≡ before.faults)
@@ -16,9 +19,19 @@ line_put tells line before now (Ok u) told success refused t = Whole (told t) su
 line_put tells line before now (Err Failed) told success refused t = let part = refused.1 t in Part refused.0 part.0 part.1
 line_put tells line before now (Err NoMemory) told success refused t = Nothing (refused.0 t) refused.1 refused.2
 
--- a put of the same line
-pub line_same : (a b : List ℕ) (sink : Sinks) → a ≡ b → PutsLine a sink → PutsLine b sink
-line_same a b sink e put = subst (λ l. PutsLine l sink) e put
+-- a line that was made
+pub line_made : (r : Result (String Global) Wanting) (line : List ℕ) (given ends : ℕ) (sink : Sinks) (status : ℕ) → IfOk r (λ l. string_bytes l ≡ line) → given ≡ ends
+    → SaysMade r given sink status → SaysLine line ends sink status
+line_made (Ok l) line given ends sink status e same says =
+    inl (subst (λ n. TextPut line n n sink status) same (subst (λ t. TextPut t given given sink status) e says))
+line_made (Err e) line given ends sink status is same says = inr says
+
+-- puts behind a put
+pub puts_reliable : (first between last : Output) → PutsStayReliable first between → PutsStayReliable between last → PutsStayReliable first last
+puts_reliable first between last one more reliable =
+    let before = one reliable in
+    let behind = more before.reliable in
+    record { reliable = behind.reliable; faults = behind.faults ∙ before.faults }
 
 -- what rose twice rose
 rose_again : (a b c : ℕ) → Rose a b → Rose b c → Rose a c

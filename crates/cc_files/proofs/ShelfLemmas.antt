@@ -3,7 +3,7 @@ use Rattle.std.proofs.Common.{true≢false, length, ◌≡◌, ◌∙◌, ◌≤
 use Rattle.std.specs.Prelude.{◌⊎◌, Result, Err}
 use Rattle.cc_shelf.specs.Counts.{RoseBy}
 use Rattle.cc_shelf.specs.Files.{Unchanged}
-use Rattle.cc_shelf.specs.Stock.{Stock, Fetch}
+use Rattle.cc_shelf.specs.Stock.{Stock, Call}
 use Rattle.cc_shelf.specs.Told.{FetchTold, MayTellFetch}
 use Rattle.cc_shelf.specs.ShelfAnswers.{AfterFetch, FetchRefused, NoFetchFailed}
 use Rattle.cc_shelf.specs.declared.shelf.ShelfFault.{ShelfFault}
@@ -109,7 +109,7 @@ module _ (tells : Bool) (first between last : Stock) (same : Unchanged first.fil
   still_fetched [] t = tt {0}
   still_fetched (w ∷ ws) t = ((t.0.0, fetched_before w t.0.0 t.0.1), still_fetched ws t.1)
 
-  still_asked : (w : Wanted) (fs : List Fetch) → AreAsked (shelves tells first between) (fetch_of false w ∷ []) → AreAsked (shelves tells between last) fs → AreAsked (shelves tells first last) (fetch_of false w ∷ fs)
+  still_asked : (w : Wanted) (fs : List Call) → AreAsked (shelves tells first between) (fetch_of false w ∷ []) → AreAsked (shelves tells between last) fs → AreAsked (shelves tells first last) (fetch_of false w ∷ fs)
   still_asked w fs one more = λ t. more t ∙ ap (λ names. names ++ fs) (one t) ∙ append_assoc first.fetched (fetch_of false w ∷ []) fs
 
   pub still_cause : NoFetchFailed first.counts between.counts → (w : Wanted) (failed : Bool) (fault : FileFault) → FetchCause (shelves tells between last) w failed fault → FetchCause (shelves tells first last) w failed fault

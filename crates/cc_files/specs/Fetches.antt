@@ -2,7 +2,7 @@
 use Rattle.std.specs.Prelude.{◌≡◌, ℕ, ◌+◌, ◌<◌, ◌≤◌, Bool, true, false, IsTrue, List, [], ◌∷◌, ◌++◌, length, map, Some, None}
 use Rattle.std.specs.List.{AllZip}
 use Rattle.cc_shelf.specs.Counts.{FetchFailed, RoseBy}
-use Rattle.cc_shelf.specs.Stock.{Fetch}
+use Rattle.cc_shelf.specs.Stock.{Call}
 use Rattle.cc_shelf.specs.ShelfAnswers.{NoFetchFailed}
 use Rattle.cc_shelf.specs.declared.shelf.ShelfFault.{ShelfFault}
 use Rattle.cc_shelf.specs.declared.shelf.ShelfFault.TheVariants as shelf_faults
@@ -34,11 +34,11 @@ abbrev pub AllFetched : Shelves → List Wanted → List (List ℕ) → Type 0
 AllFetched shelf ws contents = AllZip (IsFetched shelf) ws contents
 
 -- a fetch of a file, and whether it failed
-abbrev pub fetch_of : Bool → Wanted → Fetch
+abbrev pub fetch_of : Bool → Wanted → Call
 fetch_of failed file = record { name = file.name; failed = failed }
 
 -- these fetches and no others were asked for, in this order
-abbrev pub AreAsked : Shelves → List Fetch → Type 0
+abbrev pub AreAsked : Shelves → List Call → Type 0
 AreAsked shelf fetches = IsTrue shelf.tells → shelf.now.fetched ≡ shelf.before.fetched ++ fetches
 
 -- these files and no others were asked for, and no fetch failed

@@ -5,7 +5,7 @@ use Rattle.word_base.specs.declared.text.NoMemory.{NoMemory}
 use Rattle.cc_shelf.specs.Counts.{Rose, raised}
 use Rattle.cc_shelf.specs.Output.{Output}
 use Rattle.cc_answers.specs.Answers.{Answered}
-use Rattle.cc_text.specs.Refusals.{Why, OfFile, OfSource, OfMacros, OfUnits, OfStore, OfMemory, file_line, refusal_status}
+use Rattle.cc_text.specs.Refusals.{Why, OfFile, OfSource, OfMacros, OfUnits, OfStore, OfMemory, file_line, file_status}
 use Rattle.cc_text.specs.SourceText.{source_line}
 use Rattle.cc_text.specs.MacroText.{macro_line}
 use Rattle.cc_text.specs.UnitText.{unit_line}
@@ -29,51 +29,50 @@ pub record PutsLine (line : List ℕ) (sink : Sinks) : Type 0 where
 abbrev pub PutsNothing : Sinks → Type 0
 PutsNothing sink = sink.now ≡ sink.before
 
--- a line was put that is made of parts, or there was no memory to make it
-abbrev pub PutsMade : List ℕ → Sinks → Type 0
-PutsMade line sink = PutsLine line sink ⊎ PutsNothing sink
-
--- a line that was made was put
-abbrev pub PutsWhere : Result (String Global) NoMemory → Sinks → Type 0
-PutsWhere (Ok line) sink = PutsLine (string_bytes line) sink
-PutsWhere (Err e) sink = PutsNothing sink
-
 -- the line where memory was wanting
 abbrev pub memory_line : List ℕ
 memory_line = codes "want of memory\n"
 
--- the line of a refusal was put, where it has one
-abbrev pub PutsRefusal : Why → Sinks → Type 0
-PutsRefusal (OfFile name why) sink = PutsMade (file_line name why) sink
-PutsRefusal (OfSource why) sink = PutsMade (source_line why) sink
-PutsRefusal (OfMacros why) sink = PutsMade (macro_line why) sink
-PutsRefusal (OfUnits why) sink = PutsMade (unit_line why) sink
-PutsRefusal OfStore sink = PutsNothing sink
-PutsRefusal OfMemory sink = PutsLine memory_line sink
-
--- the status of a refusal is answered, and its line is put
-pub record Refused (why : Why) (sink : Sinks) (status : ℕ) : Type 0 where
-  pub status_is : status ≡ refusal_status why
-  pub line : PutsRefusal why sink
-
--- one put was asked for, of a text whose status is this where all of it was put
-pub data TextPut (text : List ℕ) (ends : ℕ) (sink : Sinks) (status : ℕ) : Type 0 where
+-- one put was asked for, of a text: the first of these is the status where all of it was put, and the second one where the put failed
+pub data TextPut (text : List ℕ) (ends fails : ℕ) (sink : Sinks) (status : ℕ) : Type 0 where
   -- all of it was
-  PutWhole : status ≡ ends → sink.now.calls ≡ raised sink.before.calls 1 → sink.now.faults ≡ sink.before.faults → (IsTrue sink.tells → sink.now.bytes ≡ sink.before.bytes ++ text) → TextPut text ends sink status
+  PutWhole : status ≡ ends → sink.now.calls ≡ raised sink.before.calls 1 → sink.now.faults ≡ sink.before.faults → (IsTrue sink.tells → sink.now.bytes ≡ sink.before.bytes ++ text) → TextPut text ends fails sink status
   -- the put failed, and a part of it is there
-  PutPart : status ≡ 4 → sink.now.calls ≡ raised sink.before.calls 1 → Rose sink.before.faults sink.now.faults → (IsTrue sink.tells → (n : ℕ) × (sink.now.bytes ≡ sink.before.bytes ++ take n text))
-      → TextPut text ends sink status
+  PutPart : status ≡ fails → sink.now.calls ≡ raised sink.before.calls 1 → Rose sink.before.faults sink.now.faults → (IsTrue sink.tells → (n : ℕ) × (sink.now.bytes ≡ sink.before.bytes ++ take n text))
+      → TextPut text ends fails sink status
   -- the sink found no memory for it, and a second put was asked for, of the line that says so
   PutNothing : status ≡ 5 → sink.now.calls ≡ raised (raised sink.before.calls 1) 1 → (IsTrue sink.tells → LinePut memory_line sink.before sink.now)
-      → TextPut text ends sink status
+      → TextPut text ends fails sink status
 
 -- the text of an answer was put, or it has none and no put was asked for
 abbrev pub PutsText : Option (List ℕ) → ℕ → Sinks → ℕ → Type 0
 PutsText None ends sink status = (status ≡ ends) × PutsNothing sink
-PutsText (Some text) ends sink status = TextPut text ends sink status
+PutsText (Some text) ends sink status = TextPut text ends 4 sink status
 
 abbrev pub AnswerPut : Answered → Sinks → ℕ → Type 0
 AnswerPut answer sink status = PutsText answer.text answer.status sink status
+
+-- it is said that memory was wanting
+abbrev pub SaysWant : Sinks → ℕ → Type 0
+SaysWant sink status = (status ≡ 5) × PutsLine memory_line sink
+
+-- a line with this status was put, or a part of it where the put failed; or there was no memory for it, and that is said
+abbrev pub SaysLine : List ℕ → ℕ → Sinks → ℕ → Type 0
+SaysLine line ends sink status = TextPut line ends ends sink status ⊎ SaysWant sink status
+
+-- so it is of a line that was made, as it is in memory
+abbrev pub SaysMade : Result (String Global) NoMemory → ℕ → Sinks → ℕ → Type 0
+SaysMade (Ok line) ends sink status = TextPut (string_bytes line) ends ends sink status
+SaysMade (Err e) ends sink status = SaysWant sink status
+
+-- what is said of a refusal, and with which status
+abbrev pub Refused : Why → Sinks → ℕ → Type 0
+Refused (OfFile name why) sink status = SaysLine (file_line name why) (file_status why) sink status
+Refused (OfSource why) sink status = SaysLine (source_line why) 1 sink status
+Refused (OfMacros why) sink status = SaysLine (macro_line why) 1 sink status
+Refused (OfUnits why) sink status = SaysLine (unit_line why) 1 sink status
+Refused OfStore sink status = (status ≡ 4) × PutsNothing sink
+Refused OfMemory sink status = SaysWant sink status
 
 -- the statuses that there are
 abbrev pub IsStatus : ℕ → Type 0

@@ -1,11 +1,11 @@
 //! The files of commands.
-ghost use Rattle.std.specs.Prelude.{◌≡◌, ◌≢◌, [], ◌∷◌, ◌++◌, List, ℕ, Some, IfOk, OnOk, IfErr, IsTrue};
+ghost use Rattle.std.specs.Prelude.{◌≡◌, ◌≢◌, [], ◌∷◌, ◌++◌, List, ℕ, IfOk, OnOk, IfErr};
 ghost use Rattle.cc_shelf.specs.ShelfAnswers.{AfterFetch};
 ghost use Rattle.cc_text.specs.Refusals.{why_of};
 ghost use Rattle.cc_files.specs.World.{shelves};
 ghost use Rattle.cc_files.specs.Fetches.{wanted, of_shelf_fault, IsFetched, AllFetched, NoneFailed, NotFetched};
 ghost use Rattle.cc_files.specs.Wants.{of_want, of_names, contents_of};
-ghost use Rattle.cc_files.specs.Stores.{NothingStored, StoreStopped};
+ghost use Rattle.cc_files.specs.Stores.{one_text, of_store_fault, NothingStored, AreStored, StoreStopped};
 
 use cc_shelf::{Shelf, ShelfFault};
 use cc_text::{FileFault, Refusal};
@@ -172,22 +172,30 @@ pub fn fetch_all<'a, F: Shelf>(
     Ok(files)
 }
 
-/// Stores a file. It is refused where it can't be written, and for want of memory; no other file changes.
+// Why a command is refused whose file can't be stored.
+fn not_stored<'a>(fault: ShelfFault) -> Refusal<'a>
+    ensures { why_of result ≡ of_store_fault fault }
+{
+    match fault {
+        ShelfFault::NoMemory => Refusal::NoMemory,
+        ShelfFault::Failed | ShelfFault::Absent | ShelfFault::TooLong { .. } => Refusal::Store,
+    }
+}
+
+/// Stores a file, once. It is refused where it can't be written, and for want of memory; no other file changes.
 pub fn store<'a, F: Shelf>(
     alloc: Global,
     shelf: &mut F,
     name: &str,
     bytes: &[u8],
 ) -> Result<(), Refusal<'a>>
-    ensures held { OnOk result (IsTrue F.tells → (F.stock shelf.new).files name.now ≡ Some bytes.now) }
-    ensures faults { OnOk result ((F.stock shelf.new).counts.store_faults ≡ (F.stock shelf.old).counts.store_faults) }
-    ensures refused { IfErr result (λ r. StoreStopped (shelves F.tells (F.stock shelf.old) (F.stock shelf.new)) (why_of r)) }
+    ensures stored { OnOk result (AreStored (one_text name.now bytes.now) (shelves F.tells (F.stock shelf.old) (F.stock shelf.new))) }
+    ensures refused { IfErr result (λ r. StoreStopped name.now (shelves F.tells (F.stock shelf.old) (F.stock shelf.new)) (why_of r)) }
     ensures asked { NoneFailed (shelves F.tells (F.stock shelf.old) (F.stock shelf.new)) [] }
     ensures others { (n : List ℕ) → n ≢ name.now → (F.stock shelf.new).files n ≡ (F.stock shelf.old).files n }
 {
     match shelf.store(alloc, name, bytes) {
         Ok(()) => Ok(()),
-        Err(ShelfFault::NoMemory) => Err(Refusal::NoMemory),
-        Err(_) => Err(Refusal::Store),
+        Err(fault) => Err(not_stored(fault)),
     }
 }

@@ -1,10 +1,7 @@
 -- On what a list of files holds.
 use Rattle.std.proofs.Common.{◌≡◌, ◌≢◌, ◌<◌, ◌+◌, suc, ℕ, Bool, List, [], ◌∷◌, ◌++◌, length, get_or, set, take, drop, Option, Some, None, refl, sym, ap, ◌∙◌, subst, true, false, cond, arith, length-append, drop-cons, zero, ⊎_elim}
-use Rattle.std.specs.List.{AllPairs, Contains, IsAnyAnswer}
-use Rattle.std.specs.Prelude.{nat_eq, IsTrue, ◌↔◌}
+use Rattle.std.specs.List.{AllPairs}
 use Rattle.std.proofs.lemmas.Bool.{cases_lt}
-use Rattle.std.proofs.lemmas.Bool.Decides.{Decides-eqb}
-use Rattle.std.proofs.lemmas.List.Elements.{contains_decides, Decides-contains}
 use Rattle.std.proofs.lemmas.List.{append-nil, take_more, take-append-drop, length-take-le, map-append, length-map}
 use Rattle.std.proofs.Math.ListN.{get_or-append}
 use Rattle.std.proofs.Math.Seq.{get_or-append_seam, set-append_seam, map-set_same}
@@ -142,8 +139,3 @@ pub names_behind_push : (ok : Bool) (files after : List MemFile) (n : List ℕ) 
 names_behind_push true files after n new e none is differ =
     subst NamesDiffer (sym e) (pushed_names files n new none is differ)
 names_behind_push false files after n new e none is differ = subst NamesDiffer (sym e) differ
-
--- whether a number is in a list
-pub contains_is : (items shown : List ℕ) (n : ℕ) (b : Bool) → shown ≡ items → IsAnyAnswer (λ y t. nat_eq y n ≡ t) shown b → IsTrue b ↔ Contains items n
-contains_is items shown n b value answer =
-    Decides-contains items n b (contains_decides nat_eq Decides-eqb items n b (subst (λ l. IsAnyAnswer (λ y t. nat_eq y n ≡ t) l b) value answer))

@@ -1,4 +1,4 @@
 pub mod Held
-pub mod Fetches
+pub mod Calls
 pub mod MemStock
 pub mod MemOutput

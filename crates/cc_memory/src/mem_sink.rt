@@ -1,7 +1,9 @@
 //! A sink in memory.
-ghost use Rattle.std.specs.Prelude.{◌≡◌, ◌≤◌, ◌++◌, [], true, OnOk, IfErr, IsErrOf, ◌↔◌, Contains};
+ghost use Rattle.std.specs.Prelude.{◌≡◌, ◌≤◌, ◌++◌, [], true, OnOk, IfErr, IsErrOf, IsTrue, ◌↔◌, Contains};
 ghost use Rattle.cc_shelf.specs.Counts.{raised};
 ghost use Rattle.cc_shelf.specs.SinkAnswers.{PutRefused};
+ghost use Rattle.cc_shelf.specs.Reliable.{PutsStayReliable};
+ghost use Rattle.cc_memory.specs.MemOutput.{output_of};
 
 use cc_shelf::{Sink, SinkFault};
 use std::alloc::Global;
@@ -25,6 +27,7 @@ impl MemSink {
         ensures calls { result.calls ≡ 0 }
         ensures faults { result.faults ≡ 0 }
         ensures fail_at { result.fail_at ≡ fail_at }
+        ensures reliable { fail_at.items ≡ [] → IsTrue (output_of result).reliable }
     {
         MemSink {
             bytes: Vec::new(alloc),
@@ -37,7 +40,6 @@ impl MemSink {
 }
 
 impl Sink for MemSink {
-    ghost use Rattle.cc_memory.specs.MemOutput.{output_of};
     ghost use Rattle.std.specs.Prelude.{true};
 
     ghost tells = { true };
@@ -50,6 +52,8 @@ impl Sink for MemSink {
         ensures later { self.old.faults ≤ self.new.faults }
         ensures success { OnOk result (self.new.faults ≡ self.old.faults) }
         ensures found { OnOk result (self.new.wants ≡ self.old.wants) }
+        ensures reliable { PutsStayReliable (output_of self.old) (output_of self.new) }
+        ensures unreliable { IsErrOf result SinkFault.Failed → ¬ IsTrue (output_of self.old).reliable }
 
         // Calls are counted. One fails exactly where its number is in `fail_at`, then puts nothing, and else counts no fault.
         ensures calls { self.new.calls ≡ raised self.old.calls 1 }

@@ -1,10 +1,11 @@
 -- The counts of shelves and sinks, which never fall and stay at their greatest value (docs/COMMANDS.md, "Faults").
 use Rattle.std.specs.Prelude.{ℕ, ◌+◌, ◌-◌, ◌^◌, ◌≤◌, min}
 
--- the counts of a shelf: failed fetches, failed stores, and bytes read
+-- the counts of a shelf: failed fetches, failed stores, stores that found no memory, and bytes read
 pub record Counts : Type 0 where
   pub fetch_faults : ℕ
   pub store_faults : ℕ
+  pub store_wants : ℕ
   pub bytes_read : ℕ
 
 -- a count raised by n, where its 64 bits hold that, else its greatest value

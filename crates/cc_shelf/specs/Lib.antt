@@ -4,5 +4,6 @@ pub mod Stock
 pub mod Told
 pub mod ShelfAnswers
 pub mod Output
+pub mod Reliable
 pub mod SinkAnswers
 pub mod ReadAnswers

@@ -1,5 +1,10 @@
 //! A shelf over the file system.
-ghost use Rattle.std.specs.Prelude.{◌≡◌};
+ghost use Rattle.std.specs.Prelude.{◌≡◌, ◌≢◌, List, ℕ, Some, false, OnOk, IfErr, IsErrOf, IsOkUnless, IsTrue};
+ghost use Rattle.cc_shelf.specs.Files.{Unchanged};
+ghost use Rattle.cc_shelf.specs.Reliable.{StaysReliable};
+ghost use Rattle.cc_shelf.specs.ShelfAnswers.{StoreRefused, AfterStore, NoStoreFailed, StoresFoundMemory};
+ghost use Rattle.cc_shelf.specs.Stock.{untold_stock};
+ghost use Rattle.cc_shelf.specs.Told.{StoreTold};
 
 use crate::shelf::{Shelf, ShelfFault};
 use crate::stream::{read_within, write_whole};
@@ -34,13 +39,9 @@ impl<'a, R: Files> FileShelf<'a, R> {
 }
 
 impl<'a, R: Files> Shelf for FileShelf<'a, R> {
-    ghost use Rattle.std.specs.Prelude.{false};
-    ghost use Rattle.cc_shelf.specs.Stock.{untold_stock};
-
     ghost tells = { false };
 
-    ghost stock = { λ s. untold_stock
-        (record { fetch_faults = s.fetch_faults; store_faults = s.store_faults; bytes_read = s.read }) };
+    ghost stock = { λ s. untold_stock s.fetch_faults s.store_faults s.read };
 
     fn fetch(&mut self, alloc: Global, name: &str, max: u64) -> Result<Vec<u8>, ShelfFault> {
         let Ok(mut file) = fs::open(self.rt, name) else {
@@ -54,7 +55,31 @@ impl<'a, R: Files> Shelf for FileShelf<'a, R> {
         outcome
     }
 
-    fn store(&mut self, _alloc: Global, name: &str, bytes: &[u8]) -> Result<(), ShelfFault> {
+    fn store(&mut self, _alloc: Global, name: &str, bytes: &[u8]) -> Result<(), ShelfFault>
+        ensures told { OnOk result (IsTrue false → (untold_stock self.new.fetch_faults self.new.store_faults self.new.read).files name.now ≡ Some bytes.now) }
+        ensures others { (n : List ℕ) → n ≢ name.now → (untold_stock self.new.fetch_faults self.new.store_faults self.new.read).files n
+            ≡ (untold_stock self.old.fetch_faults self.old.store_faults self.old.read).files n }
+        ensures memory { IsErrOf result ShelfFault.NoMemory → Unchanged (untold_stock self.old.fetch_faults self.old.store_faults self.old.read).files
+            (untold_stock self.new.fetch_faults self.new.store_faults self.new.read).files }
+        ensures refused { IfErr result (StoreRefused (untold_stock self.old.fetch_faults self.old.store_faults self.old.read).counts
+            (untold_stock self.new.fetch_faults self.new.store_faults self.new.read).counts) }
+        ensures counts { AfterStore (untold_stock self.old.fetch_faults self.old.store_faults self.old.read).counts
+            (untold_stock self.new.fetch_faults self.new.store_faults self.new.read).counts }
+        ensures success { OnOk result (NoStoreFailed (untold_stock self.old.fetch_faults self.old.store_faults self.old.read).counts
+            (untold_stock self.new.fetch_faults self.new.store_faults self.new.read).counts) }
+        ensures found { OnOk result (StoresFoundMemory (untold_stock self.old.fetch_faults self.old.store_faults self.old.read).counts
+            (untold_stock self.new.fetch_faults self.new.store_faults self.new.read).counts) }
+        ensures asked { IsTrue false → (untold_stock self.new.fetch_faults self.new.store_faults self.new.read).fetched
+            ≡ (untold_stock self.old.fetch_faults self.old.store_faults self.old.read).fetched }
+        ensures stored { StoreTold false name.now (untold_stock self.old.fetch_faults self.old.store_faults self.old.read)
+            (untold_stock self.new.fetch_faults self.new.store_faults self.new.read) result }
+        ensures reliable { StaysReliable (untold_stock self.old.fetch_faults self.old.store_faults self.old.read)
+            (untold_stock self.new.fetch_faults self.new.store_faults self.new.read) }
+        ensures unreliable { IsErrOf result ShelfFault.Failed → ¬ IsTrue (untold_stock self.old.fetch_faults self.old.store_faults self.old.read).reliable }
+
+        // It takes no memory.
+        ensures never { IsOkUnless result ShelfFault.Failed }
+    {
         let is_stored = match fs::create(self.rt, name) {
             Ok(mut file) => write_whole(&mut file, bytes),
             Err(_) => false,

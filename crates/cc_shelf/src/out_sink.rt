@@ -1,7 +1,8 @@
 //! A sink over standard output.
-ghost use Rattle.std.specs.Prelude.{◌≡◌, ◌≤◌, ◌++◌, false, IfErr, OnOk, IsOkUnless, IsTrue};
+ghost use Rattle.std.specs.Prelude.{◌≡◌, ◌≤◌, ◌++◌, false, IfErr, OnOk, IsErrOf, IsOkUnless, IsTrue};
 ghost use Rattle.cc_shelf.specs.Counts.{raised};
 ghost use Rattle.cc_shelf.specs.Output.{untold_output};
+ghost use Rattle.cc_shelf.specs.Reliable.{PutsStayReliable};
 ghost use Rattle.cc_shelf.specs.SinkAnswers.{PutRefused};
 
 use crate::sink::{Sink, SinkFault};
@@ -47,6 +48,8 @@ impl<'a, R: Print> Sink for OutSink<'a, R> {
         ensures success { OnOk result (self.new.faults ≡ self.old.faults) }
         ensures found { OnOk result ((untold_output self.new.calls self.new.faults).wants
             ≡ (untold_output self.old.calls self.old.faults).wants) }
+        ensures reliable { PutsStayReliable (untold_output self.old.calls self.old.faults) (untold_output self.new.calls self.new.faults) }
+        ensures unreliable { IsErrOf result SinkFault.Failed → ¬ IsTrue (untold_output self.old.calls self.old.faults).reliable }
 
         // It takes no memory.
         ensures never { IsOkUnless result SinkFault.Failed }

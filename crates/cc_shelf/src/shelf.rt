@@ -1,9 +1,10 @@
 //! The files that the commands read and write.
 ghost use Rattle.std.specs.Prelude.{◌≡◌, ◌≢◌, ◌≤◌, List, ℕ, Bool, Some, IfOk, IfErr, OnOk, IsTrue, IsErrOf, vec_len};
-ghost use Rattle.cc_shelf.specs.Told.{FetchTold};
+ghost use Rattle.cc_shelf.specs.Told.{FetchTold, StoreTold};
 ghost use Rattle.cc_shelf.specs.Files.{Unchanged};
-ghost use Rattle.cc_shelf.specs.ShelfAnswers.{FetchRefused, StoreRefused, AfterFetch, AfterStore, NoFetchFailed, NoStoreFailed};
+ghost use Rattle.cc_shelf.specs.ShelfAnswers.{FetchRefused, StoreRefused, AfterFetch, AfterStore, NoFetchFailed, NoStoreFailed, StoresFoundMemory};
 ghost use Rattle.cc_shelf.specs.Stock.{Stock};
+ghost use Rattle.cc_shelf.specs.Reliable.{StaysReliable};
 
 use std::alloc::{AllocError, AllocFailed, Global};
 use word_base::NoMemory;
@@ -50,14 +51,16 @@ impl From<NoMemory> for ShelfFault {
     }
 }
 
-/// Files under names. A shelf may tell what it holds, which names fetches asked for and which of
-/// these failed, and then contracts speak of them. It counts its failed fetches, its failed stores
-/// and the bytes that it read; each count stays at its greatest value once it stands there.
+/// Files under names. A shelf may tell what it holds, which names fetches and stores asked for and
+/// which of these failed, and then contracts speak of them. It counts its failed fetches, its failed
+/// stores, the stores that found no memory and the bytes that it read; each count stays at its greatest
+/// value once it stands there. It may be known that no call that comes can fail, for want of memory
+/// aside.
 pub trait Shelf {
-    /// Whether the shelf tells its files and its fetches.
+    /// Whether the shelf tells its files, its fetches and its stores.
     ghost tells: { Bool };
 
-    /// What it holds. Where the shelf doesn't tell, only the counts mean something.
+    /// What it holds. Where the shelf doesn't tell, only the counts and `reliable` mean something.
     ghost stock: { Self → Stock };
 
     /// The bytes of a file, of which there are at most `max`.
@@ -68,7 +71,10 @@ pub trait Shelf {
         ensures refused { IfErr result (FetchRefused tells name.now max (stock self.old) (stock self.new)) }
         ensures counts { AfterFetch (stock self.old).counts (stock self.new).counts }
         ensures success { OnOk result (NoFetchFailed (stock self.old).counts (stock self.new).counts) }
-        ensures asked { FetchTold tells name.now (stock self.old) (stock self.new) result };
+        ensures asked { FetchTold tells name.now (stock self.old) (stock self.new) result }
+        ensures stored { (stock self.new).stored ≡ (stock self.old).stored }
+        ensures reliable { StaysReliable (stock self.old) (stock self.new) }
+        ensures unreliable { IsErrOf result ShelfFault.Failed → ¬ IsTrue (stock self.old).reliable };
 
     /// Makes the name hold the bytes. Where it fails, that name may hold anything.
     fn store(&mut self, alloc: Global, name: &str, bytes: &[u8]) -> Result<(), ShelfFault>
@@ -78,5 +84,9 @@ pub trait Shelf {
         ensures refused { IfErr result (StoreRefused (stock self.old).counts (stock self.new).counts) }
         ensures counts { AfterStore (stock self.old).counts (stock self.new).counts }
         ensures success { OnOk result (NoStoreFailed (stock self.old).counts (stock self.new).counts) }
-        ensures asked { IsTrue tells → (stock self.new).fetched ≡ (stock self.old).fetched };
+        ensures found { OnOk result (StoresFoundMemory (stock self.old).counts (stock self.new).counts) }
+        ensures asked { IsTrue tells → (stock self.new).fetched ≡ (stock self.old).fetched }
+        ensures stored { StoreTold tells name.now (stock self.old) (stock self.new) result }
+        ensures reliable { StaysReliable (stock self.old) (stock self.new) }
+        ensures unreliable { IsErrOf result ShelfFault.Failed → ¬ IsTrue (stock self.old).reliable };
 }

@@ -1,7 +1,8 @@
 //! Where the commands put their lines.
-ghost use Rattle.std.specs.Prelude.{◌≡◌, ◌≤◌, ◌++◌, Bool, IfErr, OnOk, IsTrue};
+ghost use Rattle.std.specs.Prelude.{◌≡◌, ◌≤◌, ◌++◌, Bool, IfErr, OnOk, IsErrOf, IsTrue};
 ghost use Rattle.cc_shelf.specs.Counts.{raised};
 ghost use Rattle.cc_shelf.specs.Output.{Output};
+ghost use Rattle.cc_shelf.specs.Reliable.{PutsStayReliable};
 ghost use Rattle.cc_shelf.specs.SinkAnswers.{PutRefused};
 
 use std::alloc::{AllocError, Global};
@@ -26,12 +27,13 @@ impl From<AllocError> for SinkFault {
 
 /// An output that is put piece by piece. A sink may tell the bytes that were put, and then
 /// contracts speak of them. It counts its puts, whatever they answer, its faults, and the puts that
-/// found no memory; each count stays at its greatest value once it stands there.
+/// found no memory; each count stays at its greatest value once it stands there. It may be known that
+/// no put that comes can fail, for want of memory aside.
 pub trait Sink {
     /// Whether the sink tells what was put.
     ghost tells: { Bool };
 
-    /// What came of the puts. Where the sink doesn't tell, only the counts mean something.
+    /// What came of the puts. Where the sink doesn't tell, only the counts and `reliable` mean something.
     ghost output: { Self → Output };
 
     /// Puts a piece behind those before it. A failed put may leave a prefix of the piece there.
@@ -41,5 +43,7 @@ pub trait Sink {
         ensures counted { (output self.new).calls ≡ raised (output self.old).calls 1 }
         ensures later { (output self.old).faults ≤ (output self.new).faults }
         ensures success { OnOk result ((output self.new).faults ≡ (output self.old).faults) }
-        ensures found { OnOk result ((output self.new).wants ≡ (output self.old).wants) };
+        ensures found { OnOk result ((output self.new).wants ≡ (output self.old).wants) }
+        ensures reliable { PutsStayReliable (output self.old) (output self.new) }
+        ensures unreliable { IsErrOf result SinkFault.Failed → ¬ IsTrue (output self.old).reliable };
 }

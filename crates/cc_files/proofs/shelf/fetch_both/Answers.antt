@@ -3,6 +3,7 @@ use Rattle.cc_files.specs.World.{shelves}
 use Rattle.cc_files.specs.Fetches.{wanted, NotFetched}
 use Rattle.cc_files.proofs.ShelfLemmas.{first_refused, second_refused, both_asked, fetched_before}
 use Rattle.cc_files.proofs.PassedOn.{passed_on}
+use Rattle.cc_files.proofs.StoreLemmas.{nothing_both}
 use Rattle.cc_files.proofs.shelf.fetch_both.Goals as goal
 
 pub returns-in_err-bytes-clause-refused : goal.returns-in_err-bytes-clause-refused
@@ -30,3 +31,9 @@ pub returns-clause-asked : goal.returns-clause-asked
 returns-clause-asked g c =
     both_asked g.F.Shelf.tells (g.F.Shelf.stock c.args.shelf.now) (g.F.Shelf.stock c.fetch.new.shelf) (g.F.Shelf.stock c.fetch-2.new.shelf) c.in_ok-bytes.ensures.stored.files c.in_ok-bytes.ensures.counts
     (wanted c.args.name.now c.args.limit) (wanted c.args.other.now c.args.other_limit ∷ []) c.in_ok-bytes.ensures.asked c.in_ok-more.ensures.asked
+
+pub returns-in_err-more-clause-stored : goal.returns-in_err-more-clause-stored
+returns-in_err-more-clause-stored g c = nothing_both _ _ (g.F.Shelf.stock c.fetch.new.shelf) _ c.in_ok-bytes.ensures.stored c.in_err-more.ensures.stored
+
+pub returns-clause-stored : goal.returns-clause-stored
+returns-clause-stored g c = nothing_both _ _ (g.F.Shelf.stock c.fetch.new.shelf) _ c.in_ok-bytes.ensures.stored c.in_ok-more.ensures.stored

@@ -4,6 +4,7 @@ use Rattle.cc_files.specs.Fetches.{NotFetched}
 use Rattle.cc_files.specs.Wants.{of_want}
 use Rattle.cc_files.proofs.ShelfLemmas.{first_refused, second_refused, both_asked, fetched_before}
 use Rattle.cc_files.proofs.PassedOn.{passed_on}
+use Rattle.cc_files.proofs.StoreLemmas.{nothing_both}
 use Rattle.cc_files.proofs.shelf.fetch_three.Goals as goal
 
 pub returns-in_err-bytes-clause-refused : goal.returns-in_err-bytes-clause-refused
@@ -36,3 +37,9 @@ pub returns-clause-asked : goal.returns-clause-asked
 returns-clause-asked g c =
     both_asked g.F.Shelf.tells (g.F.Shelf.stock c.args.shelf.now) (g.F.Shelf.stock c.fetch.new.shelf) (g.F.Shelf.stock c.fetch_both.new.shelf) c.in_ok-bytes.ensures.stored.files c.in_ok-bytes.ensures.counts
     (of_want c.args.first.now) (of_want c.args.second.now ∷ of_want c.args.third.now ∷ []) c.in_ok-bytes.ensures.asked c.in_ok-others.ensures.asked
+
+pub returns-in_err-others-clause-stored : goal.returns-in_err-others-clause-stored
+returns-in_err-others-clause-stored g c = nothing_both _ _ (g.F.Shelf.stock c.fetch.new.shelf) _ c.in_ok-bytes.ensures.stored c.in_err-others.ensures.stored
+
+pub returns-clause-stored : goal.returns-clause-stored
+returns-clause-stored g c = nothing_both _ _ (g.F.Shelf.stock c.fetch.new.shelf) _ c.in_ok-bytes.ensures.stored c.in_ok-others.ensures.stored
