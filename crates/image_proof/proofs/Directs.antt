@@ -1,23 +1,24 @@
 -- The direct operands of each function, by where the plan has its words.
-use Rattle.std.proofs.Common.{◌≡◌, ◌≢◌, ◌<◌, ◌≤◌, ℕ, zero, suc, ◌+◌, true, false, List, [], ◌∷◌, ◌++◌, length, map, Option, Some, None, refl, sym, ap, ◌∙◌, subst, inl, arith}
-use Rattle.std.specs.Prelude.{slice_get, option_to_list}
-use Rattle.std.proofs.lemmas.Option.{same_Some, slice_get_within}
+use Rattle.std.proofs.Common.{◌≡◌, ◌≢◌, ◌<◌, ◌≤◌, ℕ, zero, suc, ◌+◌, Bool, true, false, List, [], ◌∷◌, ◌++◌, length, map, Option, Some, None, refl, sym, ap, ◌∙◌, subst, inl, arith}
+use Rattle.std.specs.Prelude.{⊤, slice_get, slice_index, option_to_list}
+use Rattle.std.proofs.lemmas.Option.{none-some, same_Some, slice_get_within}
 use Rattle.c_tree.specs.declared.program.VarRef.{VarRef}
 use Rattle.c_tree.specs.declared.program.VarRef.TheVariants.{Scalar, Local, Static}
 use Rattle.c_tree.specs.TypedTree.{ObjectTree}
 use Rattle.tree_code.specs.WordHelpers.{uses_helper}
 use Rattle.tree_code.specs.WordTree.{FunctionCode}
+use Rattle.acc_code.specs.declared.operand.AccOperand.{AccOperand}
 use Rattle.acc_code.specs.declared.operand.AccOperand.TheVariants as operand
 use Rattle.acc_code.specs.AccTree.{FunctionItems, Item, Op, If, Loop, Switch, Case, Clear, Call, Helper, Break, Continue, Return}
 use Rattle.acc_code.specs.Emittable.{Throughout, RefersRight, BelowCount}
-use Rattle.image_proof.specs.acc_select.IsSelected.{object_cells, called_parameters}
+use Rattle.image_proof.specs.acc_select.IsSelected.{IsEmittableFunction, object_cells, called_parameters}
 use Rattle.tree_code.specs.WellFormedCode.{length_of}
 use Rattle.mem_plan.specs.declared.data_plan.FramePlan.{FramePlan}
-use Rattle.mem_plan.specs.Plan.{frame_of}
+use Rattle.mem_plan.specs.Plan.{frame_of, object_addresses}
 use Rattle.mem_plan.specs.Ranges.{StaticObject, LocalObject}
-use Rattle.c25_isa.specs.Direct.{Words, is_among}
+use Rattle.c25_isa.specs.Direct.{Words, is_among, is_scratch}
 use Rattle.image_proof.proofs.emit_proof.FlowStanding.{throughout}
-use Rattle.emit_blocks.specs.Places.{Places, or_zero, object_address, parameters_in}
+use Rattle.emit_blocks.specs.Places.{Places, or_zero, object_address, parameters_in, address_in}
 use Rattle.image_proof.specs.emit_control.Settings.{Setting}
 use Rattle.image_proof.specs.frame_emit.Frames.{parameter_addresses, all_parameters}
 use Rattle.image_proof.specs.emit_proof.Standing.{scalar_address, parameter_address}
@@ -27,22 +28,24 @@ use Rattle.image_proof.specs.Active.{AreActive, back_of, back_in}
 use Rattle.image_proof.specs.ActiveSites.{parameters_of, site_places, site_counts}
 use Rattle.image_proof.specs.Beginnings.{nothing_kept}
 use Rattle.image_proof.proofs.Facts.{counts_same, present_ram}
-use Rattle.image_proof.proofs.Frames.{FrameAt}
+use Rattle.image_proof.proofs.Frames.{FrameAt, frame_at}
 use Rattle.image_proof.proofs.FrameWords.{address_there, object_word}
 use Rattle.image_proof.proofs.Keeping.{back_within, back_no_name}
 use Rattle.image_proof.proofs.KeptWords.{LiveAt, live_no_scalar}
+use Rattle.image_proof.proofs.Lists.{mapped_there}
 use Rattle.image_proof.proofs.Placed.{places_long}
 use Rattle.image_proof.proofs.Sites.{is_site, nothing_is_kept, present_object, setting_places}
 use Rattle.image_proof.proofs.SiteWords.{first_among, scalar_in, parameter_in}
 use Rattle.image_proof.proofs.SiteStanding.{apart}
 use Rattle.image_proof.proofs.Statics.{static_address, static_word}
 use Rattle.image_proof.proofs.WordsOfSites.{name_within}
-use Rattle.image_proof.specs.DirectPieces.{words, IsNamedPlace, IsGivenPlace, KeepsReturn, ScratchIsApart, ItemNames}
+use Rattle.image_proof.specs.RunWalks.{address_of}
+use Rattle.image_proof.specs.DirectPieces.{words, IsNamedPlace, IsGivenPlace, KeepsReturn, ScratchIsApart, OperandNames, ItemNames}
 use Rattle.image_proof.proofs.ImageCalls.{names_in, setting_in}
 use Rattle.image_proof.proofs.Items.{each_item}
 use Rattle.image_proof.specs.FunctionWalks.{IsFunctionOf, place_of}
 use Rattle.image_proof.proofs.Runs.{lie}
-use Rattle.image_proof.specs.Directs.{own_words, object_words, place_words, given_words}
+use Rattle.image_proof.specs.Directs.{numbers_from, own_words, object_words, place_words, given_words}
 use Rattle.image_proof.proofs.Among.{among_behind, among_first, among_here, given_among, never_among, not_scratch, object_among, scratch_low, word_among}
 
 -- the parameters of a function among those of all

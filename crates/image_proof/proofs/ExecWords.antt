@@ -1,10 +1,10 @@
 -- Words of images and of port lines have 16 bits.
-use Rattle.std.proofs.Common.{◌≡◌, inl, inr, ℕ, zero, suc, ◌+◌, ◌*◌, ◌^◌, ◌<◌, ◌≤◌, Bool, true, false, List, [], ◌∷◌, ◌++◌, length, Option, Some, None, refl, sym, subst, lit<, arith, All}
+use Rattle.std.proofs.Common.{◌≡◌, inl, inr, ℕ, zero, suc, ◌+◌, ◌*◌, ◌^◌, ◌<◌, ◌≤◌, Bool, true, false, List, [], ◌∷◌, ◌++◌, length, Option, Some, None, refl, sym, ap, subst, lit<, arith, All}
 use Rattle.std.specs.Prelude.{◌==◌, nat_lt, slice_index, if◌then◌else◌}
 use Rattle.std.specs.List.{AllByRecursion}
 use Rattle.std.specs.Str.Lines.{lines}
-use Rattle.std.proofs.lemmas.List.Elements.{All-cons, All-nil}
-use Rattle.word_base.specs.Ports.{IsInput, input_of}
+use Rattle.std.proofs.lemmas.List.Elements.{All-cons, All-nil, All-from_recursion}
+use Rattle.word_base.specs.Ports.{Input, IsInput, input_of}
 use Rattle.c25_isa.specs.declared.mnemonic.Form.{Form}
 use Rattle.c25_isa.specs.declared.mnemonic.Form.TheVariants as form
 use Rattle.c25_isa.specs.declared.fields.Fields.{Fields}
@@ -18,7 +18,7 @@ use Rattle.c25_isa.specs.declared.instruction.Instr.{Instr}
 use Rattle.c25_isa.specs.Table.{FitsForm, IsInstr, first_word, second_word, instr_words, code_words, with_second, fields_second}
 use Rattle.c25_isa.proofs.FormLemmas.{first_word-lt}
 use Rattle.c25_isa.specs.State.{IsStart, BeginsWith, zero_start}
-use Rattle.c25_image.specs.PortText.{IsHexWord, Gives, AllGive, PortText}
+use Rattle.c25_image.specs.PortText.{IsHexWord, IsPortLine, Spells, Gives, AllGive, PortText}
 use Rattle.c25_sim.specs.Taken.{of_sixteen}
 
 -- one to four digits spell a word

@@ -1,9 +1,10 @@
 -- The first piece of each name: the startup, functions by their names, and the routines that are called.
-use Rattle.std.proofs.Common.{◌≡◌, ◌≢◌, ℕ, zero, suc, ◌<◌, Bool, true, false, List, [], ◌∷◌, ◌++◌, length, map, Some, refl, sym, ap, ◌∙◌, arith, All}
+use Rattle.std.proofs.Common.{◌≡◌, ◌≢◌, ℕ, zero, suc, ◌<◌, Bool, true, false, List, [], ◌∷◌, ◌++◌, length, map, Option, Some, None, refl, sym, ap, ◌∙◌, subst, arith, All}
 use Rattle.std.specs.Prelude.{AllPairs, filter, slice_get, slice_index_or, if◌then◌else◌}
 use Rattle.std.specs.Str.{bytes_eq}
 use Rattle.std.proofs.lemmas.Slice.Eq.{bytes_eq-Decides}
 use Rattle.std.proofs.lemmas.Option.{same_Some}
+use Rattle.word_base.specs.Name.{IsName, IsNameStart}
 use Rattle.acc_code.specs.declared.operand.HelperName.{HelperName}
 use Rattle.acc_code.specs.declared.operand.HelperName.TheVariants.{DivInt, DivUnsigned, RemInt, RemUnsigned, ShrInt, ShrUnsigned}
 use Rattle.acc_code.specs.AccTree.{FunctionItems}
@@ -16,6 +17,7 @@ use Rattle.c25_helper.specs.Calls.{pieces_call, called_helper_pieces}
 use Rattle.c25_helper.specs.Routines.{helper_pieces, routine_piece}
 use Rattle.frame_emit.specs.emit_control.Settings.{helper_name, routine_of}
 use Rattle.frame_emit.specs.Emitted.{function_piece, function_pieces}
+use Rattle.frame_emit.specs.Startup.{startup_name}
 
 pub same_name : (a b : List ℕ) → a ≡ b → bytes_eq a b ≡ true
 same_name a b e = (bytes_eq-Decides a b).1 e

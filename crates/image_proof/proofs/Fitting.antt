@@ -1,8 +1,10 @@
 -- The marks of each piece are fit: they differ, and a word stands behind each.
-use Rattle.std.proofs.Common.{◌≡◌, ℕ, suc, ◌≤◌, Bool, true, false, ◌||◌, ◌&&◌, inl, inr, List, [], ◌∷◌, ◌++◌, Some, refl, ap, arith}
+use Rattle.std.proofs.Common.{◌≡◌, ℕ, zero, suc, ◌+◌, ◌≤◌, Bool, true, false, ◌||◌, ◌&&◌, ◌⊎◌, inl, inr, ⊎_elim, List, [], ◌∷◌, ◌++◌, length, map, Some, refl, ap, arith}
 use Rattle.std.specs.Prelude.{◌==◌, nat_le, not, filter, slice_get, if◌then◌else◌}
 use Rattle.std.specs.List.{AllByRecursion}
-use Rattle.std.proofs.lemmas.Bool.{eq-eqb, leb-true}
+use Rattle.std.proofs.lemmas.Bool.{eq-eqb, leb-true, and_left, and_right}
+use Rattle.c_tree.specs.SourceRun.{main_name}
+use Rattle.c_tree.specs.TypedTree.{ObjectTree}
 use Rattle.tree_code.specs.WordTree.{FunctionCode}
 use Rattle.acc_code.specs.AccTree.{FunctionItems}
 use Rattle.acc_code.specs.Emittable.{IsPlaced}
@@ -10,12 +12,18 @@ use Rattle.mem_plan.specs.declared.data_plan.DataPlan.{DataPlan}
 use Rattle.mem_plan.specs.declared.data_plan.FramePlan.{FramePlan}
 use Rattle.c25_isa.specs.declared.piece.PieceItem.{PieceItem}
 use Rattle.c25_isa.specs.declared.piece.PieceItem.TheVariants.{Do, Mark, Jump, CallTo}
+use Rattle.c25_isa.specs.declared.instruction.Instr.{Instr}
+use Rattle.c25_isa.specs.declared.instruction.Instr.TheVariants.{Ssxm}
 use Rattle.c25_isa.specs.Pieces.{Piece, items_size}
+use Rattle.c25_code.specs.Items.{plain_items}
 use Rattle.c25_code.specs.Links.{IsMarkOf, MarksDiffer, MarksAtWords, MarksAreFit, PieceIsFit}
-use Rattle.c25_helper.specs.Routines.{routine_items, helper_pieces}
+use Rattle.c25_code.specs.Startups.{startup_items}
+use Rattle.c25_helper.specs.Routines.{routine_items, routine_piece, helper_pieces}
 use Rattle.c25_helper.specs.declared.routine.Routine.{Routine}
 use Rattle.c25_helper.specs.declared.routine.Routine.TheVariants.{DivInt, DivUnsigned, RemInt, RemUnsigned, ShrInt, ShrUnsigned}
-use Rattle.frame_emit.specs.Emitted.{setting_of, function_pieces}
+use Rattle.frame_emit.specs.Emitted.{setting_of, function_piece, function_pieces}
+use Rattle.frame_emit.specs.Startup.{startup_piece, statics_items, fillings_code, static_words}
+use Rattle.emit_proof.proofs.Entries.{split_mark, plain_mark}
 use Rattle.emit_proof.proofs.Pieces.{piece_once, piece_words}
 use Rattle.emit_proof.proofs.Words.{piece_has_word}
 

@@ -1,11 +1,12 @@
 -- Each routine that a function's items name is called by its piece.
-use Rattle.std.proofs.Common.{◌≡◌, ℕ, zero, suc, ◌+◌, Bool, true, false, ◌||◌, inl, inr, List, [], ◌∷◌, ◌++◌, length, Option, Some, None, refl, sym, ap, subst}
-use Rattle.std.specs.Prelude.{slice_get}
+use Rattle.std.proofs.Common.{◌≡◌, ℕ, zero, suc, ◌+◌, Bool, true, false, ◌||◌, ◌⊎◌, inl, inr, List, [], ◌∷◌, ◌++◌, length, Option, Some, None, refl, sym, ap, ◌∙◌, subst}
+use Rattle.std.specs.Prelude.{◌==◌, slice_get}
+use Rattle.std.specs.List.{list_any}
 use Rattle.std.proofs.lemmas.Option.{same_Some}
 use Rattle.tree_code.specs.WordTree.{FunctionCode}
 use Rattle.acc_code.specs.declared.operand.HelperName.{HelperName}
 use Rattle.acc_code.specs.declared.operation.Test.{Test}
-use Rattle.acc_code.specs.AccTree.{Op, If, Loop, Switch, Case, Clear, Call, Helper, Break, Continue, Return, ItemList, end, item, FunctionItems}
+use Rattle.acc_code.specs.AccTree.{Item, Op, If, Loop, Switch, Case, Clear, Call, Helper, Break, Continue, Return, ItemList, end, item, FunctionItems}
 use Rattle.mem_plan.specs.declared.data_plan.DataPlan.{DataPlan}
 use Rattle.mem_plan.specs.declared.data_plan.FramePlan.{FramePlan}
 use Rattle.c25_isa.specs.declared.piece.PieceItem.{PieceItem}
@@ -14,12 +15,12 @@ use Rattle.c25_code.specs.Items.{plain_items, entry_code}
 use Rattle.c25_helper.specs.Calls.{item_calls, items_call, pieces_call}
 use Rattle.emit_blocks.specs.Steps.{Operation, operation}
 use Rattle.frame_emit.specs.emit_control.declared.ways.Ways.{Ways}
-use Rattle.frame_emit.specs.emit_control.Entries.{Entry, Run, Head, Place, Close, Branch, Goto, Dispatch, CallTo, CallHelper, Wipe, Ret, Finish}
+use Rattle.frame_emit.specs.emit_control.Entries.{Entry, Run, Head, Place, Close, Branch, Goto, Dispatch, CallTo, CallHelper, Wipe, Ret, Finish, flushed}
 use Rattle.frame_emit.specs.emit_control.Flow.{Part, labels, item_labels, is_end, target, if_code, loop_code, behind_label, behind_jump, inner, next_behind, first_ways, turn_ways, third_ways, switch_ways, emit, body_entries}
 use Rattle.frame_emit.specs.emit_control.Cuts.{State, begun, cut, entry_items, behind_entry, function_items}
 use Rattle.frame_emit.specs.emit_control.Settings.{Setting, helper_name}
 use Rattle.frame_emit.specs.Emitted.{setting_of, function_piece, function_pieces}
-use Rattle.emit_proof.specs.Calls.{StandsIn}
+use Rattle.emit_proof.specs.Calls.{StandsIn, StandsWithin}
 use Rattle.emit_proof.proofs.Anywhere.{Later, PartKeeps, kept_anywhere, flush_keeps, if_keeps, loop_keeps}
 use Rattle.image_proof.proofs.Finding.{same_name}
 

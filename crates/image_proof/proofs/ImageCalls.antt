@@ -1,5 +1,5 @@
 -- A call of a function that stands at its name comes back behind itself with what the function does, at whatever depth.
-use Rattle.std.proofs.Common.{◌≡◌, inl, Bool, false, ℕ, zero, suc, ◌+◌, ◌<◌, ◌≤◌, List, [], ◌∷◌, length, map, Option, Some, None, refl, sym, ap, ◌∙◌, subst, arith, append-nil}
+use Rattle.std.proofs.Common.{◌≡◌, ◌⊎◌, inl, Bool, false, ℕ, zero, suc, ◌+◌, ◌*◌, ◌<◌, ◌≤◌, List, [], ◌∷◌, ◌++◌, length, map, Option, Some, None, refl, sym, ap, ◌∙◌, subst, arith, append-nil}
 use Rattle.std.specs.Prelude.{slice_get}
 use Rattle.c_tree.specs.declared.program.VarRef.{VarRef}
 use Rattle.c_tree.specs.declared.program.VarRef.TheVariants.{Scalar, Local, Static}
@@ -31,13 +31,13 @@ use Rattle.ir_semantics.specs.AccRows.{Gone, low_half}
 use Rattle.ir_semantics.specs.AccRun.{Machine, Context, run, cells_of, entered, left, at_most_low, back, called, call_within}
 use Rattle.frame_emit.specs.emit_control.Cuts.{begun, cut, function_items}
 use Rattle.frame_emit.specs.emit_control.Flow.{body_entries}
-use Rattle.frame_emit.specs.emit_control.Settings.{Setting, name_or_none}
+use Rattle.frame_emit.specs.emit_control.Settings.{Setting, name_or_none, function_name}
 use Rattle.frame_emit.specs.Emitted.{setting_of}
 use Rattle.emit_proof.specs.Calls.{StandsIn}
 use Rattle.emit_proof.proofs.Words.{cut_word, body_finishes}
 use Rattle.image_proof.specs.PlanPlaces.{places_of}
 use Rattle.emit_proof.specs.Sites.{Site, IsSite, Beside, with_stack}
-use Rattle.emit_proof.specs.Arrivals.{Begun, ComesTo, MeetsCall}
+use Rattle.emit_proof.specs.Arrivals.{Begun, ComesTo, ComesToEnd, StillRuns, MeetsCall}
 use Rattle.emit_proof.specs.Entries.{EntriesAt}
 use Rattle.emit_proof.specs.Code.{IsPresent, HelperStands, ItemStands, CallsMeet, CodeStands}
 use Rattle.emit_proof.proofs.OperationRunning.{runs_meet}

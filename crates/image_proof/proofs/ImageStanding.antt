@@ -1,5 +1,5 @@
 -- The functions of a program stand in memory that begins with its image.
-use Rattle.std.proofs.Common.{◌≡◌, ◌≢◌, inl, inr, ℕ, zero, suc, ◌<◌, false, List, [], ◌∷◌, ◌++◌, length, map, Option, Some, refl, sym, ap, ap₂, ◌∙◌, subst, arith, All}
+use Rattle.std.proofs.Common.{◌≡◌, ◌≢◌, inl, inr, ℕ, zero, suc, ◌+◌, ◌<◌, ◌≤◌, Bool, true, false, List, [], ◌∷◌, ◌++◌, length, map, Option, Some, None, refl, sym, ap, ap₂, ◌∙◌, subst, arith, All}
 use Rattle.std.specs.Prelude.{AllPairs, slice_get, slice_index, option_map}
 use Rattle.std.specs.List.{AllByRecursion}
 use Rattle.std.proofs.lemmas.List.Elements.{All-cons}
@@ -9,7 +9,7 @@ use Rattle.c_tree.specs.SourceRun.{main_name}
 use Rattle.c_tree.specs.declared.program.VarRef.{VarRef}
 use Rattle.c_tree.specs.declared.program.VarRef.TheVariants.{Scalar, Local, Static}
 use Rattle.c_tree.specs.TypedTree.{ObjectTree}
-use Rattle.tree_code.specs.WellFormedCode.{IsFunctionCode, IsObjectAmong}
+use Rattle.tree_code.specs.WellFormedCode.{IsCode, IsFunctionCode, IsObjectAmong}
 use Rattle.tree_code.specs.WordTree.{FunctionCode}
 use Rattle.acc_code.specs.declared.operand.HelperName.{HelperName}
 use Rattle.acc_code.specs.declared.operand.HelperName.TheVariants.{DivInt, DivUnsigned, RemInt, RemUnsigned, ShrInt, ShrUnsigned}
@@ -19,12 +19,13 @@ use Rattle.acc_select.specs.IsSelected.{IsEmittableFunction}
 use Rattle.mem_plan.specs.Plan.{frame_of}
 use Rattle.mem_plan.specs.declared.data_plan.DataPlan.{DataPlan}
 use Rattle.mem_plan.specs.declared.data_plan.FramePlan.{FramePlan}
+use Rattle.c25_isa.specs.declared.piece.PieceItem.{PieceItem}
 use Rattle.c25_isa.specs.declared.piece.PieceItem.TheVariants.{Do}
 use Rattle.c25_isa.specs.declared.instruction.Instr.{Instr}
 use Rattle.c25_isa.specs.declared.instruction.Instr.TheVariants.{Ssxm}
 use Rattle.c25_isa.specs.State as machine
 use Rattle.c25_isa.specs.State.{Memory}
-use Rattle.c25_isa.specs.Pieces.{Piece}
+use Rattle.c25_isa.specs.Pieces.{Piece, items_size, ItemsAt}
 use Rattle.c25_code.specs.Items.{plain_items}
 use Rattle.c25_code.specs.Links.{IsMarkOf, MarksDiffer, PieceIsFit, AllStand, address_of, marks_of, first_piece}
 use Rattle.c25_code.proofs.Startups.{startup_marks_fit}
@@ -34,16 +35,17 @@ use Rattle.c25_helper.proofs.HelperPieces.{each_answers}
 use Rattle.ir_semantics.specs.AccRun.{cells_of}
 use Rattle.frame_emit.specs.emit_control.Settings.{helper_name, routine_of, name_or_none}
 use Rattle.frame_emit.specs.Emitted.{function_piece, function_pieces, behind_startup}
-use Rattle.frame_emit.specs.Startup.{startup_name, startup_piece, statics_items, fillings_code}
+use Rattle.frame_emit.specs.Frames.{all_parameters, scalar_places}
+use Rattle.frame_emit.specs.Startup.{startup_name, startup_piece, statics_items, fillings_code, clearing_items, static_words}
 use Rattle.emit_blocks.specs.Places.{Places}
 use Rattle.emit_proof.specs.Calls.{StandsIn}
 use Rattle.image_proof.specs.Emissions.{Emission, IsEmission}
-use Rattle.image_proof.specs.ActiveSites.{parameters_of}
+use Rattle.image_proof.specs.ActiveSites.{parameters_of, site_of}
 use Rattle.image_proof.proofs.Frames.{FrameAt, frame_at}
 use Rattle.image_proof.proofs.Placed.{places_long}
 use Rattle.image_proof.proofs.Sites.{setting_places}
 use Rattle.image_proof.specs.Keeping.{own_pieces, all_pieces, AreUsable}
-use Rattle.image_proof.proofs.ImageCalls.{FunctionAt, names_in}
+use Rattle.image_proof.proofs.ImageCalls.{FunctionAt, names_in, setting_in}
 use Rattle.image_proof.proofs.Finding.{found_behind, found_later, called_routine, function_found}
 use Rattle.image_proof.proofs.Fitting.{both_fit, chosen_fit, functions_fit, routines_fit}
 use Rattle.image_proof.proofs.Helping.{functions_call, some_piece}

@@ -1,7 +1,7 @@
 -- The runs of an image's functions, and the scalars of their frames as the lists have them, give a walk their blocks.
 use Rattle.std.proofs.Common.{◌≡◌, ◌<◌, ◌≤◌, ℕ, zero, suc, ◌+◌, ◌||◌, Bool, true, false, cond, List, [], ◌∷◌, ◌++◌, length, map, Option, Some, None, refl, sym, ap, ap₂, ◌∙◌, subst, lt-ltb, arith}
 use Rattle.std.specs.Prelude.{⊤, ◌==◌, if◌then◌else◌, slice_get, slice_index, count_by, All}
-use Rattle.std.specs.List.{concat, AllByRecursion}
+use Rattle.std.specs.List.{concat, list_any, AllByRecursion}
 use Rattle.std.proofs.lemmas.List.Elements.{All-from_recursion}
 use Rattle.std.proofs.lemmas.List.Sums.{sum_by-append}
 use Rattle.std.proofs.lemmas.Option.{same_Some, slice_get_within}
@@ -28,7 +28,7 @@ use Rattle.emit_blocks.specs.Right.{IsRight, AreRight}
 use Rattle.emit_blocks.specs.Steps.{Operation, operation}
 use Rattle.image_proof.specs.emit_control.declared.ways.Ways.{Ways}
 use Rattle.image_proof.specs.emit_control.Emits.{IsRightItem}
-use Rattle.image_proof.specs.emit_control.Entries.{Entry, Run, Branch, Goto, flushed}
+use Rattle.image_proof.specs.emit_control.Entries.{Entry, Run, Place, Close, Branch, Goto, flushed}
 use Rattle.image_proof.specs.emit_control.Flow.{Part, labels, item_labels, is_end, opposite, target, goto, if_code, loop_code, behind_label, behind_jump, inner, first_ways, turn_ways, third_ways, switch_ways, emit, body_entries}
 use Rattle.image_proof.specs.emit_control.Settings.{Setting}
 use Rattle.image_proof.specs.frame_emit.Emitted.{setting_of}

@@ -1,6 +1,6 @@
 -- A program from a reset: the startup, the call of `main`, and the end.
-use Rattle.std.proofs.Common.{◌≡◌, ℕ, zero, suc, ◌+◌, ◌*◌, ◌≤◌, Bool, true, false, List, [], ◌∷◌, length, map, Option, Some, None, refl, sym, ap, ◌∙◌, subst, arith, append-nil}
-use Rattle.std.specs.Prelude.{slice_get, if◌then◌else◌}
+use Rattle.std.proofs.Common.{◌≡◌, ℕ, zero, suc, ◌+◌, ◌*◌, ◌<◌, ◌≤◌, Bool, true, false, List, [], ◌∷◌, ◌++◌, length, map, Option, Some, None, refl, sym, ap, ◌∙◌, subst, arith, append-nil}
+use Rattle.std.specs.Prelude.{slice_get, if◌then◌else◌, option_map}
 use Rattle.std.specs.Str.{bytes_eq}
 use Rattle.std.proofs.lemmas.Option.{same_Some, slice_get-get_or}
 use Rattle.std.proofs.lemmas.Slice.Eq.{bytes_eq-Decides}
@@ -10,7 +10,8 @@ use Rattle.word_base.specs.Ports.{Input, IsInput, Outputs, Prefix}
 use Rattle.c_tree.specs.SourceRun.{main_name}
 use Rattle.c_tree.specs.TypedOfWords.{StartsWithWords}
 use Rattle.tree_code.specs.WordTree.{FunctionCode}
-use Rattle.c25_isa.specs.declared.instruction.Instr.TheVariants.{Call as CallInstr}
+use Rattle.acc_code.specs.AccTree.{FunctionItems}
+use Rattle.c25_isa.specs.declared.instruction.Instr.TheVariants.{Idle, Call as CallInstr}
 use Rattle.c25_isa.specs.Image.{Contents}
 use Rattle.c25_isa.specs.State as machine
 use Rattle.c25_isa.specs.State.{Start, IsStart, BeginsWith}
@@ -21,7 +22,7 @@ use Rattle.c25_isa.specs.MachineRun as runs
 use Rattle.c25_isa.specs.MachineRun.{reset, run_from, machine_run, outputs_reached}
 use Rattle.c25_isa.specs.Pieces.{Linked, PiecesFit}
 use Rattle.c25_isa.proofs.Leads.{leads_on, leads_to_end}
-use Rattle.c25_code.specs.Work.{calm}
+use Rattle.c25_code.specs.Work.{Work, calm, work_of}
 use Rattle.c25_code.specs.Items.{no_change}
 use Rattle.c25_code.specs.Links.{pieces_size, AllStand, address_of, marks_of}
 use Rattle.c25_code.proofs.Calm.{calmed}
@@ -46,7 +47,7 @@ use Rattle.image_proof.proofs.Facts.{main_there}
 use Rattle.image_proof.proofs.Sites.{nothing_is_kept}
 use Rattle.image_proof.specs.Starts.{StartsRight}
 use Rattle.image_proof.proofs.Startups.{startup_starts}
-use Rattle.image_proof.specs.Keeping.{MachineKeeps, all_pieces, AreUsable}
+use Rattle.image_proof.specs.Keeping.{MachineKeeps, own_pieces, all_pieces, AreUsable}
 use Rattle.image_proof.proofs.ImageCalls.{BodiesMeet, Enters, Leaves, call_meets, names_in}
 use Rattle.image_proof.proofs.ImageStanding.{pieces_fit, function_at, names_same}
 

@@ -1,5 +1,5 @@
 -- Instructions in which a walk finds nothing, whatever it knows before them.
-use Rattle.std.specs.Prelude.{Bool, true, false, not, ◌&&◌, Option, Some, None}
+use Rattle.std.specs.Prelude.{Bool, true, false, not, ◌&&◌, [], Option, Some, None}
 use Rattle.c25_isa.specs.declared.operand.Indirect.{Indirect}
 use Rattle.c25_isa.specs.declared.instruction.Instr.{Instr}
 use Rattle.c25_isa.specs.Walk.{nothing_known, access_operand}

@@ -1,5 +1,5 @@
 -- By the walk of its piece, wherever that is linked.
-use Rattle.std.proofs.Common.{refl, ap, ◌∙◌}
+use Rattle.std.proofs.Common.{ℕ, refl, ap, ◌∙◌}
 use Rattle.c25_isa.specs.Pieces.{piece_address, items_size, range_of}
 use Rattle.c25_isa.specs.Walk.{Blocks}
 use Rattle.image_proof.specs.frame_emit.Emitted.{function_piece}
