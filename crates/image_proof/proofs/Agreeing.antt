@@ -1,9 +1,7 @@
 -- What keeps what keeps: from a typed program over its accumulator code to the machine.
-use Rattle.std.proofs.Common.{◌≡◌, ℕ, ◌+◌, ◌*◌, ◌<◌, ◌≤◌, List, ◌++◌, Option, Some, None, refl, sym, ap, ◌∙◌, subst, arith, append_assoc, append-nil}
-use Rattle.std.proofs.lemmas.Option.{none-some, same_Some}
+use Rattle.std.proofs.Common.{◌≡◌, ℕ, ◌+◌, ◌*◌, ◌≤◌, ◌++◌, refl, sym, ap, ◌∙◌, arith, append_assoc, append-nil}
 use Rattle.word_base.specs.declared.outcome.Ending.{Ending}
 use Rattle.word_base.specs.declared.outcome.Outcome.{Outcome}
-use Rattle.word_base.specs.declared.outcome.Outcome.TheVariants as source
 use Rattle.word_base.specs.Ports.{Outputs, Prefix}
 use Rattle.c25_isa.specs.Agrees.{Steps, AgreesAt}
 use Rattle.c25_isa.specs.MachineRun as machine

@@ -10,7 +10,6 @@ use Rattle.c_tree.specs.SourceRun.{source_run}
 use Rattle.c_tree.specs.TypedTree.{ProgramTree}
 use Rattle.c25_isa.specs.Agrees.{Agrees, AgreesAt}
 use Rattle.c25_isa.specs.declared.event.Stop.{Stop}
-use Rattle.c25_isa.specs.declared.event.Stop.TheVariants as stop
 use Rattle.c25_isa.specs.declared.trap.TrapKind.{TrapKind}
 use Rattle.c25_isa.specs.MachineRun.{Reached, Running, Ended, Stopped, HasStopped, outputs_reached, machine_run}
 use Rattle.c25_isa.specs.State.{Start, IsStart, BeginsWith}

@@ -1,5 +1,5 @@
 -- Images that end in time, by the work of the source.
-use Rattle.std.specs.Prelude.{◌≡◌, ◌≤◌, ◌<◌, ℕ, ◌+◌, ◌*◌, List}
+use Rattle.std.specs.Prelude.{◌≡◌, ◌≤◌, ℕ, ◌+◌, ◌*◌, List}
 use Rattle.word_base.specs.declared.outcome.Ending.{Ending}
 use Rattle.word_base.specs.Ports.{Input, IsInput, Outputs}
 use Rattle.c_tree.specs.TypedTree.{ProgramTree}

@@ -32,7 +32,7 @@ sum = refl
 ended : worked_run (program_of (Return (Some (node (Binary op.Add (node (In 0)) (node (Const 2))))))) (λ p. []) 0 ≡ Ended [] (InputEnded 0) (10 + (3 + (24 + 4)))
 ended = refl
 
--- two turns behind three tests
+-- two turns, and three tests
 abbrev counting : Stmt
 counting = Block (name.Scalar 0 ∷ []) (both (Do_expr (node (Assign (Named (name.Scalar 0) 0) (node (Const 0)))))
     (both (While (node (Binary op.Lt (node (StepBefore true (Named (name.Scalar 0) 0))) (node (Const 3)))) (Do_expr (node (Const 0)))) done))
@@ -64,7 +64,7 @@ does s cost = worked_run (program_of (Block (name.Scalar 0 ∷ []) (both (Do_exp
 updates : does (Do_expr (node (AssignOp op.Add (Named (name.Scalar 0) 0) one))) (1 + (48 + 2)) × does (If nought Break (Do_expr one)) (6 + (2 + (1 + 2)))
 updates = (refl, refl)
 
--- a loop that is left in its first turn, one that ends behind its second turn, and one behind its first
+-- a loop that is left in its first turn, one that ends after two turns, and one after one
 loops : does (For None None None Break) (14 + (14 + 2)) × does (For None (Some (node (Binary op.Lt (node (Read (name.Scalar 0))) (node (Const 2))))) (Some (node (StepBefore true (Named (name.Scalar 0) 0)))) Continue) (14 + (3 * (24 + (5 + 2)) + 2 * (14 + (2 + 14))))
     × does (Do_while (Do_expr one) nought) (14 + (14 + ((1 + 2) + 2)))
 loops = (refl, refl, refl)

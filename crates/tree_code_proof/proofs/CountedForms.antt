@@ -15,7 +15,7 @@ use Rattle.c_tree.specs.Eval.{Env, Spot, object_number, points, kind_of, lvalue_
 use Rattle.ir_semantics.specs.SourceWork.{Work, no_work, in_turn, CallsWork, truth_of, old_value, expression_work, lvalue_work, arguments_work}
 use Rattle.tree_code_proof.specs.Counted.{Does, ◌>>=◌, give, ticked, load, save, take_word, counted, free}
 use Rattle.tree_code_proof.specs.Evaluated.{some, need, choose, test_of, spot_of, of_two, of_one, stepped, emit, calling, value, eval, values, condition}
-use Rattle.tree_code_proof.proofs.Counting.{counted_behind, counted_nothing, bind_counted, bind_first, bind_free, bind_tested, bind_old, then_same, chosen_counted}
+use Rattle.tree_code_proof.proofs.Counting.{counted_node, counted_nothing, bind_counted, bind_first, bind_free, bind_tested, bind_old, then_same, chosen_counted}
 
 module _ (calls : plain.Calls) (work : CallsWork) (env : Env) where
   abbrev does : Expr → Does Value
@@ -45,7 +45,7 @@ module _ (calls : plain.Calls) (work : CallsWork) (env : Env) where
 
   -- a node with one operand
   one_counted : (k : ℕ) (e : Expr) (g : Value → store.Does (Option Value)) → counted (store.◌>>=◌ (word e) g) (λ w. k + cost e w) ≡ ticked k (does e >>= λ v. free (g v))
-  one_counted k e g = counted_behind (store.◌>>=◌ (word e) g) k (cost e) ∙ ap (ticked k) (bind_first g (word e) (cost e))
+  one_counted k e g = counted_node (store.◌>>=◌ (word e) g) k (cost e) ∙ ap (ticked k) (bind_first g (word e) (cost e))
 
   pub load_counted : (e : Expr) (kind : Kind) (at : ℕ) → eval calls work env (Node (tree.Load e) kind at) ≡ ticked 5 (does e >>= λ p. spot_of p at >>= λ s. load s.0 s.1 (points kind) at >>= some)
   load_counted e kind at =
@@ -73,7 +73,7 @@ module _ (calls : plain.Calls) (work : CallsWork) (env : Env) where
 
   pub convert_away_counted : (e : Expr) (at : ℕ) → eval calls work env (Node (tree.Convert e) None at) ≡ ticked 1 (eval calls work env e >>= λ _. give None)
   convert_away_counted e at =
-      counted_behind (store.◌>>=◌ (plain.eval calls env e) (λ _. store.give None)) 1 (cost e) ∙ ap (ticked 1) (bind_first (λ _. store.give None) (plain.eval calls env e) (cost e))
+      counted_node (store.◌>>=◌ (plain.eval calls env e) (λ _. store.give None)) 1 (cost e) ∙ ap (ticked 1) (bind_first (λ _. store.give None) (plain.eval calls env e) (cost e))
 
   pub assign_name_counted : (v : VarRef) (place : ℕ) (e : Expr) (kind : Kind) (at : ℕ)
       → eval calls work env (Node (tree.Assign (Named v place) e) kind at) ≡ ticked 19 (does e >>= λ x. save (object_number env v) 0 (points kind) x place >>= some)
@@ -83,7 +83,7 @@ module _ (calls : plain.Calls) (work : CallsWork) (env : Env) where
 
   -- a node with two operands, of which both are evaluated
   two_counted : {A B : Type 0} (k : ℕ) (f : store.Does A) (a b : Expr) (h : A → store.Does B) → counted (store.◌>>=◌ f h) (λ w. k + in_turn f (cost a) (λ _. cost b) w) ≡ ticked k (counted f (cost a) >>= λ v. counted (h v) (cost b))
-  two_counted k f a b h = counted_behind (store.◌>>=◌ f h) k (in_turn f (cost a) (λ _. cost b)) ∙ ap (ticked k) (bind_counted f h (cost a) (λ _. cost b))
+  two_counted k f a b h = counted_node (store.◌>>=◌ f h) k (in_turn f (cost a) (λ _. cost b)) ∙ ap (ticked k) (bind_counted f h (cost a) (λ _. cost b))
 
   pub binary_counted : (o : BinaryOp) (a b : Expr) (kind : Kind) (at : ℕ)
       → eval calls work env (Node (tree.Binary o a b) kind at) ≡ ticked 24 (does a >>= λ v. does b >>= λ u. of_two o (kind_of a) (kind_of b) v u at >>= some)
@@ -111,7 +111,7 @@ module _ (calls : plain.Calls) (work : CallsWork) (env : Env) where
       → counted (store.◌>>=◌ (word a) (λ v. store.◌>>=◌ (plain.test_of v at) (λ t. plain.choose t f g))) (λ w. k + in_turn (truth_of calls work env a at) (cost a) (λ t. if t then hit else miss) w)
       ≡ ticked k (does a >>= λ v. test_of v at >>= λ t. choose t (counted f hit) (counted g miss))
   test_counted k a at f g hit miss =
-      counted_behind (store.◌>>=◌ (word a) (λ v. store.◌>>=◌ (plain.test_of v at) (λ t. plain.choose t f g))) k (in_turn (truth_of calls work env a at) (cost a) (λ t. if t then hit else miss))
+      counted_node (store.◌>>=◌ (word a) (λ v. store.◌>>=◌ (plain.test_of v at) (λ t. plain.choose t f g))) k (in_turn (truth_of calls work env a at) (cost a) (λ t. if t then hit else miss))
       ∙ ap (ticked k) (bind_tested (word a) (λ v. plain.test_of v at) (λ t. plain.choose t f g) (cost a) (λ t. if t then hit else miss)
       ∙ then_same (does a) (λ v. then_same (test_of v at) (λ t. chosen_counted t f g hit miss)))
 
@@ -168,7 +168,7 @@ module _ (calls : plain.Calls) (work : CallsWork) (env : Env) where
       let saved : Spot → Value → Value → store.Does (Option Value) = λ s x z. store.◌>>=◌ (store.save s.0 s.1 p z m) (last x) in
       let next : Spot → Value → store.Does (Option Value) = λ s x. store.◌>>=◌ (plain.stepped up kind x at) (saved s x) in
       let read : Spot → store.Does (Option Value) = λ s. store.◌>>=◌ (store.load s.0 s.1 p m) (next s) in
-      counted_behind (store.◌>>=◌ (plain.spot calls env l) read) 14 (lvalue_work calls work env l)
+      counted_node (store.◌>>=◌ (plain.spot calls env l) read) 14 (lvalue_work calls work env l)
       ∙ ap (ticked 14) (bind_first read (plain.spot calls env l) (lvalue_work calls work env l)
       ∙ then_same (lies l) (λ s. bind_free (next s) (store.load s.0 s.1 p m)
       ∙ then_same (load s.0 s.1 p m) (λ x. bind_free (saved s x) (plain.stepped up kind x at) ∙ then_same (stepped up kind x at) (λ z. bind_free (last x) (store.save s.0 s.1 p z m)))))
@@ -179,7 +179,7 @@ module _ (calls : plain.Calls) (work : CallsWork) (env : Env) where
   update_counted o l e kind at =
       let p = points kind in
       let m = lvalue_place l in
-      counted_behind (form_of (tree.AssignOp o l e) kind at) 48 (in_turn (old_value calls work env l p) (lvalue_work calls work env l) (λ _. cost e))
+      counted_node (form_of (tree.AssignOp o l e) kind at) 48 (in_turn (old_value calls work env l p) (lvalue_work calls work env l) (λ _. cost e))
       ∙ ap (ticked 48) (old_counted l p (λ s x. store.◌>>=◌ (word e) (λ y. store.◌>>=◌ (plain.of_two o kind (kind_of e) x y at) (λ z. store.◌>>=◌ (store.save s.0 s.1 p z m) plain.some))) (cost e)
       ∙ then_same (lies l) (λ s. then_same (load s.0 s.1 p m) (λ x. bind_first (λ y. store.◌>>=◌ (plain.of_two o kind (kind_of e) x y at) (λ z. store.◌>>=◌ (store.save s.0 s.1 p z m) plain.some)) (word e) (cost e)
       ∙ then_same (does e) (λ y. bind_free (λ z. store.◌>>=◌ (store.save s.0 s.1 p z m) plain.some) (plain.of_two o kind (kind_of e) x y at)
@@ -237,13 +237,13 @@ module _ (calls : plain.Calls) (work : CallsWork) (env : Env) where
   -- calls
   pub values_counted : (e : Expr) (rest : Exprs) → values calls work env (more e rest) ≡ ticked 12 (does e >>= λ v. values calls work env rest >>= λ vs. give (v ∷ vs))
   values_counted e rest =
-      counted_behind (plain.values calls env (more e rest)) 12 (in_turn (word e) (cost e) (λ _. arguments_work calls work env rest))
+      counted_node (plain.values calls env (more e rest)) 12 (in_turn (word e) (cost e) (λ _. arguments_work calls work env rest))
       ∙ ap (ticked 12) (bind_counted (word e) (λ v. store.◌>>=◌ (plain.values calls env rest) (λ vs. store.give (v ∷ vs))) (cost e) (λ _. arguments_work calls work env rest)
       ∙ then_same (does e) (λ v. bind_first (λ vs. store.give (v ∷ vs)) (plain.values calls env rest) (arguments_work calls work env rest)))
 
   pub call_counted : (f : ℕ) (es : Exprs) (kind : Kind) (at : ℕ) → eval calls work env (Node (tree.Call f es) kind at) ≡ ticked 2 (values calls work env es >>= calling calls work f)
   call_counted f es kind at =
-      counted_behind (store.◌>>=◌ (plain.values calls env es) (calls f)) 2 (in_turn (plain.values calls env es) (arguments_work calls work env es) (work f))
+      counted_node (store.◌>>=◌ (plain.values calls env es) (calls f)) 2 (in_turn (plain.values calls env es) (arguments_work calls work env es) (work f))
       ∙ ap (ticked 2) (bind_counted (plain.values calls env es) (calls f) (arguments_work calls work env es) (work f))
 
   -- a test of a statement

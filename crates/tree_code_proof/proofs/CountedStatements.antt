@@ -21,7 +21,7 @@ use Rattle.tree_code_proof.specs.Counted.{Does, ◌>>=◌, give, ticked, counted
 use Rattle.tree_code_proof.specs.Evaluated as evaluation
 use Rattle.tree_code_proof.specs.Evaluated.{choose}
 use Rattle.tree_code_proof.specs.Executed.{enter, leave, fill, pass, after_turn, in_order, behind_switch, turns, turns_first, third_of, test_or_true, exec, exec_all, from_case, from_default, run_choices, call_function}
-use Rattle.tree_code_proof.proofs.Counting.{counted_behind, counted_nothing, bind_counted, bind_later, bind_first, bind_free, then_same, first_same, chosen_counted}
+use Rattle.tree_code_proof.proofs.Counting.{counted_node, counted_nothing, bind_counted, bind_later, bind_first, bind_free, then_same, first_same, chosen_counted}
 
 chosen_free : {A : Type 0} (t : Bool) (f g : store.Does A) → free (evaluated.choose t f g) ≡ choose t (free f) (free g)
 chosen_free true f g = refl
@@ -46,7 +46,7 @@ part p = counted p.does p.work
 turn_counted : (each : Part Flow) (again : store.Does Flow) (w : Work) (next : Does Flow) → counted again w ≡ next
     → counted (store.◌>>=◌ each.does (λ flow. plain.after_turn flow again)) (turn_work each w) ≡ ticked 14 (part each >>= λ flow. after_turn flow next)
 turn_counted each again w next is =
-    counted_behind (store.◌>>=◌ each.does (λ flow. plain.after_turn flow again)) 14 (in_turn each.does each.work (λ flow. after_turn_work flow w))
+    counted_node (store.◌>>=◌ each.does (λ flow. plain.after_turn flow again)) 14 (in_turn each.does each.work (λ flow. after_turn_work flow w))
     ∙ ap (ticked 14) (bind_counted each.does (λ flow. plain.after_turn flow again) each.work (λ flow. after_turn_work flow w)
     ∙ then_same (part each) (λ flow. after_turn_counted flow again w ∙ ap (after_turn flow) is))
 
@@ -105,7 +105,7 @@ module _ (calls : evaluated.Calls) (work : CallsWork) where
     block_counted declared ss env =
         let last : List ℕ → Flow → store.Does Flow = λ numbers flow. store.◌>>=◌ (plain.leave numbers) (λ _. store.give flow) in
         let body : Env × List ℕ → store.Does Flow = λ e. store.◌>>=◌ (plain.exec_all calls n ss e.0) (last e.1) in
-        counted_behind (store.◌>>=◌ (plain.enter declared env) body) 1 (λ w. following (plain.enter declared env w) (λ e. exec_all_work calls work n ss e.0))
+        counted_node (store.◌>>=◌ (plain.enter declared env) body) 1 (λ w. following (plain.enter declared env w) (λ e. exec_all_work calls work n ss e.0))
         ∙ ap (ticked 1) (bind_later (plain.enter declared env) body (λ e. exec_all_work calls work n ss e.0)
         ∙ then_same (enter declared env) (λ e. bind_first (last e.1) (plain.exec_all calls n ss e.0) (exec_all_work calls work n ss e.0)
         ∙ then_same (exec_all calls work n ss e.0) (λ flow. bind_free (λ _. store.give flow) (plain.leave e.1))))
@@ -115,12 +115,12 @@ module _ (calls : evaluated.Calls) (work : CallsWork) where
 
     pub do_counted : (e : Expr) (env : Env) → does (tree.Do_expr e) env ≡ ticked 1 (evaluation.eval calls work env e >>= λ _. give Next)
     do_counted e env =
-        counted_behind (stmt (tree.Do_expr e) env) 1 (expression_work calls work env e) ∙ ap (ticked 1) (bind_first (λ _. store.give Next) (evaluated.eval calls env e) (expression_work calls work env e))
+        counted_node (stmt (tree.Do_expr e) env) 1 (expression_work calls work env e) ∙ ap (ticked 1) (bind_first (λ _. store.give Next) (evaluated.eval calls env e) (expression_work calls work env e))
 
     pub if_counted : (e : Expr) (a b : Stmt) (env : Env) → does (tree.If e a b) env ≡ ticked 6 (evaluation.condition calls work env e >>= λ t. choose t (does a env) (does b env))
     if_counted e a b env =
         let arms : Bool → Work = λ t. if t then exec_work calls work n a env else exec_work calls work n b env in
-        counted_behind (stmt (tree.If e a b) env) 6 (in_turn (evaluated.condition calls env e) (expression_work calls work env e) arms)
+        counted_node (stmt (tree.If e a b) env) 6 (in_turn (evaluated.condition calls env e) (expression_work calls work env e) arms)
         ∙ ap (ticked 6) (bind_counted (evaluated.condition calls env e) (λ t. evaluated.choose t (stmt a env) (stmt b env)) (expression_work calls work env e) arms
         ∙ then_same (evaluation.condition calls work env e) (λ t. chosen_counted t (stmt a env) (stmt b env) (exec_work calls work n a env) (exec_work calls work n b env)))
 
@@ -129,20 +129,20 @@ module _ (calls : evaluated.Calls) (work : CallsWork) where
 
     pub while_counted : (e : Expr) (s : Stmt) (env : Env) → does (tree.While e s) env ≡ ticked 14 (turns n (evaluation.condition calls work env e) (does s env) (give (tt {0})))
     while_counted e s env =
-        counted_behind (stmt (tree.While e s) env) 14 (turns_work n (costs.test_part calls work n e env) (each s env) (costs.third_part calls work n None env))
+        counted_node (stmt (tree.While e s) env) 14 (turns_work n (costs.test_part calls work n e env) (each s env) (costs.third_part calls work n None env))
         ∙ ap (ticked 14) (turns_counted n (costs.test_part calls work n e env) (each s env) (costs.third_part calls work n None env)
         ∙ ap (turns n (evaluation.condition calls work env e) (does s env)) (no_third_counted env))
 
     pub do_while_counted : (s : Stmt) (e : Expr) (env : Env) → does (tree.Do_while s e) env ≡ ticked 14 (turns_first n (does s env) (evaluation.condition calls work env e))
     do_while_counted s e env =
-        counted_behind (stmt (tree.Do_while s e) env) 14 (turns_first_work n (each s env) (costs.test_part calls work n e env)) ∙ ap (ticked 14) (turns_first_counted n (each s env) (costs.test_part calls work n e env))
+        counted_node (stmt (tree.Do_while s e) env) 14 (turns_first_work n (each s env) (costs.test_part calls work n e env)) ∙ ap (ticked 14) (turns_first_counted n (each s env) (costs.test_part calls work n e env))
 
     pub for_counted : (x y z : Option Expr) (s : Stmt) (env : Env)
         → does (tree.For x y z s) env ≡ ticked 14 (third_of calls work env x >>= λ _. turns n (test_or_true calls work env y) (does s env) (third_of calls work env z))
     for_counted x y z s env =
         let loop : store.Does Flow = plain.turns n (plain.test_or_true calls env y) (stmt s env) (plain.third_of calls env z) in
         let loop_work : Work = turns_work n (costs.optional_test_part calls work n y env) (each s env) (costs.third_part calls work n z env) in
-        counted_behind (stmt (tree.For x y z s) env) 14 (in_turn (plain.third_of calls env x) (optional_work calls work env x) (λ _. loop_work))
+        counted_node (stmt (tree.For x y z s) env) 14 (in_turn (plain.third_of calls env x) (optional_work calls work env x) (λ _. loop_work))
         ∙ ap (ticked 14) (bind_counted (plain.third_of calls env x) (λ _. loop) (optional_work calls work env x) (λ _. loop_work)
         ∙ then_same (third_of calls work env x) (λ _. turns_counted n (costs.optional_test_part calls work n y env) (each s env) (costs.third_part calls work n z env)))
 
@@ -152,7 +152,7 @@ module _ (calls : evaluated.Calls) (work : CallsWork) where
     switch_counted e cs env =
         let entry : Value → store.Does Flow = λ v. evaluated.choose (has_case (word_or_zero v) cs) (plain.from_case calls n (word_or_zero v) cs env) (plain.from_default calls n cs env) in
         let entry_work : Value → Work = λ v. if has_case (word_or_zero v) cs then costs.from_case_work calls work n (word_or_zero v) cs env else costs.from_default_work calls work n cs env in
-        counted_behind (stmt (tree.Switch e cs) env) (8 + labels_work cs) (in_turn (evaluated.value calls env e) (expression_work calls work env e) entry_work)
+        counted_node (stmt (tree.Switch e cs) env) (8 + labels_work cs) (in_turn (evaluated.value calls env e) (expression_work calls work env e) entry_work)
         ∙ ap (λ k. ticked (8 + k) (counted (stmt (tree.Switch e cs) env) (in_turn (evaluated.value calls env e) (expression_work calls work env e) entry_work))) (same_labels cs)
         ∙ ap (ticked (8 + label_weights (lowered_choices cs))) (bind_counted (evaluated.value calls env e) (λ v. store.◌>>=◌ (entry v) plain.behind_switch) (expression_work calls work env e) entry_work
         ∙ then_same (evaluation.value calls work env e) (λ v. bind_first plain.behind_switch (entry v) (entry_work v)
@@ -165,11 +165,11 @@ module _ (calls : evaluated.Calls) (work : CallsWork) where
     continue_counted env = refl
 
     pub return_counted : (env : Env) → does (tree.Return None) env ≡ ticked 3 (give (Returned None))
-    return_counted env = counted_behind (store.give (Returned None)) 3 no_work ∙ ap (ticked 3) (counted_nothing (store.give (Returned None)))
+    return_counted env = counted_node (store.give (Returned None)) 3 no_work ∙ ap (ticked 3) (counted_nothing (store.give (Returned None)))
 
     pub return_value_counted : (e : Expr) (env : Env) → does (tree.Return (Some e)) env ≡ ticked 3 (evaluation.value calls work env e >>= λ v. give (Returned (Some v)))
     return_value_counted e env =
-        counted_behind (stmt (tree.Return (Some e)) env) 3 (expression_work calls work env e) ∙ ap (ticked 3) (bind_first (λ v. store.give (Returned (Some v))) (evaluated.value calls env e) (expression_work calls work env e))
+        counted_node (stmt (tree.Return (Some e)) env) 3 (expression_work calls work env e) ∙ ap (ticked 3) (bind_first (λ v. store.give (Returned (Some v))) (evaluated.value calls env e) (expression_work calls work env e))
 
     -- statements, one after another
     list_counted : (s : Stmt) (env : Env) (rest : store.Does Flow) (w : Work)
@@ -197,7 +197,7 @@ module _ (calls : evaluated.Calls) (work : CallsWork) where
         let body : Env × List ℕ → store.Does (Option Value) = λ e. store.◌>>=◌ (stmt f.body e.0) (last e.1) in
         let passed : Env × List ℕ → store.Does (Option Value) = λ e. store.◌>>=◌ (run.pass f.params args e.0) (λ _. body e) in
         let body_work : Env × List ℕ → Work = λ e v. following (run.pass f.params args e.0 v) (λ _. exec_work calls work n f.body e.0) in
-        counted_behind (store.◌>>=◌ (plain.enter f.params (nothing_named f)) passed) 10 (λ w. following (plain.enter f.params (nothing_named f) w) body_work)
+        counted_node (store.◌>>=◌ (plain.enter f.params (nothing_named f)) passed) 10 (λ w. following (plain.enter f.params (nothing_named f) w) body_work)
         ∙ ap (ticked 10) (bind_later (plain.enter f.params (nothing_named f)) passed body_work
         ∙ then_same (enter f.params (nothing_named f)) (λ e. bind_later (run.pass f.params args e.0) (λ _. body e) (λ _. exec_work calls work n f.body e.0)
         ∙ then_same (pass f.params args e.0) (λ _. bind_first (last e.1) (stmt f.body e.0) (exec_work calls work n f.body e.0)

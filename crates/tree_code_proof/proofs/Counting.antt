@@ -12,11 +12,8 @@ use Rattle.tree_code_proof.specs.Evaluated.{choose}
 
 module _ {A : Type 0} (f : plain.Does A) where
   -- the weight of a node, and what follows it
-  pub counted_behind : (k : ℕ) (work : Work) → counted f (λ w. k + work w) ≡ ticked k (counted f work)
-  counted_behind k work = fun_ext (λ w. ap (λ m. at_work m (f (without_work w))) (omega arith))
-
-  pub counted_alone : (k : ℕ) → counted f (λ w. k) ≡ ticked k (free f)
-  counted_alone k = refl
+  pub counted_node : (k : ℕ) (work : Work) → counted f (λ w. k + work w) ≡ ticked k (counted f work)
+  counted_node k work = fun_ext (λ w. ap (λ m. at_work m (f (without_work w))) (omega arith))
 
   pub counted_nothing : counted f no_work ≡ free f
   counted_nothing = fun_ext (λ w. ap (λ m. at_work m (f (without_work w))) (omega arith))
@@ -37,7 +34,7 @@ module _ {A B : Type 0} (g : A → plain.Does B) (rest : A → Work) where
   followed_free (plain.TooMany outs) k = refl
   followed_free (plain.Fails kind at outs) k = refl
 
--- a part that costs, and one that doesn't, each behind one that does or doesn't
+-- one part after another, of which both cost, or the second one alone
 pub bind_counted : {A B : Type 0} (f : plain.Does A) (g : A → plain.Does B) (work : Work) (rest : A → Work) → counted (plain.◌>>=◌ f g) (in_turn f work rest) ≡ (counted f work >>= λ a. counted (g a) (rest a))
 bind_counted f g work rest = fun_ext (λ w. followed g rest (f (without_work w)) w.work (work (without_work w)))
 
