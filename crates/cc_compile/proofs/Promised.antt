@@ -146,7 +146,7 @@ module _ (o : FrameJobs) (t : ProgramTree) (each : length o.jobs ≡ length t.fu
     pub names_in : (image : Contents) (frames : List Frame) → frames ≡ frames_of (selected p) o.jobs plan.frames → HasImage o t image → HaveNames t image frames
     names_in image frames are h = record {
       ranges = image_names o t image each h;
-      frames = ap (map (λ (f : Frame). f.name)) are ∙ frame_names (selected p) o.jobs plan.frames jobs_beside plans_beside ∙ program_names t.functions;
+      framed = ap (map (λ (f : Frame). f.name)) are ∙ frame_names (selected p) o.jobs plan.frames jobs_beside plans_beside ∙ program_names t.functions;
     }
 
     -- the words that each function names

@@ -29,7 +29,7 @@ names_of t = map (λ (f : FunctionTree). f.name) t.functions
 -- a range of the image and a frame for each function, in order, by its name
 pub record HaveNames (t : ProgramTree) (image : Contents) (frames : List Frame) : Type 0 where
   pub ranges : map (λ (r : FunctionRange). r.name) image.functions ≡ names_of t
-  pub frames : map (λ (f : Frame). f.name) frames ≡ names_of t
+  pub framed : map (λ (f : Frame). f.name) frames ≡ names_of t
 
 -- where the data are: the words of static objects, and of each function's scalars, where its frame says, its local objects and its return address
 -- (the scalars of word trees have the temporaries among them)
@@ -58,5 +58,5 @@ pub record IsBuilt (o : Options) (bytes : List ℕ) (image : Contents) (frames :
   pub walked : ∥ AreWalked image frames ∥₁
   -- no direct operand of them names a word of its scalars
   pub plan : DataPlan
-  pub data : IsDataOf program frames plan
+  pub memory : IsDataOf program frames plan
   pub direct : ∥ AllNameDirectly program plan image frames ∥₁

@@ -73,7 +73,7 @@ returns-clause-built g c =
       found = are_found c.args.options program _ made.framed;
       walked = walked_too _ _ _ _ c.in_ok-with_rows.ensures.image c.in_ok-with_rows.ensures.certificate c.in_ok-translated.ensures.walked;
       plan = made.framed.plan;
-      data = have_data c.args.options program _ made.framed;
+      memory = have_data c.args.options program _ made.framed;
       direct =
           are_direct c.args.options program _ _ made.framed (c.accesses_are_kept.ensures.sequences c.args.options.step program c.in_ok-program.program.well_formed)
           (subst (λ (i : Contents). ∥ IsDirect (source_jobs c.args.options program) program i ∥₁) (sym c.in_ok-with_rows.ensures.image) c.in_ok-translated.ensures.direct);
