@@ -13,3 +13,4 @@ mod DirectLemmas
 mod SourceJobs
 pub mod OneFault
 pub mod FaultLemmas
+pub mod CompilableLemmas

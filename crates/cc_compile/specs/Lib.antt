@@ -15,3 +15,4 @@ pub mod Selections
 pub mod PartFaults
 pub mod SourceFaults
 pub mod Compiles
+pub mod Compilable
