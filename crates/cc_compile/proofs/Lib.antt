@@ -15,3 +15,4 @@ pub mod OneFault
 pub mod FaultLemmas
 pub mod ImageNames
 pub mod Promised
+pub mod CompilableLemmas

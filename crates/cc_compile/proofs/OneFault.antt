@@ -35,14 +35,14 @@ no_parse_fault : (o : Options) (bytes : List ℕ) (P : UnitTree → Type 0) (why
 no_parse_fault o bytes P why h f = no_source bytes P f.0 h f.1 (without_tree f.0 why f.2)
 
 -- bytes have one tree
-both_of_tree : (bytes : List ℕ) (P Q : UnitTree → Type 0) → HasTree bytes P → HasTree bytes Q → (source : UnitTree) × P source × Q source
+pub both_of_tree : (bytes : List ℕ) (P Q : UnitTree → Type 0) → HasTree bytes P → HasTree bytes Q → (source : UnitTree) × P source × Q source
 both_of_tree bytes P Q h k =
     let one = one_token_list bytes h.0 k.0 h.2 k.2 in
     let same = one_source k.0 h.1 k.1 (subst (λ t. IsSource t h.1) one h.3).derives k.3.derives in
     (k.1, subst P same h.4, k.4)
 
 -- bytes have one typed program
-both_of_program : (bytes : List ℕ) (P Q : ProgramTree → Type 0) → HasTree bytes (IsTypedWith P) → HasTree bytes (IsTypedWith Q) → (program : ProgramTree) × P program × Q program
+pub both_of_program : (bytes : List ℕ) (P Q : ProgramTree → Type 0) → HasTree bytes (IsTypedWith P) → HasTree bytes (IsTypedWith Q) → (program : ProgramTree) × P program × Q program
 both_of_program bytes P Q h k =
     let b = both_of_tree bytes _ _ h k in
     (b.2.0, subst P (one_program b.0 b.1.0 b.2.0 b.1.1 b.2.1) b.1.2, b.2.2)

@@ -18,7 +18,7 @@ use Rattle.frame_layouts.specs.Frames.{frames_of}
 use Rattle.image_proof.specs.acc_select.Selected.{selected}
 use Rattle.cc_compile.specs.Images.{FrameJobs, HasFrames, HasImage, HasTooMuchData, HasTooMuchCode, HasPlanFault, HasLinkFault, IsPlanOf, all_pieces, layouts}
 
-same_begins : (p : ProgramCode) (b c : ℕ → ℕ) → AreBegins p b → AreBegins p c → b ≡ c
+pub same_begins : (p : ProgramCode) (b c : ℕ → ℕ) → AreBegins p b → AreBegins p c → b ≡ c
 same_begins p b c are also = fun_ext (λ f. one_begin p b c are also f)
 
 pub one_plan : (o : FrameJobs) (t : ProgramTree) (a b : DataPlan) → IsPlanOf o t a → IsPlanOf o t b → a ≡ b

@@ -2,7 +2,9 @@
 //! isn't compiled, with what each reason says of its bytes. It reads and writes no file.
 #![tactic(auto)]
 
+mod built_laws;
 mod cc_fault_laws;
+mod compilable_laws;
 mod fault;
 mod front;
 mod image_laws;
@@ -15,7 +17,9 @@ pub use c_lexer::LexFault;
 pub use c_parser::ParseFault;
 pub use c_rules::TypeFault;
 pub use c25_link::LinkFault;
+pub use built_laws::built_functions_differ;
 pub use cc_fault_laws::one_source_fault;
+pub use compilable_laws::compilable_sources_have_no_fault;
 pub use fault::BuildFault;
 pub use frame_layouts::{CertFault, Certificate, Job, Options, PlanFault};
 pub use front::typed_program;

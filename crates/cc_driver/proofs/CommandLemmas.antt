@@ -139,7 +139,7 @@ not_ports : (bytes : List ℕ) (fault : PortFault) (lines : List (ℕ × ℕ)) �
 not_ports bytes (port_faults.BadLine line) lines some says text = bad_no_text bytes line says lines text
 not_ports bytes port_faults.NoMemory lines some says text = some refl
 
-ports_refused : (name bytes : List ℕ) (why : Why) (lines : List (ℕ × ℕ)) → ArePortsRefused name bytes why → PortText bytes lines → ⊥
+pub ports_refused : (name bytes : List ℕ) (why : Why) (lines : List (ℕ × ℕ)) → ArePortsRefused name bytes why → PortText bytes lines → ⊥
 ports_refused name bytes why lines r text = not_ports bytes r.fault lines r.some r.says text
 
 -- ---- build
@@ -147,14 +147,14 @@ ports_refused name bytes why lines r text = not_ports bytes r.fault lines r.some
 accepted : (o : Options) (bytes : List ℕ) (image : Contents) (frames : List Frame) → IsMade o bytes image frames → IsAccepted o bytes
 accepted o bytes image frames m = (m.typed.0, m.typed.1, m.typed.2, m.typed.3, (m.program, m.typed.4, (image, m.has)))
 
-one_program : (o : Options) (bytes : List ℕ) (a b : Contents) (fs gs : List Frame) (h : IsMade o bytes a fs) (k : IsMade o bytes b gs) → h.program ≡ k.program
-one_program o bytes a b fs gs h k = same_program bytes h.program k.program h.typed k.typed
+made_of_one : (o : Options) (bytes : List ℕ) (a b : Contents) (fs gs : List Frame) (h : IsMade o bytes a fs) (k : IsMade o bytes b gs) → h.program ≡ k.program
+made_of_one o bytes a b fs gs h k = same_program bytes h.program k.program h.typed k.typed
 
 pub one_made : (o : Options) (bytes : List ℕ) (a b : Contents) (fs gs : List Frame) → IsMade o bytes a fs → IsMade o bytes b gs → a ≡ b
-one_made o bytes a b fs gs h k = one_image (source_jobs o k.program) k.program a b (subst (λ p. HasImage (source_jobs o p) p a) (one_program o bytes a b fs gs h k) h.has) k.has
+one_made o bytes a b fs gs h k = one_image (source_jobs o k.program) k.program a b (subst (λ p. HasImage (source_jobs o p) p a) (made_of_one o bytes a b fs gs h k) h.has) k.has
 
 one_framed : (o : Options) (bytes : List ℕ) (a b : Contents) (fs gs : List Frame) → IsMade o bytes a fs → IsMade o bytes b gs → fs ≡ gs
-one_framed o bytes a b fs gs h k = frames_same (source_jobs o k.program) k.program fs gs (subst (λ p. HasFrames (source_jobs o p) p fs) (one_program o bytes a b fs gs h k) h.framed) k.framed
+one_framed o bytes a b fs gs h k = frames_same (source_jobs o k.program) k.program fs gs (subst (λ p. HasFrames (source_jobs o p) p fs) (made_of_one o bytes a b fs gs h k) h.framed) k.framed
 
 build_one : (o : Options) (name bytes : List ℕ) (a b : Answered) (s t : List Stored) → BuildsTo o name bytes a s → BuildsTo o name bytes b t → a ≡ b
 build_one o name bytes a b s t c d = c.reported ∙ ap report_of (one_framed o bytes c.image d.image c.frames d.frames c.made d.made) ∙ sym d.reported
@@ -167,16 +167,16 @@ build_refused_one o bytes v w r s = ap refusal_status r.is ∙ sym (ap refusal_s
 
 -- ---- images and certificates
 
-one_contents : (bytes : List ℕ) (a b : Contents) → IsImageOf a bytes → IsImageOf b bytes → a ≡ b
+pub one_contents : (bytes : List ℕ) (a b : Contents) → IsImageOf a bytes → IsImageOf b bytes → a ≡ b
 one_contents bytes a b h k = text_injective a b h.whole k.whole (sym h.text ∙ k.text)
 
-not_image : (name bytes : List ℕ) (why : Why) (contents : Contents) → IsImageRefused name bytes why → IsImageOf contents bytes → ⊥
+pub not_image : (name bytes : List ℕ) (why : Why) (contents : Contents) → IsImageRefused name bytes why → IsImageOf contents bytes → ⊥
 not_image name bytes why contents r is = says_no_text bytes r.fault r.some r.says contents is.whole is.text
 
 -- ---- run
 
 -- what was reached says the outputs, and where the run stands
-reached_one : (outs others : Outputs) (one two : Stop) → reached_of outs one ≡ reached_of others two → (outs ≡ others) × (one ≡ two)
+pub reached_one : (outs others : Outputs) (one two : Stop) → reached_of outs one ≡ reached_of others two → (outs ≡ others) × (one ≡ two)
 reached_one outs others (stop.Ended x) (stop.Ended y) e = (cc, cc)
 reached_one outs others (stop.Ended x) (stop.Trap kind at) e = cc
 reached_one outs others (stop.Ended x) stop.Running e = cc
@@ -232,7 +232,7 @@ means_refused_one ports s p v w (SourceThen lines text fault none is) (SourceThe
 
 -- ---- exec
 
-exec_one : (s p : List ℕ) (steps : ℕ) (a b : Answered) → ExecutesTo s p steps a → ExecutesTo s p steps b → a ≡ b
+pub exec_one : (s p : List ℕ) (steps : ℕ) (a b : Answered) → ExecutesTo s p steps a → ExecutesTo s p steps b → a ≡ b
 exec_one s p steps a b r q =
     let contents = one_made plain_options s r.image q.image r.frames q.frames r.made q.made in
     image_run_one _ _ _ _ steps a b (ap (λ (c : Contents). c.words) contents) (one_port_text p r.lines q.lines r.ports q.ports) r.runs q.runs
@@ -280,7 +280,7 @@ check_status_nine image certificate i c why (check.BadCertificate contents is ba
 -- ---- asm
 
 -- bytes have words or a fault
-not_both : (r : Result (List ℕ) AsmFault) (words : List ℕ) (fault : AsmFault) → r ≡ Ok words → r ≡ Err fault → ⊥
+pub not_both : (r : Result (List ℕ) AsmFault) (words : List ℕ) (fault : AsmFault) → r ≡ Ok words → r ≡ Err fault → ⊥
 not_both r words fault e f = let k : Ok words ≡ Err fault = sym e ∙ f in cc
 
 asm_one : (name bytes : List ℕ) (a b : Answered) (s t : List Stored) → AssemblesTo name bytes a s → AssemblesTo name bytes b t → a ≡ b

@@ -59,7 +59,7 @@ module _ (what : Asked) (shelf : Shelves) (tells : IsTrue shelf.tells) where
       all_told shelf tells before w behind a (subst (AreFetched shelf) e (comes_told what shelf answer texts c)) m
 
   module _ (none_failed : ¬ FetchFailed shelf.before.counts shelf.now.counts) where
-    missing : (w : Wanted) (failed : Bool) (fault : FileFault) → FetchCause shelf w failed fault → IsUnfetchable shelf.before.files w (file_status fault)
+    pub missing : (w : Wanted) (failed : Bool) (fault : FileFault) → FetchCause shelf w failed fault → IsUnfetchable shelf.before.files w (file_status fault)
     missing w true Read c = absurd (none_failed c)
     missing w true TooLong c = absurd c
     missing w true (Image why) c = absurd c

@@ -16,8 +16,8 @@ mod weighing;
 
 pub use block_places::places;
 pub use cc_compile::{
-    BuildFault, Built, CertFault, Certificate, LinkFault, Options, PlanFault, compile, runs_tell,
-    typed_program,
+    BuildFault, Built, CertFault, Certificate, LinkFault, Options, PlanFault,
+    built_functions_differ, compilable_sources_have_no_fault, compile, runs_tell, typed_program,
 };
 pub use fault::ProfileFault;
 pub use laws::{

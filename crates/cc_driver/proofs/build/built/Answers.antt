@@ -1,5 +1,6 @@
 use Rattle.std.proofs.Common.{◌≢◌, ◌<◌, ◌∙◌, length, ap, refl, sym, subst, arith, rules}
 use Rattle.std.specs.Prelude.{◌^◌}
+use Rattle.cc_check.specs.lay_cert.CertReading.{Reads}
 use Rattle.cc_report.specs.Report.{report_lines}
 use Rattle.cc_files.specs.frame_layouts.Frames.{AreOptions}
 use Rattle.cc_files.specs.cc_text.Refusals.{OfMemory, of_build_fault}
@@ -45,6 +46,7 @@ returns-clause-built g c =
       made = made;
       claims = c.in_ok-built.ensures.claims;
       whole = texts.whole;
+      reads = subst (λ t. Reads t c.in_ok-built.built.certificate) texts.certificate texts.read_back;
       stored = texts_same _ c.in_ok-texts_of.field-0 _ _ texts.image texts.name texts.certificate;
       reported = answer_same c.in_ok-texts_of.field-0 _ (texts.report ∙ ap report_lines c.in_ok-built.ensures.rows);
     }
