@@ -14,6 +14,7 @@ use Rattle.cc_files.specs.Stores.{Stored}
 use Rattle.cc_driver.specs.Commands.{files_of, stores_under, Comes, Rejects}
 use Rattle.cc_driver.specs.Work.{WorkRefused, AtFetch, AtFiles, AtStore, AtMemory, AtStoreForMemory}
 use Rattle.cc_driver.specs.Answers.{Answers, IsDone, IsRefused, Decided, IsWrong, ToFile, ToRefusal, IsUnfetchable, NoFile, LongFile}
+use Rattle.cc_driver.proofs.StatusLemmas.{refused_status}
 use Rattle.cc_driver.proofs.FileLemmas.{all_told, first_one}
 use Rattle.cc_driver.proofs.CommandLemmas.{comes_told, refuses_told, comes_one, comes_not, refuses_one, some_store}
 
@@ -115,7 +116,14 @@ answers_decide what shelf sink status (IsDone answer work put) = record {
       (text_decides answer.text answer.status sink status put (subst (λ a. IsSome a.text → ¬ Rose sink.before.faults sink.now.faults) (sym same) whole))
       (ap (λ a. a.status) same);
 }
-answers_decide what shelf sink status (IsRefused why work refused) = record {
-  wrong = λ due tells none_failed l. same_either status (refusal_status why) due refused.status_is (work_wrong what shelf tells none_failed why due work l);
-  right = λ other texts tells none_failed store whole c. inr (refused.status_is ∙ work_right what shelf tells none_failed why other texts store work c);
-}
+answers_decide what shelf sink status (IsRefused why work refused) = go (refused_status why sink status refused)
+  where
+    go : (status ≡ refusal_status why) ⊎ ((status ≡ 5) × (refusal_status why ≢ 4) × (refusal_status why ≢ 5)) → Decided what shelf sink status
+    go (inl is) = record {
+      wrong = λ due tells none_failed l. same_either status (refusal_status why) due is (work_wrong what shelf tells none_failed why due work l);
+      right = λ other texts tells none_failed store whole c. inr (is ∙ work_right what shelf tells none_failed why other texts store work c);
+    }
+    go (inr want) = record {
+      wrong = λ due tells none_failed l. inr want.0;
+      right = λ other texts tells none_failed store whole c. inr want.0;
+    }

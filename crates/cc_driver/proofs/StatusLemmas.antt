@@ -1,11 +1,14 @@
 -- The statuses that there are.
-use Rattle.std.proofs.Common.{◌≡◌, ℕ, Bool, true, false, List, Option, Some, None, refl, sym, subst, lit<}
-use Rattle.std.specs.Prelude.{if◌then◌else◌}
+use Rattle.std.proofs.Common.{◌≡◌, ◌≢◌, ℕ, Bool, true, false, List, Option, Some, None, refl, sym, subst, inl, inr, arith, lit<}
+use Rattle.std.specs.Prelude.{◌⊎◌, if◌then◌else◌}
 use Rattle.c25_isa.specs.Image.{Contents}
 use Rattle.cc_check.specs.CheckText.{all_pass}
 use Rattle.cc_files.specs.cc_text.declared.refusal.FileFault.{FileFault}
 use Rattle.cc_files.specs.cc_text.declared.refusal.FileFault.TheVariants.{Read, TooLong, Image, Ports, Sequence, Certificate, Assembly, Script, OtherSource}
-use Rattle.cc_files.specs.cc_text.Refusals.{Why, OfFile, OfSource, OfMacros, OfUnits, OfStore, OfMemory, file_status, refusal_status}
+use Rattle.cc_files.specs.cc_text.Refusals.{Why, OfFile, OfSource, OfMacros, OfUnits, OfStore, OfMemory, file_line, file_status, refusal_status}
+use Rattle.cc_files.specs.cc_text.SourceText.{source_line}
+use Rattle.cc_files.specs.cc_text.MacroText.{macro_line}
+use Rattle.cc_files.specs.cc_text.UnitText.{unit_line}
 use Rattle.c25_isa.specs.declared.event.Stop.{Stop}
 use Rattle.c25_isa.specs.declared.event.Stop.TheVariants as stop
 use Rattle.word_base.specs.declared.outcome.Outcome.{Outcome}
@@ -19,7 +22,7 @@ use Rattle.cc_files.specs.World.{Sinks}
 use Rattle.cc_check.specs.lay_cert.Frames.{Frame}
 use Rattle.cc_driver.specs.Build.{report_of}
 use Rattle.cc_driver.specs.Check.{check_answer}
-use Rattle.cc_files.specs.Puts.{IsStatus, PutsText, PutWhole, PutPart, PutNothing}
+use Rattle.cc_files.specs.Puts.{IsStatus, PutsText, SaysLine, Refused, PutWhole, PutPart, PutNothing}
 
 of_file : (f : FileFault) → IsStatus (file_status f)
 of_file Read = (3, lit< tt, refl)
@@ -40,9 +43,51 @@ of_why (OfUnits why) = (1, lit< tt, refl)
 of_why OfStore = (4, lit< tt, refl)
 of_why OfMemory = (5, lit< tt, refl)
 
+-- a line is put with its status, unless memory is wanting
+said_status : (line : List ℕ) (ends : ℕ) (sink : Sinks) (status : ℕ) → ends ≢ 4 → ends ≢ 5 → SaysLine line ends sink status → (status ≡ ends) ⊎ ((status ≡ 5) × (ends ≢ 4) × (ends ≢ 5))
+said_status line ends sink status four five (inl (PutWhole e calls same put)) = inl e
+said_status line ends sink status four five (inl (PutPart e calls failed part)) = inl e
+said_status line ends sink status four five (inl (PutNothing e calls said)) = inr (e, four, five)
+said_status line ends sink status four five (inr want) = inr (want.0, four, five)
+
+file_not_four : (f : FileFault) → file_status f ≢ 4
+file_not_four Read e = omega (arith, e)
+file_not_four TooLong e = omega (arith, e)
+file_not_four (Image why) e = omega (arith, e)
+file_not_four (Ports why) e = omega (arith, e)
+file_not_four (Sequence why) e = omega (arith, e)
+file_not_four (Certificate why) e = omega (arith, e)
+file_not_four (Assembly why) e = omega (arith, e)
+file_not_four (Script why) e = omega (arith, e)
+file_not_four OtherSource e = omega (arith, e)
+
+file_not_five : (f : FileFault) → file_status f ≢ 5
+file_not_five Read e = omega (arith, e)
+file_not_five TooLong e = omega (arith, e)
+file_not_five (Image why) e = omega (arith, e)
+file_not_five (Ports why) e = omega (arith, e)
+file_not_five (Sequence why) e = omega (arith, e)
+file_not_five (Certificate why) e = omega (arith, e)
+file_not_five (Assembly why) e = omega (arith, e)
+file_not_five (Script why) e = omega (arith, e)
+file_not_five OtherSource e = omega (arith, e)
+
+-- a refusal has its status, unless it has a line for which memory is wanting
+pub refused_status : (why : Why) (sink : Sinks) (status : ℕ) → Refused why sink status → (status ≡ refusal_status why) ⊎ ((status ≡ 5) × (refusal_status why ≢ 4) × (refusal_status why ≢ 5))
+refused_status (OfFile name why) sink status said = said_status (file_line name why) (file_status why) sink status (file_not_four why) (file_not_five why) said
+refused_status (OfSource why) sink status said = said_status (source_line why) 1 sink status (λ e. omega (arith, e)) (λ e. omega (arith, e)) said
+refused_status (OfMacros why) sink status said = said_status (macro_line why) 1 sink status (λ e. omega (arith, e)) (λ e. omega (arith, e)) said
+refused_status (OfUnits why) sink status said = said_status (unit_line why) 1 sink status (λ e. omega (arith, e)) (λ e. omega (arith, e)) said
+refused_status OfStore sink status said = inl said.0
+refused_status OfMemory sink status said = inl said.0
+
 -- the status of a refusal is one
-pub refusal_is : (why : Why) (status : ℕ) → status ≡ refusal_status why → IsStatus status
-refusal_is why status e = subst IsStatus (sym e) (of_why why)
+pub refusal_is : (why : Why) (sink : Sinks) (status : ℕ) → Refused why sink status → IsStatus status
+refusal_is why sink status refused = go (refused_status why sink status refused)
+  where
+    go : (status ≡ refusal_status why) ⊎ ((status ≡ 5) × (refusal_status why ≢ 4) × (refusal_status why ≢ 5)) → IsStatus status
+    go (inl e) = subst IsStatus (sym e) (of_why why)
+    go (inr e) = subst IsStatus (sym e.0) (5, lit< tt, refl)
 
 -- and that of an answer is one, where it is one with all of it put
 pub put_is : (text : Option (List ℕ)) (ends : ℕ) (sink : Sinks) (status : ℕ) → IsStatus ends → PutsText text ends sink status → IsStatus status

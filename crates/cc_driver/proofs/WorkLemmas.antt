@@ -39,6 +39,7 @@ use Rattle.c25_debug.specs.Script.{ScriptSays}
 use Rattle.cc_files.specs.Stores.{Stored, NothingStored, OnlyUnder, StoresStopped}
 use Rattle.cc_driver.specs.Commands.{files_of, stores_under, Comes, Rejects}
 use Rattle.cc_driver.specs.Work.{WorkRefused, WorkLeaves, AtFetch, AtFiles, AtStore, AtMemory, AtStoreForMemory}
+use Rattle.cc_files.proofs.StoreLemmas.{nothing_yet}
 use Rattle.cc_driver.proofs.StoreLemmas.{still_fails, still_stops}
 
 -- ---- refusals that are passed on
@@ -121,9 +122,6 @@ module _ (tells : Bool) (first between last : Stock) where
   fetched_first : (w : Wanted) (bytes : List ℕ) → IsFetched (shelves tells first between) w bytes → IsFetched (shelves tells first last) w bytes
   fetched_first w bytes f = record { told = f.told; fits = f.fits }
 
-  pub nothing_both : NothingStored (shelves tells first between) → NothingStored (shelves tells between last) → NothingStored (shelves tells first last)
-  nothing_both one two = record { files = λ n. two.files n ∙ one.files n; faults = two.faults ∙ one.faults }
-
   -- stores are refused behind the fetches
   pub stores_refused : (what : Asked) (answer : Answered) (texts : List Stored) (why : Why) → NoneFailed (shelves tells first between) (files_of what) → NothingStored (shelves tells first between)
       → NoneFailed (shelves tells between last) [] → Comes what (shelves tells first last) answer texts → StoresStopped texts (shelves tells between last) why → WorkRefused what (shelves tells first last) why
@@ -152,7 +150,7 @@ stopped_first what tells s = AtFetch (ForMemory refl (record {
   fetched = tt {0};
   at_most = omega arith;
   none_failed = record { asked = λ t. sym (append-nil s.fetched); count = refl };
-})) (record { files = λ n. refl; faults = refl })
+})) (nothing_yet tells s)
 
 -- ---- what work leaves
 

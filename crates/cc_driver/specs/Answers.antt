@@ -3,6 +3,7 @@ use Rattle.std.specs.Prelude.{◌≡◌, ◌≢◌, ◌⊎◌, ℕ, ◌<◌, IsT
 use Rattle.std.specs.declared.alloc.Global.{Global}
 use Rattle.cc_shelf.specs.Counts.{FetchFailed, StoreFailed, Rose}
 use Rattle.cc_shelf.specs.Files.{Files}
+use Rattle.cc_shelf.specs.ShelfAnswers.{StoresFoundMemory}
 use Rattle.cc_words.specs.Asked.{Asked, Asks, asked, texts_of}
 use Rattle.cc_answers.specs.Answers.{Answered}
 use Rattle.cc_files.specs.cc_text.Refusals.{Why, refusal_status}
@@ -54,6 +55,8 @@ pub record Leaves (what : Asked) (shelf : Shelves) (status : ℕ) : Type 0 where
   -- at 5 some first ones of the texts that 0 promises are stored, or nothing is
   pub wanting : status ≡ 5 → NothingStored shelf ⊎ StoresStop what shelf
   pub faults : status ≢ 4 → shelf.now.counts.store_faults ≡ shelf.before.counts.store_faults
+  -- a store that finds no memory is answered with 5
+  pub memory : status ≢ 5 → StoresFoundMemory shelf.before.counts shelf.now.counts
   pub no_store : stores_under what ≡ [] → NothingStored shelf
 
 -- words that ask for nothing touch no file, and are refused, unless memory was wanting

@@ -43,12 +43,7 @@ fn put_text<K: Sink>(alloc: Global, out: &mut K, text: &[u8], ends: u8, fails: u
 }
 
 // Puts a line, and gives its status. Where there is no memory for the line, that is said.
-fn say_made<K: Sink>(
-    alloc: Global,
-    out: &mut K,
-    line: &Result<String, NoMemory>,
-    status: u8,
-) -> u8
+fn say_made<K: Sink>(alloc: Global, out: &mut K, line: &Result<String, NoMemory>, status: u8) -> u8
     ensures put { SaysMade line.now status (sinks K.tells (K.output out.old) (K.output out.new)) result }
     ensures reliable { PutsStayReliable (K.output out.old) (K.output out.new) }
 {

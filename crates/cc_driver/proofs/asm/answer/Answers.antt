@@ -1,10 +1,12 @@
+use Rattle.std.proofs.Common.{◌∷◌, []}
 use Rattle.cc_words.specs.Asked.{ToAssemble}
 use Rattle.cc_files.specs.World.{shelves}
 use Rattle.cc_driver.specs.Texts.{one_text, silent_answer}
 use Rattle.cc_files.specs.Stores.{Stored}
 use Rattle.cc_driver.specs.Work.{WorkRefused}
-use Rattle.cc_driver.proofs.StoreLemmas.{one_stopped}
-use Rattle.cc_driver.proofs.WorkLemmas.{stores_refused}
+use Rattle.cc_driver.specs.Asm.{text_file}
+use Rattle.cc_driver.proofs.StoreLemmas.{stopped_at_first, still_stored}
+use Rattle.cc_driver.proofs.WorkLemmas.{still_none_failed, stores_refused}
 use Rattle.cc_files.proofs.PassedOn.{passed_on}
 use Rattle.cc_driver.proofs.asm.answer.Goals as goal
 
@@ -25,4 +27,23 @@ returns-in_err-store-clause-refused g c =
       bytes = c.in_ok-bytes.bytes.items;
       fetched = record { told = c.in_ok-bytes.ensures.fetched.told; fits = c.in_ok-bytes.ensures.fetched.fits };
       holds = done;
-    }) (one_stopped tells between last one c.store.ensures.others _ c.in_err-store.ensures.refused))
+    }) (stopped_at_first tells between last one [] c.store.ensures.others _ c.in_err-store.ensures.refused))
+
+pub returns-clause-done : goal.returns-clause-done
+returns-clause-done g c =
+    let tells = g.F.Shelf.tells in
+    let first = g.F.Shelf.stock c.args.shelf.now in
+    let between = g.F.Shelf.stock c.fetch.new.shelf in
+    let last = g.F.Shelf.stock c.store.new.shelf in
+    let image = c.args.asked.now.image.now in
+    let text = c.in_ok-image.image.items in
+    record {
+      fetched = still_none_failed tells first between last (text_file c.args.asked.now.text.now ∷ []) c.in_ok-bytes.ensures.asked c.store.ensures.asked;
+      texts = one_text image text;
+      comes = record {
+        bytes = c.in_ok-bytes.bytes.items;
+        fetched = record { told = c.in_ok-bytes.ensures.fetched.told; fits = c.in_ok-bytes.ensures.fetched.fits };
+        holds = rw c.deref.ensures.value at c.in_ok-image.ensures.done;
+      };
+      stored = still_stored tells first between last c.in_ok-bytes.ensures.stored (one_text image text) (rw c.deref-2.ensures.value at c.in_ok-store.ensures.stored);
+    }

@@ -26,4 +26,4 @@ pub returns-in-Ok-Some-clause-decided : goal.returns-in-Ok-Some-clause-decided
 returns-in-Ok-Some-clause-decided g c = λ what asks. answers_decide what _ _ _ (returns-in-Ok-Some-clause-answers g c what asks)
 
 pub returns-in-Err-clause-answers : goal.returns-in-Err-clause-answers
-returns-in-Err-clause-answers g c = λ what asks. IsRefused OfMemory (stopped_first what g.F.Shelf.tells (g.F.Shelf.stock c.args.shelf.now)) c.refuse.ensures
+returns-in-Err-clause-answers g c = λ what asks. IsRefused OfMemory (stopped_first what g.F.Shelf.tells (g.F.Shelf.stock c.args.shelf.now)) c.refuse.ensures.put

@@ -1,3 +1,4 @@
+use Rattle.std.proofs.Common.{[]}
 use Rattle.cc_words.specs.Asked.{ToJoin, names_of}
 use Rattle.cc_files.specs.World.{shelves}
 use Rattle.cc_files.specs.Wants.{contents_of}
@@ -5,7 +6,7 @@ use Rattle.cc_files.specs.Stores.{Stored}
 use Rattle.cc_driver.specs.Texts.{one_text, silent_answer}
 use Rattle.cc_driver.specs.Commands.{files_of}
 use Rattle.cc_driver.specs.Work.{WorkRefused}
-use Rattle.cc_driver.proofs.StoreLemmas.{one_stopped, still_stored}
+use Rattle.cc_driver.proofs.StoreLemmas.{stopped_at_first, still_stored}
 use Rattle.cc_driver.proofs.WorkLemmas.{files_refuse, still_none_failed, stores_refused}
 use Rattle.cc_files.proofs.FetchLemmas.{with_bytes, fetched_still}
 use Rattle.cc_files.proofs.PassedOn.{passed_on}
@@ -28,7 +29,7 @@ returns-in_err-store-clause-refused g c =
       contents = contents_of c.in_ok-sources.sources.items;
       fetched = fetched_still tells first between last (files_of what) (contents_of c.in_ok-sources.sources.items) c.in_ok-sources.ensures.fetched;
       holds = joined;
-    }) (one_stopped tells between last one c.store.ensures.others _ c.in_err-store.ensures.refused))
+    }) (stopped_at_first tells between last one [] c.store.ensures.others _ c.in_err-store.ensures.refused))
 
 pub returns-in_err-text-clause-refused : goal.returns-in_err-text-clause-refused
 returns-in_err-text-clause-refused g c =
@@ -61,6 +62,5 @@ returns-clause-done g c =
         fetched = fetched_still tells first between last (files_of what) contents c.in_ok-sources.ensures.fetched;
         holds = rw c.deref.ensures.value at c.in_ok-text.ensures.done;
       };
-      stored = still_stored tells first between last c.in_ok-sources.ensures.stored (one_text output text)
-          (record { hold = (rw c.deref-2.ensures.value at c.in_ok-store.ensures.held, tt {0}); others = λ n other. c.store.ensures.others n other.0; faults = c.in_ok-store.ensures.faults });
+      stored = still_stored tells first between last c.in_ok-sources.ensures.stored (one_text output text) (rw c.deref-2.ensures.value at c.in_ok-store.ensures.stored);
     }
