@@ -72,8 +72,7 @@ use Rattle.cc_driver.specs.Join.{JoinsTo, JoinRefused}
 use Rattle.cc_driver.specs.Profile.{recorded_options, profile_of, ProfilesTo, ProfileRefused}
 use Rattle.cc_driver.specs.Profile as profile
 use Rattle.cc_driver.specs.Commands.{files_of, stores_under, Comes, Rejects}
-use Rattle.cc_files.specs.Puts.{IsStatus}
-use Rattle.cc_driver.proofs.StatusLemmas.{of_report, of_stop, of_summary, of_outcome, of_check}
+use Rattle.cc_driver.proofs.StatusLemmas.{IsAnswerStatus, of_report, of_stop, of_summary, of_outcome, of_check}
 use Rattle.cc_driver.proofs.FileLemmas.{one_file, two_files, three_files}
 
 -- ---- what is refused or done was told
@@ -550,23 +549,23 @@ refuses_one (ToPbuild source first ports image registers budget steps) shelf tel
     let h = three_files shelf tells _ _ _ _ _ r s in
     profile_refused_one (recorded_options registers budget steps) first ports h.0 h.1.0 h.1.1.0 v w h.1.1.1 h.1.1.2
 
-image_run_status : (words : List ℕ) (lines : List (ℕ × ℕ)) (steps : ℕ) (answer : Answered) → ImageRuns words lines steps answer → IsStatus answer.status
-image_run_status words lines steps answer r = subst (λ a. IsStatus a.status) (sym r.is) (of_stop r.stands)
+image_run_status : (words : List ℕ) (lines : List (ℕ × ℕ)) (steps : ℕ) (answer : Answered) → ImageRuns words lines steps answer → IsAnswerStatus answer.status
+image_run_status words lines steps answer r = subst (λ a. IsAnswerStatus a.status) (sym r.is) (of_stop r.stands)
 
--- what a command comes to has a status that there is
-pub comes_status : (what : Asked) (shelf : Shelves) (answer : Answered) (texts : List Stored) → Comes what shelf answer texts → IsStatus answer.status
+-- what a command comes to has the status of something that is done
+pub comes_status : (what : Asked) (shelf : Shelves) (answer : Answered) (texts : List Stored) → Comes what shelf answer texts → IsAnswerStatus answer.status
 comes_status (ToBuild source image registers budget step) shelf answer texts c = of_report answer c.holds.frames c.holds.reported
 comes_status (ToRun image ports steps) shelf answer texts c = image_run_status c.0.holds.contents.words c.0.holds.lines steps answer c.0.holds.runs
 comes_status (ToEvaluate source ports turns) shelf answer texts c =
-    subst (λ a. IsStatus a.status) (sym c.0.holds.is) (of_outcome (source_run c.0.holds.program (input_of c.0.holds.lines) turns))
+    subst (λ a. IsAnswerStatus a.status) (sym c.0.holds.is) (of_outcome (source_run c.0.holds.program (input_of c.0.holds.lines) turns))
 comes_status (ToExecute source ports steps) shelf answer texts c = image_run_status c.0.holds.image.words c.0.holds.lines steps answer c.0.holds.runs
-comes_status (ToLayOut sequence registers budget) shelf answer texts c = subst (λ a. IsStatus a.status) (sym c.0.holds.is) (0, lit< tt, refl)
-comes_status (ToCheck image certificate) shelf answer texts c = subst (λ a. IsStatus a.status) (sym c.0.holds.is) (of_check c.0.holds.contents c.0.holds.frames)
-comes_status (ToAssemble text image) shelf answer texts c = subst (λ a. IsStatus a.status) (sym c.holds.is) (0, lit< tt, refl)
-comes_status (ToList image) shelf answer texts c = subst (λ a. IsStatus a.status) (sym c.0.holds.is) (0, lit< tt, refl)
+comes_status (ToLayOut sequence registers budget) shelf answer texts c = subst (λ a. IsAnswerStatus a.status) (sym c.0.holds.is) (0, lit< tt, refl)
+comes_status (ToCheck image certificate) shelf answer texts c = subst (λ a. IsAnswerStatus a.status) (sym c.0.holds.is) (of_check c.0.holds.contents c.0.holds.frames)
+comes_status (ToAssemble text image) shelf answer texts c = subst (λ a. IsAnswerStatus a.status) (sym c.holds.is) (0, lit< tt, refl)
+comes_status (ToList image) shelf answer texts c = subst (λ a. IsAnswerStatus a.status) (sym c.0.holds.is) (0, lit< tt, refl)
 comes_status (ToGenerate number) shelf answer texts c =
-    subst (λ a. IsStatus a.status) (sym c.0.summarizes.is) (of_summary number (length c.0.image.functions) gen_steps c.0.summarizes.outs c.0.summarizes.stands)
-comes_status (ToDebug image ports script) shelf answer texts c = subst (λ a. IsStatus a.status) (sym c.0.holds.is) (0, lit< tt, refl)
-comes_status (ToExpand source output) shelf answer texts c = subst (λ a. IsStatus a.status) (sym c.holds.is) (0, lit< tt, refl)
-comes_status (ToJoin output sources) shelf answer texts c = subst (λ a. IsStatus a.status) (sym c.holds.is) (0, lit< tt, refl)
-comes_status (ToPbuild source first ports image registers budget steps) shelf answer texts c = subst (λ a. IsStatus a.status) (sym c.holds.reported) (0, lit< tt, refl)
+    subst (λ a. IsAnswerStatus a.status) (sym c.0.summarizes.is) (of_summary number (length c.0.image.functions) gen_steps c.0.summarizes.outs c.0.summarizes.stands)
+comes_status (ToDebug image ports script) shelf answer texts c = subst (λ a. IsAnswerStatus a.status) (sym c.0.holds.is) (0, lit< tt, refl)
+comes_status (ToExpand source output) shelf answer texts c = subst (λ a. IsAnswerStatus a.status) (sym c.holds.is) (0, lit< tt, refl)
+comes_status (ToJoin output sources) shelf answer texts c = subst (λ a. IsAnswerStatus a.status) (sym c.holds.is) (0, lit< tt, refl)
+comes_status (ToPbuild source first ports image registers budget steps) shelf answer texts c = subst (λ a. IsAnswerStatus a.status) (sym c.holds.reported) (0, lit< tt, refl)

@@ -13,10 +13,10 @@ use Rattle.cc_files.specs.Fetches.{Wanted, AreFetched, FetchCause, NotFetched, A
 use Rattle.cc_files.specs.Stores.{Stored}
 use Rattle.cc_driver.specs.Commands.{files_of, stores_under, Comes, Rejects}
 use Rattle.cc_driver.specs.Work.{WorkRefused, AtFetch, AtFiles, AtStore, AtMemory, AtStoreForMemory}
-use Rattle.cc_driver.specs.Answers.{Answers, IsDone, IsRefused, Decided, IsWrong, ToFile, ToRefusal, IsUnfetchable, NoFile, LongFile}
-use Rattle.cc_driver.proofs.StatusLemmas.{refused_status}
+use Rattle.cc_driver.specs.Answers.{Answers, IsDone, IsRefused, NamesCause, Decided, IsWrong, ToFile, ToRefusal, IsUnfetchable, NoFile, LongFile}
+use Rattle.cc_driver.proofs.StatusLemmas.{IsNamed, refused_status, refusal_said, put_not_named}
 use Rattle.cc_driver.proofs.FileLemmas.{all_told, first_one}
-use Rattle.cc_driver.proofs.CommandLemmas.{comes_told, refuses_told, comes_one, comes_not, refuses_one, some_store}
+use Rattle.cc_driver.proofs.CommandLemmas.{comes_told, refuses_told, comes_one, comes_not, refuses_one, comes_status, some_store}
 
 -- an answer that no put failed at has its status
 text_decides : (text : Option (List ℕ)) (ends : ℕ) (sink : Sinks) (status : ℕ) → PutsText text ends sink status → (IsSome text → ¬ Rose sink.before.faults sink.now.faults)
@@ -127,3 +127,11 @@ answers_decide what shelf sink status (IsRefused why work refused) = go (refused
       wrong = λ due tells none_failed l. inr want.0;
       right = λ other texts tells none_failed store whole c. inr want.0;
     }
+
+-- at 1, 3 and 9 the line that names the cause came
+pub cause_named : (what : Asked) (shelf : Shelves) (sink : Sinks) (status : ℕ) → Answers what shelf sink status → IsNamed status → NamesCause what shelf sink status
+cause_named what shelf sink status (IsDone answer work put) named =
+    absurd (put_not_named answer.text answer.status sink status (comes_status what shelf answer work.texts work.comes) put named)
+cause_named what shelf sink status (IsRefused why work refused) named =
+    let said = refusal_said why sink status refused named in
+    record { why = why; refused = work; status_is = said.0; line = said.1 }

@@ -1,6 +1,6 @@
 -- The statuses that there are.
-use Rattle.std.proofs.Common.{◌≡◌, ◌≢◌, ℕ, Bool, true, false, List, Option, Some, None, refl, sym, subst, inl, inr, arith, lit<}
-use Rattle.std.specs.Prelude.{◌⊎◌, if◌then◌else◌}
+use Rattle.std.proofs.Common.{◌≡◌, ◌≢◌, ℕ, zero, suc, Bool, true, false, List, [], ◌∷◌, Option, Some, None, refl, sym, subst, inl, inr, arith, lit<}
+use Rattle.std.specs.Prelude.{◌⊎◌, Contains, if◌then◌else◌}
 use Rattle.c25_isa.specs.Image.{Contents}
 use Rattle.cc_check.specs.CheckText.{all_pass}
 use Rattle.cc_files.specs.cc_text.declared.refusal.FileFault.{FileFault}
@@ -22,7 +22,7 @@ use Rattle.cc_files.specs.World.{Sinks}
 use Rattle.cc_check.specs.lay_cert.Frames.{Frame}
 use Rattle.cc_driver.specs.Build.{report_of}
 use Rattle.cc_driver.specs.Check.{check_answer}
-use Rattle.cc_files.specs.Puts.{IsStatus, PutsText, SaysLine, Refused, PutWhole, PutPart, PutNothing}
+use Rattle.cc_files.specs.Puts.{IsStatus, PutsText, SaysLine, LineCame, CameWhole, CamePart, line_of, Refused, PutWhole, PutPart, PutNothing}
 
 of_file : (f : FileFault) → IsStatus (file_status f)
 of_file Read = (3, lit< tt, refl)
@@ -96,27 +96,89 @@ put_is (Some text) ends sink status is (PutWhole e calls same put) = subst IsSta
 put_is (Some text) ends sink status is (PutPart e calls failed part) = subst IsStatus (sym e) (4, lit< tt, refl)
 put_is (Some text) ends sink status is (PutNothing e calls line) = subst IsStatus (sym e) (5, lit< tt, refl)
 
-pub of_stop : (s : Stop) → IsStatus (stop_status s)
+-- the statuses of what is done
+abbrev pub IsAnswerStatus : ℕ → Type 0
+IsAnswerStatus n = Contains (0 ∷ 6 ∷ 7 ∷ 8 ∷ 10 ∷ []) n
+
+-- they are among those that there are
+pub answer_is : (n : ℕ) → IsAnswerStatus n → IsStatus n
+answer_is n (zero, lt, e) = (0, lit< tt, e)
+answer_is n (suc zero, lt, e) = (6, lit< tt, e)
+answer_is n (suc (suc zero), lt, e) = (7, lit< tt, e)
+answer_is n (suc (suc (suc zero)), lt, e) = (8, lit< tt, e)
+answer_is n (suc (suc (suc (suc zero))), lt, e) = (10, lit< tt, e)
+answer_is n (suc (suc (suc (suc (suc k)))), lt, e) = absurd (omega (arith, lt))
+
+-- a refusal for a file or a source has one of these
+abbrev pub IsNamed : ℕ → Type 0
+IsNamed n = Contains (1 ∷ 3 ∷ 9 ∷ []) n
+
+which_named : (n : ℕ) → IsNamed n → (n ≡ 1) ⊎ ((n ≡ 3) ⊎ (n ≡ 9))
+which_named n (zero, lt, e) = inl (sym e)
+which_named n (suc zero, lt, e) = inr (inl (sym e))
+which_named n (suc (suc zero), lt, e) = inr (inr (sym e))
+which_named n (suc (suc (suc k)), lt, e) = absurd (omega (arith, lt))
+
+-- what isn't one of these
+pub not_named : (n : ℕ) → n ≢ 1 → n ≢ 3 → n ≢ 9 → IsNamed n → ⊥
+not_named n one three nine named = go (which_named n named)
+  where
+    go : (n ≡ 1) ⊎ ((n ≡ 3) ⊎ (n ≡ 9)) → ⊥
+    go (inl e) = one e
+    go (inr (inl e)) = three e
+    go (inr (inr e)) = nine e
+
+pub done_not_named : (n : ℕ) → IsAnswerStatus n → IsNamed n → ⊥
+done_not_named n (zero, lt, e) named = not_named n (λ f. omega (arith, e, f)) (λ f. omega (arith, e, f)) (λ f. omega (arith, e, f)) named
+done_not_named n (suc zero, lt, e) named = not_named n (λ f. omega (arith, e, f)) (λ f. omega (arith, e, f)) (λ f. omega (arith, e, f)) named
+done_not_named n (suc (suc zero), lt, e) named = not_named n (λ f. omega (arith, e, f)) (λ f. omega (arith, e, f)) (λ f. omega (arith, e, f)) named
+done_not_named n (suc (suc (suc zero)), lt, e) named = not_named n (λ f. omega (arith, e, f)) (λ f. omega (arith, e, f)) (λ f. omega (arith, e, f)) named
+done_not_named n (suc (suc (suc (suc zero))), lt, e) named = not_named n (λ f. omega (arith, e, f)) (λ f. omega (arith, e, f)) (λ f. omega (arith, e, f)) named
+done_not_named n (suc (suc (suc (suc (suc k)))), lt, e) named = absurd (omega (arith, lt))
+
+-- the put of what is done doesn't come to one of these
+pub put_not_named : (text : Option (List ℕ)) (ends : ℕ) (sink : Sinks) (status : ℕ) → IsAnswerStatus ends → PutsText text ends sink status → IsNamed status → ⊥
+put_not_named None ends sink status is put named = done_not_named ends is (subst IsNamed put.0 named)
+put_not_named (Some text) ends sink status is (PutWhole e calls same put) named = done_not_named ends is (subst IsNamed e named)
+put_not_named (Some text) ends sink status is (PutPart e calls failed part) named = not_named status (λ f. omega (arith, e, f)) (λ f. omega (arith, e, f)) (λ f. omega (arith, e, f)) named
+put_not_named (Some text) ends sink status is (PutNothing e calls line) named = not_named status (λ f. omega (arith, e, f)) (λ f. omega (arith, e, f)) (λ f. omega (arith, e, f)) named
+
+-- with one of these the line of a refusal came
+line_said : (line : List ℕ) (ends : ℕ) (sink : Sinks) (status : ℕ) → SaysLine line ends sink status → IsNamed status → (status ≡ ends) × LineCame line sink
+line_said line ends sink status (inl (PutWhole e calls same put)) named = (e, CameWhole same put)
+line_said line ends sink status (inl (PutPart e calls failed part)) named = (e, CamePart failed part)
+line_said line ends sink status (inl (PutNothing e calls said)) named = absurd (not_named status (λ f. omega (arith, e, f)) (λ f. omega (arith, e, f)) (λ f. omega (arith, e, f)) named)
+line_said line ends sink status (inr want) named = let e = want.0 in absurd (not_named status (λ f. omega (arith, e, f)) (λ f. omega (arith, e, f)) (λ f. omega (arith, e, f)) named)
+
+pub refusal_said : (why : Why) (sink : Sinks) (status : ℕ) → Refused why sink status → IsNamed status → (status ≡ refusal_status why) × LineCame (line_of why) sink
+refusal_said (OfFile name why) sink status said named = line_said (file_line name why) (file_status why) sink status said named
+refusal_said (OfSource why) sink status said named = line_said (source_line why) 1 sink status said named
+refusal_said (OfMacros why) sink status said named = line_said (macro_line why) 1 sink status said named
+refusal_said (OfUnits why) sink status said named = line_said (unit_line why) 1 sink status said named
+refusal_said OfStore sink status said named = let e = said.0 in absurd (not_named status (λ f. omega (arith, e, f)) (λ f. omega (arith, e, f)) (λ f. omega (arith, e, f)) named)
+refusal_said OfMemory sink status said named = let e = said.0 in absurd (not_named status (λ f. omega (arith, e, f)) (λ f. omega (arith, e, f)) (λ f. omega (arith, e, f)) named)
+
+pub of_stop : (s : Stop) → IsAnswerStatus (stop_status s)
 of_stop (stop.Ended ending) = (0, lit< tt, refl)
-of_stop (stop.Trap kind at) = (7, lit< tt, refl)
-of_stop stop.Running = (6, lit< tt, refl)
+of_stop (stop.Trap kind at) = (2, lit< tt, refl)
+of_stop stop.Running = (1, lit< tt, refl)
 
-pub of_summary : (number functions steps : ℕ) (outs : Outputs) (s : Stop) → IsStatus (gen_answer number functions steps outs s).status
+pub of_summary : (number functions steps : ℕ) (outs : Outputs) (s : Stop) → IsAnswerStatus (gen_answer number functions steps outs s).status
 of_summary number functions steps outs (stop.Ended ending) = (0, lit< tt, refl)
-of_summary number functions steps outs (stop.Trap kind at) = (7, lit< tt, refl)
-of_summary number functions steps outs stop.Running = (6, lit< tt, refl)
+of_summary number functions steps outs (stop.Trap kind at) = (2, lit< tt, refl)
+of_summary number functions steps outs stop.Running = (1, lit< tt, refl)
 
-pub of_outcome : (o : Outcome) → IsStatus (outcome_status o)
+pub of_outcome : (o : Outcome) → IsAnswerStatus (outcome_status o)
 of_outcome (outcome.Ended outs ending) = (0, lit< tt, refl)
-of_outcome (outcome.More outs) = (6, lit< tt, refl)
-of_outcome (outcome.Undefined outs kind at) = (10, lit< tt, refl)
+of_outcome (outcome.More outs) = (1, lit< tt, refl)
+of_outcome (outcome.Undefined outs kind at) = (4, lit< tt, refl)
 
-pub of_check : (image : Contents) (frames : List Frame) → IsStatus (check_answer image frames).status
+pub of_check : (image : Contents) (frames : List Frame) → IsAnswerStatus (check_answer image frames).status
 of_check image frames = go (all_pass image frames)
   where
-    go : (passes : Bool) → IsStatus (if passes then 0 else 8)
+    go : (passes : Bool) → IsAnswerStatus (if passes then 0 else 8)
     go true = (0, lit< tt, refl)
-    go false = (8, lit< tt, refl)
+    go false = (3, lit< tt, refl)
 
-pub of_report : (a : Answered) (frames : List Frame) → a ≡ report_of frames → IsStatus a.status
-of_report a frames e = subst (λ b. IsStatus b.status) (sym e) (0, lit< tt, refl)
+pub of_report : (a : Answered) (frames : List Frame) → a ≡ report_of frames → IsAnswerStatus a.status
+of_report a frames e = subst (λ b. IsAnswerStatus b.status) (sym e) (0, lit< tt, refl)

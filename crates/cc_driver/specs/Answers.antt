@@ -8,7 +8,7 @@ use Rattle.cc_words.specs.Asked.{Asked, Asks, asked, texts_of}
 use Rattle.cc_answers.specs.Answers.{Answered}
 use Rattle.cc_files.specs.cc_text.Refusals.{Why, refusal_status}
 use Rattle.cc_files.specs.World.{Shelves, Sinks}
-use Rattle.cc_files.specs.Puts.{PutsLine, AnswerPut, Refused, memory_line}
+use Rattle.cc_files.specs.Puts.{PutsLine, AnswerPut, Refused, LineCame, line_of, memory_line}
 use Rattle.cc_files.specs.Fetches.{Wanted, AreFetched}
 use Rattle.cc_driver.specs.Commands.{files_of, stores_under, Comes, Rejects}
 use Rattle.cc_files.specs.Stores.{Stored, NothingStored, OnlyUnder}
@@ -26,6 +26,13 @@ AskForNothing words = asked (texts_of words) ≡ None
 pub data Answers (what : Asked) (shelf : Shelves) (sink : Sinks) (status : ℕ) : Type 0 where
   IsDone : (answer : Answered) → WorkDone what shelf answer → AnswerPut answer sink status → Answers what shelf sink status
   IsRefused : (why : Why) → WorkRefused what shelf why → Refused why sink status → Answers what shelf sink status
+
+-- the command is refused, and the line that names the cause was put, or the put failed
+pub record NamesCause (what : Asked) (shelf : Shelves) (sink : Sinks) (status : ℕ) : Type 0 where
+  pub why : Why
+  pub refused : WorkRefused what shelf why
+  pub status_is : status ≡ refusal_status why
+  pub line : LineCame (line_of why) sink
 
 -- a told file isn't there, or is longer than its limit, with the status of that
 pub data IsUnfetchable (files : Files) (file : Wanted) (status : ℕ) : Type 0 where

@@ -104,6 +104,7 @@ module _ (tells : Bool) (first between last : Stock) where
       parts = ap (λ more. ws ++ more) r.parts ∙ sym (append_assoc ws r.before (r.last ∷ r.behind));
       fetched = both_fetched (shelves tells first last) ws r.before fetched_by_now (still_fetched tells first between last so_far.stored.files so_far.counts r.before r.fetched);
       failed = r.failed;
+      unreliable = λ failed reliable. r.unreliable failed (so_far.stored.reliable reliable).reliable;
       asked = subst (AreAsked (shelves tells first last))
           (sym (append_assoc (map (fetch_of false) ws) (map (fetch_of false) r.before) (fetch_of r.failed r.last ∷ []))
           ∙ ap (λ names. names ++ fetch_of r.failed r.last ∷ []) (sym (map-append (fetch_of false) ws r.before)))

@@ -1,9 +1,10 @@
 -- Fetches one behind another.
 use Rattle.std.proofs.Common.{true≢false, length, ◌≡◌, ◌∙◌, ◌≤◌, ◌++◌, ◌+◌, ℕ, Bool, true, false, List, [], ◌∷◌, map, refl, sym, ap, subst, inl, inr, arith, append_assoc, append-nil}
-use Rattle.std.specs.Prelude.{◌⊎◌, Result, Err}
+use Rattle.std.specs.Prelude.{◌⊎◌, Result, Err, IsTrue, IsErrOf}
 use Rattle.cc_shelf.specs.Counts.{RoseBy}
 use Rattle.cc_shelf.specs.Files.{Unchanged}
 use Rattle.cc_shelf.specs.Stock.{Stock, Call}
+use Rattle.cc_shelf.specs.Reliable.{StaysReliable}
 use Rattle.cc_shelf.specs.Told.{FetchTold, MayTellFetch}
 use Rattle.cc_shelf.specs.ShelfAnswers.{AfterFetch, FetchRefused, NoFetchFailed}
 use Rattle.cc_shelf.specs.declared.shelf.ShelfFault.{ShelfFault}
@@ -19,14 +20,15 @@ rose_less : (m n a b : ℕ) → m ≤ n → RoseBy n a b → RoseBy m a b
 rose_less m n a b less rose = omega (arith, less, rose)
 
 -- one fetch is refused
-one_refused : (shelf : Shelves) (w : Wanted) (failed : Bool) (fault : FileFault) → FetchCause shelf w failed fault → AreAsked shelf (fetch_of failed w ∷ []) → NotFetched shelf (w ∷ []) (OfFile w.name fault)
-one_refused shelf w failed fault cause asked = AtFile (record {
+one_refused : (shelf : Shelves) (w : Wanted) (failed : Bool) (fault : FileFault) → (IsTrue failed → ¬ IsTrue shelf.before.reliable) → FetchCause shelf w failed fault → AreAsked shelf (fetch_of failed w ∷ []) → NotFetched shelf (w ∷ []) (OfFile w.name fault)
+one_refused shelf w failed fault unreliable cause asked = AtFile (record {
   before = [];
   last = w;
   behind = [];
   parts = refl;
   fetched = tt {0};
   failed = failed;
+  unreliable = unreliable;
   asked = asked;
   fault = fault;
   cause = cause;
@@ -56,23 +58,26 @@ one_stopped tells before now w count may = go tells may
     go false m = stopped false [] (w ∷ []) refl (omega arith) (λ t. absurd (true≢false (sym t)))
     go true m = either (m refl)
 
-refused_as : (T : Type 0) (tells : Bool) (before now : Stock) (name : List ℕ) (limit : ℕ) (fault : ShelfFault) → FetchRefused tells name limit before now fault
+not_failed : {A : Type 0} → IsTrue false → A
+not_failed t = absurd (true≢false (sym t))
+
+refused_as : (T : Type 0) (tells : Bool) (before now : Stock) (name : List ℕ) (limit : ℕ) (fault : ShelfFault) → (fault ≡ shelf_faults.Failed → ¬ IsTrue before.reliable) → FetchRefused tells name limit before now fault
     → FetchTold {T = T} tells name before now (Err fault) → NotFetched (shelves tells before now) (wanted name limit ∷ []) (of_shelf_fault name fault)
-refused_as T tells before now name limit shelf_faults.Failed r asked = one_refused (shelves tells before now) (wanted name limit) true Read r asked
-refused_as T tells before now name limit shelf_faults.Absent r asked = one_refused (shelves tells before now) (wanted name limit) false Read r asked
-refused_as T tells before now name limit (shelf_faults.TooLong at_least) r asked = one_refused (shelves tells before now) (wanted name limit) false TooLong (
+refused_as T tells before now name limit shelf_faults.Failed unreliable r asked = one_refused (shelves tells before now) (wanted name limit) true Read (λ t. unreliable refl) r asked
+refused_as T tells before now name limit shelf_faults.Absent unreliable r asked = one_refused (shelves tells before now) (wanted name limit) false Read (λ t. not_failed t) r asked
+refused_as T tells before now name limit (shelf_faults.TooLong at_least) unreliable r asked = one_refused (shelves tells before now) (wanted name limit) false TooLong (λ t. not_failed t) (
   record {
     told = λ t. let h = r.1 t in (h.0, h.1, omega (arith, r.0, h.2));
     not_told = λ t. rose_less (limit + 1) at_least before.counts.bytes_read now.counts.bytes_read (omega (arith, r.0)) (r.2 t);
   },
   r.3,
 ) asked
-refused_as T tells before now name limit shelf_faults.NoMemory r asked = one_stopped tells before now (wanted name limit) r asked
+refused_as T tells before now name limit shelf_faults.NoMemory unreliable r asked = one_stopped tells before now (wanted name limit) r asked
 
 -- a fetch that the shelf refuses
 pub fetch_refused : {T : Type 0} (answer : Result T ShelfFault) (tells : Bool) (before now : Stock) (name : List ℕ) (limit : ℕ) (fault : ShelfFault) → answer ≡ Err fault
-    → FetchRefused tells name limit before now fault → FetchTold tells name before now answer → NotFetched (shelves tells before now) (wanted name limit ∷ []) (of_shelf_fault name fault)
-fetch_refused {T} answer tells before now name limit fault is r asked = refused_as T tells before now name limit fault r (subst (λ x. FetchTold tells name before now x) is asked)
+    → (IsErrOf answer shelf_faults.Failed → ¬ IsTrue before.reliable) → FetchRefused tells name limit before now fault → FetchTold tells name before now answer → NotFetched (shelves tells before now) (wanted name limit ∷ []) (of_shelf_fault name fault)
+fetch_refused {T} answer tells before now name limit fault is unreliable r asked = refused_as T tells before now name limit fault (λ e. unreliable (is ∙ ap Err e)) r (subst (λ x. FetchTold tells name before now x) is asked)
 
 -- the first file is refused, and so it is of more files
 pub first_refused : (shelf : Shelves) (w : Wanted) (vs : List Wanted) (why : Why) → NotFetched shelf (w ∷ []) why → NotFetched shelf (w ∷ vs) why
@@ -83,6 +88,7 @@ first_refused shelf w vs why (AtFile r) = AtFile (record {
   parts = ap (λ ws. ws ++ vs) r.parts ∙ append_assoc r.before (r.last ∷ r.behind) vs;
   fetched = r.fetched;
   failed = r.failed;
+  unreliable = r.unreliable;
   asked = r.asked;
   fault = r.fault;
   cause = r.cause;
@@ -144,20 +150,21 @@ module _ (tells : Bool) (first between last : Stock) (same : Unchanged first.fil
 
   -- behind a file that was fetched one of the others is refused
   pub second_refused : (w : Wanted) (vs : List Wanted) (why : Why) → ((bytes : List ℕ) × IsFetched (shelves tells first last) w bytes) → NoneFailed (shelves tells first between) (w ∷ [])
-      → NotFetched (shelves tells between last) vs why → NotFetched (shelves tells first last) (w ∷ vs) why
-  second_refused w vs why fetched one (AtFile r) = AtFile (record {
+      → StaysReliable first between → NotFetched (shelves tells between last) vs why → NotFetched (shelves tells first last) (w ∷ vs) why
+  second_refused w vs why fetched one stays (AtFile r) = AtFile (record {
     before = w ∷ r.before;
     last = r.last;
     behind = r.behind;
     parts = ap (λ ws. w ∷ ws) r.parts;
     fetched = (fetched, still_fetched r.before r.fetched);
     failed = r.failed;
+    unreliable = λ failed reliable. r.unreliable failed (stays reliable).reliable;
     asked = still_asked w (map (fetch_of false) r.before ++ fetch_of r.failed r.last ∷ []) one.asked r.asked;
     fault = r.fault;
     cause = still_cause one.count r.last r.failed r.fault r.cause;
     named = r.named;
   })
-  second_refused w vs why fetched one (ForMemory e s) = ForMemory e (record {
+  second_refused w vs why fetched one stays (ForMemory e s) = ForMemory e (record {
     before = w ∷ s.before;
     next = s.next;
     behind = s.behind;

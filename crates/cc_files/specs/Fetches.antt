@@ -79,7 +79,8 @@ of_shelf_fault name shelf_faults.Absent = OfFile name Read
 of_shelf_fault name (shelf_faults.TooLong at_least) = OfFile name TooLong
 of_shelf_fault name shelf_faults.NoMemory = OfMemory
 
--- one file can't be fetched: those before it were, it was the last one that was asked for, and it is the one that is named
+-- one file can't be fetched: those before it were, it was the last one that was asked for, and it is the one that is named; of a reliable
+-- shelf its fetch didn't fail
 pub record FileRefused (shelf : Shelves) (files : List Wanted) (why : Why) : Type 0 where
   pub before : List Wanted
   pub last : Wanted
@@ -87,6 +88,7 @@ pub record FileRefused (shelf : Shelves) (files : List Wanted) (why : Why) : Typ
   pub parts : files ≡ before ++ last ∷ behind
   pub fetched : AreFetched shelf before
   pub failed : Bool
+  pub unreliable : IsTrue failed → ¬ IsTrue shelf.before.reliable
   pub asked : AreAsked shelf (map (fetch_of false) before ++ fetch_of failed last ∷ [])
   pub fault : FileFault
   pub cause : FetchCause shelf last failed fault

@@ -65,6 +65,20 @@ abbrev pub SaysMade : Result (String Global) NoMemory → ℕ → Sinks → ℕ 
 SaysMade (Ok line) ends sink status = TextPut (string_bytes line) ends ends sink status
 SaysMade (Err e) ends sink status = SaysWant sink status
 
+-- the line of a refusal; a store that failed has none
+abbrev pub line_of : Why → List ℕ
+line_of (OfFile name why) = file_line name why
+line_of (OfSource why) = source_line why
+line_of (OfMacros why) = macro_line why
+line_of (OfUnits why) = unit_line why
+line_of OfStore = []
+line_of OfMemory = memory_line
+
+-- the line is there, or else the put failed, and a part of the line is there
+pub data LineCame (line : List ℕ) (sink : Sinks) : Type 0 where
+  CameWhole : sink.now.faults ≡ sink.before.faults → (IsTrue sink.tells → sink.now.bytes ≡ sink.before.bytes ++ line) → LineCame line sink
+  CamePart : Rose sink.before.faults sink.now.faults → (IsTrue sink.tells → (n : ℕ) × (sink.now.bytes ≡ sink.before.bytes ++ take n line)) → LineCame line sink
+
 -- what is said of a refusal, and with which status
 abbrev pub Refused : Why → Sinks → ℕ → Type 0
 Refused (OfFile name why) sink status = SaysLine (file_line name why) (file_status why) sink status

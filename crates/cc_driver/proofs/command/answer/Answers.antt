@@ -1,14 +1,14 @@
 use Rattle.cc_driver.specs.Answers.{IsDone, IsRefused}
 use Rattle.cc_driver.proofs.CommandLemmas.{comes_status}
 use Rattle.cc_driver.proofs.LeftLemmas.{done_leaves, refused_leaves, refused_reliable}
-use Rattle.cc_driver.proofs.StatusLemmas.{refusal_is, put_is}
+use Rattle.cc_driver.proofs.StatusLemmas.{answer_is, refusal_is, put_is}
 use Rattle.cc_driver.proofs.command.answer.Goals as goal
 
 pub returns-in-Ok-clause-answers : goal.returns-in-Ok-clause-answers
 returns-in-Ok-clause-answers g c = IsDone _ c.in-Ok.ensures.done c.put.ensures.put
 
 pub returns-in-Ok-clause-status : goal.returns-in-Ok-clause-status
-returns-in-Ok-clause-status g c = put_is _ _ _ _ (comes_status _ _ _ _ c.in-Ok.ensures.done.comes) c.put.ensures.put
+returns-in-Ok-clause-status g c = put_is _ _ _ _ (answer_is _ (comes_status _ _ _ _ c.in-Ok.ensures.done.comes)) c.put.ensures.put
 
 pub returns-in-Ok-clause-leaves : goal.returns-in-Ok-clause-leaves
 returns-in-Ok-clause-leaves g c = done_leaves _ _ c.in-Ok.answer _ _ c.in-Ok.ensures.left c.in-Ok.ensures.done c.put.ensures.put

@@ -1,9 +1,10 @@
-use Rattle.std.proofs.Common.{lit<, refl, subst, rules}
+use Rattle.std.proofs.Common.{arith, lit<, refl, subst, rules}
 use Rattle.cc_words.specs.Asked.{Asked, texts_of}
 use Rattle.cc_files.specs.cc_text.Refusals.{OfMemory}
 use Rattle.cc_files.specs.World.{shelves, sinks}
 use Rattle.cc_driver.specs.Answers.{Answers, IsRefused}
-use Rattle.cc_driver.proofs.DecidedLemmas.{answers_decide}
+use Rattle.cc_driver.proofs.DecidedLemmas.{answers_decide, cause_named}
+use Rattle.cc_driver.proofs.StatusLemmas.{not_named}
 use Rattle.cc_driver.proofs.WorkLemmas.{bounded, one_asked, stopped_first}
 use Rattle.cc_driver.proofs.command.c25cc.Goals as goal
 
@@ -27,3 +28,12 @@ returns-in-Ok-Some-clause-decided g c = λ what asks. answers_decide what _ _ _ 
 
 pub returns-in-Err-clause-answers : goal.returns-in-Err-clause-answers
 returns-in-Err-clause-answers g c = λ what asks. IsRefused OfMemory (stopped_first what g.F.Shelf.tells (g.F.Shelf.stock c.args.shelf.now)) c.refuse.ensures.put
+
+pub returns-in-Ok-None-clause-lines : goal.returns-in-Ok-None-clause-lines
+returns-in-Ok-None-clause-lines g c = λ what asks named. absurd (not_named 2 (λ e. omega (arith, e)) (λ e. omega (arith, e)) (λ e. omega (arith, e)) named)
+
+pub returns-in-Ok-Some-clause-lines : goal.returns-in-Ok-Some-clause-lines
+returns-in-Ok-Some-clause-lines g c = λ what asks. cause_named what _ _ _ (returns-in-Ok-Some-clause-answers g c what asks)
+
+pub returns-in-Err-clause-lines : goal.returns-in-Err-clause-lines
+returns-in-Err-clause-lines g c = λ what asks. cause_named what _ _ _ (returns-in-Err-clause-answers g c what asks)

@@ -20,7 +20,7 @@ returns-in_err-more-clause-refused g c =
     let two = wanted c.args.other.now c.args.other_limit in
     passed_on c.from_residual-in_err-more.result c.in_err-more.field-0.0 (NotFetched shelf (one ∷ two ∷ [])) c.from_residual-in_err-more.ensures.1
     (second_refused g.F.Shelf.tells (g.F.Shelf.stock c.args.shelf.now) (g.F.Shelf.stock c.fetch.new.shelf) (g.F.Shelf.stock c.fetch-2.new.shelf) c.in_ok-bytes.ensures.stored.files c.in_ok-bytes.ensures.counts
-    one (two ∷ []) _ (c.in_ok-bytes.bytes.items, record { told = c.in_ok-bytes.ensures.fetched.told; fits = c.in_ok-bytes.ensures.fetched.fits }) c.in_ok-bytes.ensures.asked c.in_err-more.ensures.refused)
+    one (two ∷ []) _ (c.in_ok-bytes.bytes.items, record { told = c.in_ok-bytes.ensures.fetched.told; fits = c.in_ok-bytes.ensures.fetched.fits }) c.in_ok-bytes.ensures.asked c.in_ok-bytes.ensures.stored.reliable c.in_err-more.ensures.refused)
 
 pub returns-clause-other : goal.returns-clause-other
 returns-clause-other g c =

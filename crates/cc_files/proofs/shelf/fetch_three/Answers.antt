@@ -21,7 +21,7 @@ returns-in_err-others-clause-refused g c =
     let others = of_want c.args.second.now ∷ of_want c.args.third.now ∷ [] in
     passed_on c.from_residual-in_err-others.result c.in_err-others.field-0.0 (NotFetched shelf (one ∷ others)) c.from_residual-in_err-others.ensures.1
     (second_refused g.F.Shelf.tells (g.F.Shelf.stock c.args.shelf.now) (g.F.Shelf.stock c.fetch.new.shelf) (g.F.Shelf.stock c.fetch_both.new.shelf) c.in_ok-bytes.ensures.stored.files c.in_ok-bytes.ensures.counts
-    one others _ (c.in_ok-bytes.bytes.items, record { told = c.in_ok-bytes.ensures.fetched.told; fits = c.in_ok-bytes.ensures.fetched.fits }) c.in_ok-bytes.ensures.asked c.in_err-others.ensures.refused)
+    one others _ (c.in_ok-bytes.bytes.items, record { told = c.in_ok-bytes.ensures.fetched.told; fits = c.in_ok-bytes.ensures.fetched.fits }) c.in_ok-bytes.ensures.asked c.in_ok-bytes.ensures.stored.reliable c.in_err-others.ensures.refused)
 
 pub returns-clause-second : goal.returns-clause-second
 returns-clause-second g c =
