@@ -170,6 +170,12 @@ module _ (o : FrameJobs) (t : ProgramTree) (each : length o.jobs ≡ length t.fu
           ∙ slice_get-map (λ (j : Job). j.sequence.scalars) o.jobs k
           ∙ ap (option_map (λ (j : Job). j.sequence.scalars)) job_at)
 
+      abbrev given_to : FunctionTree → List ℕ
+      given_to g = given_from (λ n. is_among n (called (statement_uses g.body))) 0 t.functions frames plan.frames
+
+      abbrev names_these : FunctionTree → FramePlan → ℕ → ℕ → List ℕ → List ℕ → Type 0
+      names_these g at first last own words = Direct image.words first last own (place_words t plan g at) words
+
       pub all_direct : AreDirect (emission_of t plan (layouts o) o.step) image → AllNameDirectly t plan image frames
       all_direct direct k g f at g_at f_at plan_at =
           let x = frame_at (selected p) o.jobs plan.frames k f (ap (λ fs. slice_get fs k) (sym are) ∙ f_at) in
@@ -186,15 +192,9 @@ module _ (o : FrameJobs) (t : ProgramTree) (each : length o.jobs ≡ length t.fu
           (record {
             range = h.range;
             there = h.there;
-            direct = subst (λ ws. directs_in h.range.first h.range.last ws (given_words_of g)) (ap (λ n. map (place_of at.bases (layout_of x.job)) (numbers_from 0 n)) (scalars_at k g x.g x.job g_at x.g_at x.job_at))
-                (subst (λ ws. directs_in h.range.first h.range.last _ ws) (given g) h.direct);
+            direct = subst (λ ws. names_these g at h.range.first h.range.last ws (given_to g)) (ap (λ n. map (place_of at.bases (layout_of x.job)) (numbers_from 0 n)) (scalars_at k g x.g x.job g_at x.g_at x.job_at))
+                (subst (λ ws. names_these g at h.range.first h.range.last _ ws) (given g) h.direct);
           })
-        where
-          abbrev given_words_of : FunctionTree → List ℕ
-          given_words_of g = given_from (λ n. is_among n (called (statement_uses g.body))) 0 t.functions frames plan.frames
-
-          abbrev directs_in : ℕ → ℕ → List ℕ → List ℕ → Type 0
-          directs_in first last own words = Direct image.words first last own (place_words t plan g at) words
 
     -- as the source's accesses are those of its code
     pub source_scalars : (step : ℕ) (searched : List Job) → map (λ (job : Job). job.sequence.scalars) searched ≡ map (λ (s : Sequence). s.scalars) (map (source_sequence step) t.functions) → searched ≡ o.jobs
