@@ -1,6 +1,7 @@
 -- A command whose files are in order is done, unless memory was wanting.
-use Rattle.std.proofs.Common.{◌≡◌, ◌∙◌, ◌≢◌, ℕ, List, [], ◌∷◌, Ok, Err, inl, inr, refl, sym, ap, subst, lit<}
-use Rattle.std.specs.Prelude.{◌⊎◌, Contains, IsTrue, Bool, true, false, if◌then◌else◌}
+use Rattle.std.proofs.Common.{◌≡◌, ◌∙◌, ◌≢◌, ◌<◌, ◌≤◌, ◌+◌, ◌^◌, ℕ, List, [], ◌∷◌, Ok, Err, inl, inr, refl, sym, ap, subst, lit<, arith}
+use Rattle.std.proofs.Math.Nat.{min-eq_left}
+use Rattle.std.specs.Prelude.{◌-◌, ◌⊎◌, Contains, IsTrue, Bool, true, false, if◌then◌else◌}
 use Rattle.word_base.specs.declared.outcome.Outcome.{Outcome}
 use Rattle.word_base.specs.declared.outcome.Outcome.TheVariants as outcome
 use Rattle.word_base.specs.Ports.{input_of}
@@ -12,6 +13,8 @@ use Rattle.lay_text.proofs.Exact.{says_not_read}
 use Rattle.cc_check.specs.lay_cert.Frames.{Frame}
 use Rattle.cc_check.specs.CheckText.{all_pass}
 use Rattle.cc_check.proofs.lay_cert.Exact.{says_not_read as no_certificate}
+use Rattle.cc_shelf.specs.Counts.{Rose}
+use Rattle.cc_shelf.specs.Reliable.{PutsStayReliable, StaysReliable}
 use Rattle.cc_words.specs.Asked.{Asked, ToBuild, ToRun, ToEvaluate, ToExecute, ToLayOut, ToCheck, ToAssemble, ToList}
 use Rattle.cc_answers.specs.Answers.{Answered}
 use Rattle.cc_answers.specs.MeansText.{outcome_status}
@@ -31,7 +34,7 @@ use Rattle.cc_driver.specs.Build.{FileHas, chosen_options, plain_options, source
 use Rattle.cc_driver.specs.Check.{CheckRefused, certificate_file, check_answer}
 use Rattle.cc_driver.specs.Check as check
 use Rattle.cc_driver.specs.Commands.{Comes, FilesHave, Rejects, files_of, stores_under}
-use Rattle.cc_driver.specs.Completeness.{Completes, EndsDone, EndsWanting, IsAssemblerText, IsCertificateText, IsImageText, IsPortText, IsSequenceText, IsTypedSource, NothingFails}
+use Rattle.cc_driver.specs.Completeness.{AreReliable, Completes, EndsDone, EndsWanting, IsAssemblerText, IsCertificateText, IsImageText, IsPortText, IsSequenceText, IsTypedSource, NothingFails}
 use Rattle.cc_driver.specs.Exec.{ExecuteRefused}
 use Rattle.cc_driver.specs.Exec as exec
 use Rattle.cc_driver.specs.Layout.{sequence_file}
@@ -179,3 +182,20 @@ check_among false = (1, lit< tt, refl)
 
 pub check_status : (contents : Contents) (frames : List Frame) (answer : Answered) → answer ≡ check_answer contents frames → Contains (0 ∷ 8 ∷ []) answer.status
 check_status contents frames answer is = subst (λ a. Contains (0 ∷ 8 ∷ []) a.status) (sym is) (check_among (all_pass contents frames))
+
+-- ---- shelves and sinks of which no call can fail
+
+-- a count that stayed, and isn't at its greatest value, didn't rise
+not_risen : (before now : ℕ) → before < 2 ^ 64 - 1 → now ≡ before → Rose before now → ⊥
+not_risen before now less same rose =
+    let most : before + 1 ≤ 2 ^ 64 - 1 = omega (arith, less) in
+    let risen : before + 1 ≤ now = subst (λ k. k ≤ now) (min-eq_left most) rose in
+    omega (arith, risen, same)
+
+pub reliable_fails_nothing : (shelf : Shelves) (sink : Sinks) → IsTrue shelf.tells → AreReliable shelf sink → StaysReliable shelf.before shelf.now → PutsStayReliable sink.before sink.now → NothingFails shelf sink
+reliable_fails_nothing shelf sink tells are stays puts = record {
+  tells = tells;
+  fetches = not_risen shelf.before.counts.fetch_faults shelf.now.counts.fetch_faults are.fetch_faults (stays are.files).fetches;
+  stores = not_risen shelf.before.counts.store_faults shelf.now.counts.store_faults are.store_faults (stays are.files).stores;
+  puts = not_risen sink.before.faults sink.now.faults are.put_faults (puts are.output).faults;
+}

@@ -1,5 +1,5 @@
 -- When a command is sure to be done, and what it then answers (docs/COMMANDS.md, "Statuses and lines").
-use Rattle.std.specs.Prelude.{◌≡◌, ℕ, IsTrue, List, Contains, Ok}
+use Rattle.std.specs.Prelude.{◌≡◌, ◌<◌, ◌-◌, ◌^◌, ℕ, IsTrue, List, Contains, Ok}
 use Rattle.c25_isa.specs.Image.{Contents}
 use Rattle.c25_image.specs.PortText.{PortText}
 use Rattle.c25_asm.specs.AssemblerText.{assembled}
@@ -23,6 +23,15 @@ pub record NothingFails (shelf : Shelves) (sink : Sinks) : Type 0 where
   pub fetches : ¬ FetchFailed shelf.before.counts shelf.now.counts
   pub stores : ¬ StoreFailed shelf.before.counts shelf.now.counts
   pub puts : ¬ Rose sink.before.faults sink.now.faults
+
+-- no call of the shelf and no put that comes can fail, and no count of failed ones is at its greatest value; so it is of those in memory that are new, and of
+-- which no call is to fail
+pub record AreReliable (shelf : Shelves) (sink : Sinks) : Type 0 where
+  pub files : IsTrue shelf.before.reliable
+  pub output : IsTrue sink.before.reliable
+  pub fetch_faults : shelf.before.counts.fetch_faults < 2 ^ 64 - 1
+  pub store_faults : shelf.before.counts.store_faults < 2 ^ 64 - 1
+  pub put_faults : sink.before.faults < 2 ^ 64 - 1
 
 -- files in their formats: a source that is typed, an image, ports, a sequence, a certificate and an assembler text
 abbrev pub IsTypedSource : List ℕ → Type 0

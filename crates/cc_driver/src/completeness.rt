@@ -1,8 +1,9 @@
 //! The laws of commands that are sure to be done.
-ghost use Rattle.std.specs.Prelude.{ℕ, List, [], ◌∷◌};
+ghost use Rattle.std.specs.Prelude.{ℕ, IsTrue, List, [], ◌∷◌};
 ghost use Rattle.cc_words.specs.Asked.{ToBuild, ToRun, ToEvaluate, ToExecute, ToLayOut, ToCheck, ToAssemble, ToList};
 ghost use Rattle.cc_files.specs.cc_compile.Compilable.{IsCompilable};
 ghost use Rattle.cc_files.specs.World.{Shelves, Sinks};
+ghost use Rattle.cc_shelf.specs.Reliable.{PutsStayReliable, StaysReliable};
 ghost use Rattle.cc_driver.specs.Answers.{Answers};
 ghost use Rattle.cc_driver.specs.Asm.{text_file};
 ghost use Rattle.cc_driver.specs.Build.{source_file, FileHas};
@@ -10,7 +11,7 @@ ghost use Rattle.cc_driver.specs.Check.{certificate_file};
 ghost use Rattle.cc_driver.specs.Commands.{FilesHave};
 ghost use Rattle.cc_driver.specs.Layout.{sequence_file};
 ghost use Rattle.cc_driver.specs.Run.{image_file, ports_file};
-ghost use Rattle.cc_driver.specs.Completeness.{NothingFails, Completes, IsTypedSource, IsImageText, IsPortText, IsSequenceText, IsCertificateText, IsAssemblerText};
+ghost use Rattle.cc_driver.specs.Completeness.{AreReliable, NothingFails, Completes, IsTypedSource, IsImageText, IsPortText, IsSequenceText, IsCertificateText, IsAssemblerText};
 
 /// A command is done unless memory is wanting, where its files are told, each within its limit and in its format, and no count of faults rises. `build` and
 /// `exec` want a source that can be compiled: a typed one whose data find room, and with 1,000 words and 64 for each expression, statement and declared item
@@ -40,6 +41,9 @@ pub fn commands_complete()
     ensures dis { (image : List ℕ) (shelf : Shelves) (sink : Sinks) (status : ℕ)
         → Answers (ToList image) shelf sink status → NothingFails shelf sink
         → FileHas shelf (image_file image) IsImageText → Completes (ToList image) (0 ∷ []) shelf status }
+    // Nothing fails where no call can: the top call keeps that (`shelf_reliable`, `sink_reliable`), and those in memory tell it.
+    ensures reliable { (shelf : Shelves) (sink : Sinks) → IsTrue shelf.tells → AreReliable shelf sink → StaysReliable shelf.before shelf.now
+        → PutsStayReliable sink.before sink.now → NothingFails shelf sink }
 {
     cc_files::compilable_sources_have_no_fault();
 }

@@ -42,3 +42,6 @@ pub returns-clause-dis : goal.returns-clause-dis
 returns-clause-dis c = λ image shelf sink status answers fine good.
     lemmas.completes (ToList image) shelf sink status fine (lemmas.one_told shelf _ _ good) (lemmas.dis_none shelf fine.tells image good) _
     (λ answer texts come. lemmas.done_status answer _ come.0.holds.is refl) answers
+
+pub returns-clause-reliable : goal.returns-clause-reliable
+returns-clause-reliable c = λ shelf sink tells are stays puts. lemmas.reliable_fails_nothing shelf sink tells are stays puts
