@@ -2,6 +2,8 @@
 use Rattle.std.proofs.Common.{◌≡◌, ◌+◌, ◌++◌, ◌∙◌, ℕ, zero, suc, Bool, true, false, List, [], ◌∷◌, length, map, refl, sym, ap, ap₂, subst, arith, All}
 use Rattle.std.specs.Prelude.{◌==◌, ◌||◌, if◌then◌else◌, slice_get, Option, Some, None, option_map}
 use Rattle.std.proofs.Math.Logic.{∥∥₁_map}
+use Rattle.std.proofs.lemmas.Bool.{false≢true}
+use Rattle.std.proofs.lemmas.Bool.Decides.{Decides-eqb}
 use Rattle.std.proofs.lemmas.List.{length-map}
 use Rattle.std.proofs.lemmas.List.Elements.{All-cons, All-nil}
 use Rattle.std.proofs.lemmas.Option.{slice_get-map}
@@ -73,10 +75,13 @@ all_found o (g ∷ gs) (s ∷ seqs) (plan ∷ plans) =
 -- ---- parameters of functions that are called
 
 same_number : (n m : ℕ) → (n == m) ≡ (m == n)
-same_number zero zero = refl
-same_number zero (suc m) = refl
-same_number (suc n) zero = refl
-same_number (suc n) (suc m) = same_number n m
+same_number n m = by (n == m) (m == n) refl refl
+  where
+    by : (a b : Bool) → (n == m) ≡ a → (m == n) ≡ b → a ≡ b
+    by true true e f = refl
+    by true false e f = absurd (false≢true (sym f ∙ (Decides-eqb m n).1 (sym ((Decides-eqb n m).0 e))))
+    by false true e f = absurd (false≢true (sym e ∙ (Decides-eqb n m).1 (sym ((Decides-eqb m n).0 f))))
+    by false false e f = refl
 
 listed_among : (n : ℕ) (ms : List ℕ) → is_listed n ms ≡ is_among n ms
 listed_among n [] = refl
@@ -151,9 +156,12 @@ module _ (o : FrameJobs) (t : ProgramTree) (each : length o.jobs ≡ length t.fu
 
     -- the words that each function names
     module _ (scalars : map (λ (job : Job). job.sequence.scalars) o.jobs ≡ map (λ (g : FunctionItems). g.scalars) (selected p)) (image : Contents) (frames : List Frame) (are : frames ≡ frames_of (selected p) o.jobs plan.frames) where
+      none_more : (i : ℕ) → 0 + i ≡ i
+      none_more i = omega arith
+
       given : (g : FunctionTree) → directs.given_words (emission_of t plan (layouts o) o.step) (lowered_function g) ≡ given_from (λ n. is_among n (called (statement_uses g.body))) 0 t.functions frames plan.frames
       given g =
-          given_same t.functions _ (called (statement_uses g.body)) (ap called (statement_uses_kept g.body)) 0 t.functions (selected p) o.jobs plan.frames items_count each plans_count (λ i. refl)
+          given_same t.functions _ (called (statement_uses g.body)) (ap called (statement_uses_kept g.body)) 0 t.functions (selected p) o.jobs plan.frames items_count each plans_count (λ i. ap (slice_get t.functions) (none_more i))
           ∙ ap (λ fs. given_from (λ n. is_among n (called (statement_uses g.body))) 0 t.functions fs plan.frames) (sym are)
 
       same_some : {A : Type 0} (a b : A) → Some a ≡ Some b → a ≡ b
@@ -193,7 +201,7 @@ module _ (o : FrameJobs) (t : ProgramTree) (each : length o.jobs ≡ length t.fu
             range = h.range;
             there = h.there;
             direct = subst (λ ws. names_these g at h.range.first h.range.last ws (given_to g)) (ap (λ n. map (place_of at.bases (layout_of x.job)) (numbers_from 0 n)) (scalars_at k g x.g x.job g_at x.g_at x.job_at))
-                (subst (λ ws. names_these g at h.range.first h.range.last _ ws) (given g) h.direct);
+                (subst (λ ws. names_these g at h.range.first h.range.last (map (place_of at.bases (layout_of x.job)) (numbers_from 0 (lowered_function g).scalars)) ws) (given g) h.direct);
           })
 
     -- as the source's accesses are those of its code

@@ -54,7 +54,8 @@ pub returns-clause-built : goal.returns-clause-built
 returns-clause-built g c =
     let has = c.in_ok-program.ensures.typed in
     let program = program_of c.in_ok-program.program in
-    let made = returns-clause-made g c in
+    let image = subst (λ (i : Contents). HasImage (source_jobs c.args.options program) program i) (sym c.in_ok-with_rows.ensures.image) c.in_ok-translated.ensures.image in
+    let framed = subst (λ (fs : List Frame). HasFrames (source_jobs c.args.options program) program fs) (sym c.in_ok-with_rows.ensures.certificate) c.in_ok-translated.ensures.frames in
     record {
       tokens = has.0;
       source = has.1;
@@ -65,17 +66,17 @@ returns-clause-built g c =
       agrees = subst (λ (i : Contents). ∥ Agrees (source_run program) i.words ∥₁) (sym c.in_ok-with_rows.ensures.image) c.in_ok-translated.ensures.agrees;
       in_time = subst (λ (i : Contents). ∥ EndsInTime program i.words ∥₁) (sym c.in_ok-with_rows.ensures.image) c.in_ok-translated.ensures.in_time;
       short =
-          let bound = c.code_is_bounded.ensures.image (source_jobs c.args.options program) program _ c.in_ok-program.program.well_formed made.has in
+          let bound = c.code_is_bounded.ensures.image (source_jobs c.args.options program) program _ c.in_ok-program.program.well_formed image in
           let few = c.programs_weigh_by_nodes.ensures has.1 program has.4 in
           omega (arith, bound, few);
-      names = have_names c.args.options program _ _ made.has made.framed;
+      names = have_names c.args.options program _ _ image framed;
       accesses = subst (λ (fs : List Frame). AccessAs c.args.options.step program fs) (sym c.in_ok-with_rows.ensures.certificate) c.in_ok-translated.ensures.accesses;
-      found = are_found c.args.options program _ made.framed;
+      found = are_found c.args.options program _ framed;
       walked = walked_too _ _ _ _ c.in_ok-with_rows.ensures.image c.in_ok-with_rows.ensures.certificate c.in_ok-translated.ensures.walked;
-      plan = made.framed.plan;
-      memory = have_data c.args.options program _ made.framed;
+      plan = framed.plan;
+      memory = have_data c.args.options program _ framed;
       direct =
-          are_direct c.args.options program _ _ made.framed (c.accesses_are_kept.ensures.sequences c.args.options.step program c.in_ok-program.program.well_formed)
+          are_direct c.args.options program _ _ framed (c.accesses_are_kept.ensures.sequences c.args.options.step program c.in_ok-program.program.well_formed)
           (subst (λ (i : Contents). ∥ IsDirect (source_jobs c.args.options program) program i ∥₁) (sym c.in_ok-with_rows.ensures.image) c.in_ok-translated.ensures.direct);
     }
 
