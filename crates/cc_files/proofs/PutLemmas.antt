@@ -10,7 +10,7 @@ use Rattle.cc_shelf.specs.declared.sink.SinkFault.TheVariants.{Failed, NoMemory}
 use Rattle.cc_shelf.specs.SinkAnswers.{PutRefused}
 use Rattle.cc_shelf.specs.Reliable.{PutsStayReliable}
 use Rattle.cc_files.specs.World.{Sinks}
-use Rattle.cc_files.specs.Puts.{LinePut, Whole, Part, Nothing, PutsLine, TextPut, SaysLine, SaysMade}
+use Rattle.cc_files.specs.Puts.{LinePut, Whole, Part, Nothing, TextPut, SaysLine, SaysMade}
 
 -- a put of a line, whatever it answers
 pub line_put : (tells : Bool) (line : List ℕ) (before now : Output) (r : Result (Unit {0}) SinkFault) → OnOk r (IsTrue tells → now.bytes ≡ before.bytes ++ line) → OnOk r (now.faults ≡ before.faults)

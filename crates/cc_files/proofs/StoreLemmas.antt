@@ -1,5 +1,5 @@
 -- A store, and calls that store nothing.
-use Rattle.std.proofs.Common.{◌≡◌, ◌≢◌, ◌∙◌, ◌++◌, ℕ, Bool, true, false, List, [], ◌∷◌, Some, refl, sym, ap, subst, append-nil, inl, inr}
+use Rattle.std.proofs.Common.{◌≡◌, ◌≢◌, ◌∙◌, ℕ, Bool, false, List, Some, refl, ap, subst, inl, inr}
 use Rattle.std.specs.Prelude.{Result, Err, IsErrOf, IsTrue}
 use Rattle.cc_shelf.specs.Files.{Unchanged}
 use Rattle.cc_shelf.specs.Reliable.{StaysReliable}

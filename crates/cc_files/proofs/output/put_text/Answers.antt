@@ -1,4 +1,4 @@
-use Rattle.std.proofs.Common.{◌∙◌, ap, refl}
+use Rattle.std.proofs.Common.{◌∙◌, ap}
 use Rattle.cc_shelf.specs.Counts.{raised}
 use Rattle.cc_files.specs.Puts.{PutNothing}
 use Rattle.cc_files.proofs.PutLemmas.{line_behind, puts_reliable}
