@@ -13,11 +13,11 @@ mod phases;
 mod translation;
 mod translation_fault;
 
+pub use built_laws::built_functions_differ;
 pub use c_lexer::LexFault;
 pub use c_parser::ParseFault;
 pub use c_rules::TypeFault;
 pub use c25_link::LinkFault;
-pub use built_laws::built_functions_differ;
 pub use cc_fault_laws::one_source_fault;
 pub use compilable_laws::compilable_sources_have_no_fault;
 pub use fault::BuildFault;
