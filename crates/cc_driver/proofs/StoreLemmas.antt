@@ -71,10 +71,10 @@ pub stopped_at_first : (tells : Bool) (before now : Stock) (one : Stored) (more 
 stopped_at_first tells before now one more others why (inl failed) = inl (failed.0, fails_first tells before now one more others failed.1)
 stopped_at_first tells before now one more others why (inr wanting) = inr (wanting.0, wants_first tells before now one more wanting.1)
 
--- stores behind stores
-both_tried : (tells : Bool) (first middle last : Stock) (before behind : List Call) → AreTried (shelves tells first middle) before → AreTried (shelves tells middle last) behind
-    → AreTried (shelves tells first last) (before ++ behind)
-both_tried tells first middle last before behind one more t = more t ∙ ap (λ calls. calls ++ behind) (one t) ∙ append_assoc first.stored before behind
+-- stores that follow stores
+both_tried : (tells : Bool) (first middle last : Stock) (some others : List Call) → AreTried (shelves tells first middle) some → AreTried (shelves tells middle last) others
+    → AreTried (shelves tells first last) (some ++ others)
+both_tried tells first middle last some others one more t = more t ∙ ap (λ calls. calls ++ others) (one t) ∙ append_assoc first.stored some others
 
 -- a first text is stored, which has another name than the second one
 module _ (tells : Bool) (first middle last : Stock) (one two : Stored) (differ : one.name ≢ two.name) (is : AreStored (one ∷ []) (shelves tells first middle))

@@ -26,12 +26,12 @@ line_made (Ok l) line given ends sink status e same says =
     inl (subst (λ n. TextPut line n n sink status) same (subst (λ t. TextPut t given given sink status) e says))
 line_made (Err e) line given ends sink status is same says = inr says
 
--- puts behind a put
+-- puts that follow puts
 pub puts_reliable : (first between last : Output) → PutsStayReliable first between → PutsStayReliable between last → PutsStayReliable first last
 puts_reliable first between last one more reliable =
-    let before = one reliable in
-    let behind = more before.reliable in
-    record { reliable = behind.reliable; faults = behind.faults ∙ before.faults }
+    let former = one reliable in
+    let latter = more former.reliable in
+    record { reliable = latter.reliable; faults = latter.faults ∙ former.faults }
 
 -- what rose twice rose
 rose_again : (a b c : ℕ) → Rose a b → Rose b c → Rose a c

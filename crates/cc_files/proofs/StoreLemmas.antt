@@ -11,12 +11,12 @@ use Rattle.cc_shelf.specs.declared.shelf.ShelfFault.TheVariants as shelf_faults
 use Rattle.cc_files.specs.World.{shelves}
 use Rattle.cc_files.specs.Stores.{one_text, of_store_fault, NothingStored, AreStored, StoreStopped}
 
--- calls behind calls
+-- calls that follow calls
 pub both_reliable : (first between last : Stock) → StaysReliable first between → StaysReliable between last → StaysReliable first last
 both_reliable first between last one more reliable =
-    let before = one reliable in
-    let behind = more before.reliable in
-    record { reliable = behind.reliable; fetches = behind.fetches ∙ before.fetches; stores = behind.stores ∙ before.stores }
+    let former = one reliable in
+    let latter = more former.reliable in
+    record { reliable = latter.reliable; fetches = latter.fetches ∙ former.fetches; stores = latter.stores ∙ former.stores }
 
 -- before any call nothing is stored
 pub nothing_yet : (tells : Bool) (stock : Stock) → NothingStored (shelves tells stock stock)

@@ -10,7 +10,7 @@ pub record NoCallFails (before now : Stock) : Type 0 where
   pub fetches : NoFetchFailed before.counts now.counts
   pub stores : NoStoreFailed before.counts now.counts
 
--- so it is, where none that came behind the first could fail
+-- so it is, where none that came could fail
 abbrev pub StaysReliable : Stock → Stock → Type 0
 StaysReliable before now = IsTrue before.reliable → NoCallFails before now
 

@@ -22,11 +22,11 @@ FetchTold tells name before now (Err Absent) = TellsFetch tells name false befor
 FetchTold tells name before now (Err (TooLong at_least)) = TellsFetch tells name false before now
 FetchTold tells name before now (Err NoMemory) = MayTellFetch tells name before now
 
--- the name stands behind the stores before, with whether this one failed
+-- the name follows the stores before, with whether this one failed
 abbrev pub TellsStore : Bool → List ℕ → Bool → Stock → Stock → Type 0
 TellsStore tells name failed before now = IsTrue tells → now.stored ≡ before.stored ++ record { name = name; failed = failed } ∷ []
 
--- the stores behind one of this name, by its answer: one that found no memory leaves no trace there, and is counted
+-- the stores after one of this name, by its answer: one that found no memory leaves no trace there, and is counted
 abbrev pub StoreTold : {T : Type 0} → Bool → List ℕ → Stock → Stock → Result T ShelfFault → Type 0
 StoreTold tells name before now (Ok done) = TellsStore tells name false before now
 StoreTold tells name before now (Err Failed) = TellsStore tells name true before now
