@@ -15,4 +15,4 @@ pub mod OneFault
 pub mod FaultLemmas
 pub mod ImageNames
 pub mod Promised
-pub mod CompilableLemmas
+pub mod LimitLemmas

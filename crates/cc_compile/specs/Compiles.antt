@@ -1,4 +1,4 @@
--- What a source is compiled to, in words of the source, the machine and the layouts of frames alone. How it is made is in `Made`.
+-- What a source is compiled to, in words of the source, the machine and the layouts of frames. How it is made is in `Made`.
 use Rattle.std.specs.Prelude.{◌≡◌, ◌≤◌, ℕ, ◌+◌, ◌*◌, List, length, map, All}
 use Rattle.c_syntax.specs.declared.token.Token.{Token}
 use Rattle.c_syntax.specs.Lexes.{Lexes}
@@ -11,6 +11,7 @@ use Rattle.c_rules.specs.Checked.{IsTyped}
 use Rattle.c25_isa.specs.Agrees.{Agrees}
 use Rattle.c25_isa.specs.declared.image.FunctionRange.{FunctionRange}
 use Rattle.c25_isa.specs.Image.{Contents}
+use Rattle.c25_isa.specs.State.{IsStart, zero_start}
 use Rattle.frame_layouts.specs.Claims.{IsFound}
 use Rattle.frame_layouts.specs.lay_cert.Frames.{Frame}
 use Rattle.frame_layouts.specs.mem_plan.declared.data_plan.DataPlan.{DataPlan}
@@ -45,6 +46,8 @@ pub record IsBuilt (o : Options) (bytes : List ℕ) (image : Contents) (frames :
   pub lexes : Lexes bytes tokens
   pub is_source : IsSource tokens source
   pub typed : IsTyped source program
+  -- its words are those of a program memory, so that runs can start with them
+  pub starts : IsStart (zero_start image.words)
   -- the image does what the program does, from any start and on any input, wherever C defines that; where the program ends, in time
   pub agrees : ∥ Agrees (source_run program) image.words ∥₁
   pub in_time : ∥ EndsInTime program image.words ∥₁

@@ -18,4 +18,4 @@ pub mod PartFaults
 pub mod SourceFaults
 pub mod Compiles
 pub mod Made
-pub mod Compilable
+pub mod Limits

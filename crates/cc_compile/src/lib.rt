@@ -4,7 +4,7 @@
 
 mod built_laws;
 mod cc_fault_laws;
-mod compilable_laws;
+mod limit_laws;
 mod fault;
 mod front;
 mod image_laws;
@@ -19,7 +19,7 @@ pub use c_parser::ParseFault;
 pub use c_rules::TypeFault;
 pub use c25_link::LinkFault;
 pub use cc_fault_laws::one_source_fault;
-pub use compilable_laws::compilable_sources_have_no_fault;
+pub use limit_laws::sources_within_limits_have_no_fault;
 pub use fault::BuildFault;
 pub use frame_layouts::{CertFault, Certificate, Job, Options, PlanFault};
 pub use front::typed_program;

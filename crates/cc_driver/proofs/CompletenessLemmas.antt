@@ -19,7 +19,7 @@ use Rattle.cc_words.specs.Asked.{Asked, ToBuild, ToRun, ToEvaluate, ToExecute, T
 use Rattle.cc_answers.specs.Answers.{Answered}
 use Rattle.cc_answers.specs.MeansText.{outcome_status}
 use Rattle.cc_answers.specs.RunText.{stop_status}
-use Rattle.cc_files.specs.cc_compile.Compilable.{IsCompilable}
+use Rattle.cc_files.specs.cc_compile.Limits.{IsWithinLimits}
 use Rattle.cc_files.specs.cc_compile.SourceFaults.{HasFault, HasNoProgramFor, HasProgram}
 use Rattle.cc_files.specs.cc_compile.declared.fault.BuildFault.{BuildFault}
 use Rattle.cc_files.specs.frame_layouts.declared.options.Options.{Options}
@@ -82,9 +82,9 @@ module _ (shelf : Shelves) where
 
 -- ---- files in order are refused for nothing
 
--- a compilable source has no fault, and a typed one none of tokens, syntax or types
+-- a source within the limits has no fault, and a typed one none of tokens, syntax or types
 abbrev pub NoFaults : Type 0
-NoFaults = (o : Options) (bytes : List ℕ) (fault : BuildFault) → IsCompilable bytes → ¬ HasFault o bytes fault
+NoFaults = (o : Options) (bytes : List ℕ) (fault : BuildFault) → IsWithinLimits bytes → ¬ HasFault o bytes fault
 
 abbrev pub NoTypeFaults : Type 0
 NoTypeFaults = (bytes : List ℕ) (program : ProgramTree) (fault : BuildFault) → HasProgram bytes program → ¬ HasNoProgramFor fault bytes
@@ -95,9 +95,9 @@ good_ports name bytes why text r = ports_refused name bytes why text.0 r text.1
 good_image : (name bytes : List ℕ) (why : Why) → IsImageText bytes → run.IsImageRefused name bytes why → ⊥
 good_image name bytes why is r = not_image name bytes why is.0 r is.1
 
-exec_good : NoFaults → (ports s p : List ℕ) (why : Why) → IsCompilable s → IsPortText p → ExecuteRefused ports s p why → ⊥
-exec_good laws ports s p why compilable text (exec.PortsFirst bad) = good_ports ports p why text bad
-exec_good laws ports s p why compilable text (exec.SourceThen lines also fault has is) = laws plain_options s fault compilable has
+exec_good : NoFaults → (ports s p : List ℕ) (why : Why) → IsWithinLimits s → IsPortText p → ExecuteRefused ports s p why → ⊥
+exec_good laws ports s p why within text (exec.PortsFirst bad) = good_ports ports p why text bad
+exec_good laws ports s p why within text (exec.SourceThen lines also fault has is) = laws plain_options s fault within has
 
 means_good : NoTypeFaults → (ports s p : List ℕ) (why : Why) → IsTypedSource s → IsPortText p → MeansRefused ports s p why → ⊥
 means_good laws ports s p why typed text (means.PortsFirst bad) = good_ports ports p why text bad
@@ -112,12 +112,12 @@ check_good image certificate i c why is text (check.BadImage bad) = good_image i
 check_good image certificate i c why is text (check.BadCertificate contents also bad) = bad.some (no_certificate c text.0 text.1 bad.fault bad.says)
 
 module _ (shelf : Shelves) (tells : IsTrue shelf.tells) where
-  pub build_none : NoFaults → (source image : List ℕ) (registers budget step : ℕ) → FileHas shelf (source_file source) IsCompilable → (why : Why) → Rejects (ToBuild source image registers budget step) shelf why → ⊥
+  pub build_none : NoFaults → (source image : List ℕ) (registers budget step : ℕ) → FileHas shelf (source_file source) IsWithinLimits → (why : Why) → Rejects (ToBuild source image registers budget step) shelf why → ⊥
   build_none laws source image registers budget step good why r =
       let h = one_file shelf tells _ _ _ good r in
       laws (chosen_options registers budget step) h.0 h.2.fault h.1 h.2.has
 
-  pub exec_none : NoFaults → (source ports : List ℕ) (steps : ℕ) → FilesHave shelf (source_file source) (ports_file ports) (λ s p. IsCompilable s × IsPortText p) → (why : Why)
+  pub exec_none : NoFaults → (source ports : List ℕ) (steps : ℕ) → FilesHave shelf (source_file source) (ports_file ports) (λ s p. IsWithinLimits s × IsPortText p) → (why : Why)
       → Rejects (ToExecute source ports steps) shelf why → ⊥
   exec_none laws source ports steps good why r =
       let h = two_files shelf tells _ _ _ _ good r in

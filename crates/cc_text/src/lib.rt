@@ -11,7 +11,7 @@ pub use c_macro::{expand, expansions_have_spellings};
 pub use c_units::{join_text, token_text};
 pub use lay_profile::{
     Built, Options, ProfileFault, ProfileOptions, Profiled, built_functions_differ,
-    built_images_have_the_shape, compilable_sources_have_no_fault, compile, profile_build,
+    built_images_have_the_shape, sources_within_limits_have_no_fault, compile, profile_build,
     runs_tell, typed_program,
 };
 pub use macro_text::macro_line;

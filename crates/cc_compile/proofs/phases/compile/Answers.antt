@@ -16,6 +16,7 @@ use Rattle.cc_compile.specs.PartFaults.{of_translation_fault}
 use Rattle.cc_compile.specs.SourceFaults.{HasFault, HasProgram}
 use Rattle.cc_compile.specs.declared.fault.BuildFault.{BuildFault}
 use Rattle.cc_compile.specs.declared.fault.BuildFault.TheVariants as faults
+use Rattle.image_proof.proofs.ExecWords.{zero_starts}
 use Rattle.cc_compile.proofs.Promised.{are_direct, are_found, have_data, have_names}
 use Rattle.cc_compile.proofs.FaultLemmas.{no_image, passed_on}
 use Rattle.cc_compile.proofs.phases.compile.Goals as goal
@@ -63,6 +64,7 @@ returns-clause-built g c =
       lexes = has.2;
       is_source = has.3;
       typed = has.4;
+      starts = zero_starts _ _ image.linked image.ranges;
       agrees = subst (λ (i : Contents). ∥ Agrees (source_run program) i.words ∥₁) (sym c.in_ok-with_rows.ensures.image) c.in_ok-translated.ensures.agrees;
       in_time = subst (λ (i : Contents). ∥ EndsInTime program i.words ∥₁) (sym c.in_ok-with_rows.ensures.image) c.in_ok-translated.ensures.in_time;
       short =

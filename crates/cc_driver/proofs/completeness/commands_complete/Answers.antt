@@ -5,17 +5,17 @@ use Rattle.cc_driver.proofs.completeness.commands_complete.Goals as goal
 
 pub returns-clause-build : goal.returns-clause-build
 returns-clause-build c = λ source image registers budget step shelf sink status answers fine good.
-    lemmas.completes (ToBuild source image registers budget step) shelf sink status fine (lemmas.one_told shelf _ _ good) (lemmas.build_none shelf fine.tells c.compilable_sources_have_no_fault.ensures.none source image registers budget step good) _
+    lemmas.completes (ToBuild source image registers budget step) shelf sink status fine (lemmas.one_told shelf _ _ good) (lemmas.build_none shelf fine.tells c.sources_within_limits_have_no_fault.ensures.none source image registers budget step good) _
     (λ answer texts come. lemmas.done_status answer _ come.holds.reported refl) answers
 
 pub returns-clause-exec : goal.returns-clause-exec
 returns-clause-exec c = λ source ports steps shelf sink status answers fine good.
-    lemmas.completes (ToExecute source ports steps) shelf sink status fine (lemmas.two_told shelf _ _ _ good) (lemmas.exec_none shelf fine.tells c.compilable_sources_have_no_fault.ensures.none source ports steps good) _
+    lemmas.completes (ToExecute source ports steps) shelf sink status fine (lemmas.two_told shelf _ _ _ good) (lemmas.exec_none shelf fine.tells c.sources_within_limits_have_no_fault.ensures.none source ports steps good) _
     (λ answer texts come. lemmas.run_status _ _ steps answer come.0.holds.runs) answers
 
 pub returns-clause-means : goal.returns-clause-means
 returns-clause-means c = λ source ports turns shelf sink status answers fine good.
-    lemmas.completes (ToEvaluate source ports turns) shelf sink status fine (lemmas.two_told shelf _ _ _ good) (lemmas.means_none shelf fine.tells c.compilable_sources_have_no_fault.ensures.typed source ports turns good) _
+    lemmas.completes (ToEvaluate source ports turns) shelf sink status fine (lemmas.two_told shelf _ _ _ good) (lemmas.means_none shelf fine.tells c.sources_within_limits_have_no_fault.ensures.typed source ports turns good) _
     (λ answer texts come. lemmas.means_status _ _ turns answer come.0.holds) answers
 
 pub returns-clause-run : goal.returns-clause-run

@@ -1,9 +1,9 @@
-use Rattle.cc_compile.proofs.CompilableLemmas.{no_fault}
+use Rattle.cc_compile.proofs.LimitLemmas.{no_fault}
 use Rattle.cc_compile.proofs.OneFault.{program_no_fault}
-use Rattle.cc_compile.proofs.compilable_laws.compilable_sources_have_no_fault.Goals as goal
+use Rattle.cc_compile.proofs.limit_laws.sources_within_limits_have_no_fault.Goals as goal
 
 pub returns-clause-none : goal.returns-clause-none
-returns-clause-none c = λ o bytes fault compilable. no_fault bytes compilable o fault (c.full_code_is_large.ensures.source o bytes)
+returns-clause-none c = λ o bytes fault within. no_fault bytes within o fault (c.full_code_is_large.ensures.source o bytes)
 
 -- whatever is chosen
 pub returns-clause-typed : goal.returns-clause-typed

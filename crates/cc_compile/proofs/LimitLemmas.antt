@@ -1,4 +1,4 @@
--- A compilable source has no fault.
+-- A source within the limits has no fault.
 use Rattle.std.proofs.Common.{◌≡◌, ◌<◌, ◌≤◌, ◌+◌, ◌*◌, ℕ, List, ap, arith}
 use Rattle.c_syntax.specs.Counts.{unit_count}
 use Rattle.c_syntax.specs.SyntaxTree.{UnitTree}
@@ -12,7 +12,7 @@ use Rattle.frame_layouts.specs.mem_plan.Plan.{data_need}
 use Rattle.frame_layouts.specs.declared.options.Options.{Options}
 use Rattle.c25_link.specs.declared.fault.LinkFault.{LinkFault}
 use Rattle.c25_link.specs.declared.fault.LinkFault.TheVariants as link_faults
-use Rattle.cc_compile.specs.Compilable.{NeedsData, IsCompilable}
+use Rattle.cc_compile.specs.Limits.{NeedsData, IsWithinLimits}
 use Rattle.cc_compile.specs.Images.{HasPlanFault, HasTooMuchData}
 use Rattle.cc_compile.specs.SourceFaults.{HasFault, HasNoProgramFor, HasProgram, HasTree, IsTypedWith}
 use Rattle.cc_compile.specs.declared.fault.BuildFault.{BuildFault}
@@ -38,7 +38,7 @@ plan_fits t need plan_faults.NoMemory needs few h = h
 code_fits : (nodes words : ℕ) → 1000 + 64 * nodes ≤ 65536 → 65536 < words → words ≤ 1000 + 64 * nodes → ⊥
 code_fits nodes words few over most = omega (arith, few, over, most)
 
-module _ (bytes : List ℕ) (c : IsCompilable bytes) where
+module _ (bytes : List ℕ) (c : IsWithinLimits bytes) where
   has_program : HasProgram bytes c.program
   has_program = (c.tokens, c.source, c.lexes, c.is_source, c.typed)
 

@@ -1,4 +1,4 @@
--- Sources that are compiled, however their frames are laid out (docs/PROMISES.md, "cc_compile").
+-- Sources within the limits on data and on size, which are compiled however their frames are laid out (docs/COMMANDS.md, "build").
 use Rattle.std.specs.Prelude.{◌≡◌, ◌≤◌, ℕ, ◌+◌, ◌*◌, List}
 use Rattle.c_syntax.specs.declared.token.Token.{Token}
 use Rattle.c_syntax.specs.Lexes.{Lexes}
@@ -19,7 +19,7 @@ pub record NeedsData (t : ProgramTree) (words : ℕ) : Type 0 where
 
 -- the bytes have tokens, these a tree and this a typed program. Its data find room, and so do 1,000 words of code and 64 for each expression, statement
 -- and declared item of the source
-pub record IsCompilable (bytes : List ℕ) : Type 0 where
+pub record IsWithinLimits (bytes : List ℕ) : Type 0 where
   pub tokens : List Token
   pub source : UnitTree
   pub program : ProgramTree
