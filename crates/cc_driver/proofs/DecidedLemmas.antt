@@ -14,7 +14,7 @@ use Rattle.cc_files.specs.Stores.{Stored}
 use Rattle.cc_driver.specs.Commands.{files_of, stores_under, Comes, Rejects}
 use Rattle.cc_driver.specs.Work.{WorkRefused, AtFetch, AtFiles, AtStore, AtMemory, AtStoreForMemory}
 use Rattle.cc_driver.specs.Answers.{Answers, IsDone, IsRefused, NamesCause, Decided, IsWrong, ToFile, ToRefusal, IsUnfetchable, NoFile, LongFile}
-use Rattle.cc_driver.proofs.StatusLemmas.{IsNamed, refused_status, refusal_said, put_not_named}
+use Rattle.cc_driver.proofs.StatusLemmas.{IsNamed, refused_status, refusal_said, refusal_not_two, put_not_named, put_not_two}
 use Rattle.cc_driver.proofs.FileLemmas.{all_told, first_one}
 use Rattle.cc_driver.proofs.CommandLemmas.{comes_told, refuses_told, comes_one, comes_not, refuses_one, comes_status, some_store}
 
@@ -135,3 +135,9 @@ cause_named what shelf sink status (IsDone answer work put) named =
 cause_named what shelf sink status (IsRefused why work refused) named =
     let said = refusal_said why sink status refused named in
     record { why = why; refused = work; status_is = said.0; line = said.1 }
+
+-- 2 is answered for no command
+pub answers_not_two : (what : Asked) (shelf : Shelves) (sink : Sinks) (status : ℕ) → Answers what shelf sink status → status ≢ 2
+answers_not_two what shelf sink status (IsDone answer work put) =
+    put_not_two answer.text answer.status sink status (comes_status what shelf answer work.texts work.comes) put
+answers_not_two what shelf sink status (IsRefused why work refused) = refusal_not_two why sink status refused

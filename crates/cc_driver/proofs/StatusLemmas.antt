@@ -1,5 +1,5 @@
 -- The statuses that there are.
-use Rattle.std.proofs.Common.{◌≡◌, ◌≢◌, ℕ, zero, suc, Bool, true, false, List, [], ◌∷◌, Option, Some, None, refl, sym, subst, inl, inr, arith, lit<}
+use Rattle.std.proofs.Common.{◌≡◌, ◌≢◌, ℕ, zero, suc, Bool, true, false, List, [], ◌∷◌, Option, Some, None, refl, sym, ◌∙◌, subst, inl, inr, arith, lit<}
 use Rattle.std.specs.Prelude.{◌⊎◌, Contains, if◌then◌else◌}
 use Rattle.c25_isa.specs.Image.{Contents}
 use Rattle.cc_check.specs.CheckText.{all_pass}
@@ -157,6 +157,47 @@ refusal_said (OfMacros why) sink status said named = line_said (macro_line why) 
 refusal_said (OfUnits why) sink status said named = line_said (unit_line why) 1 sink status said named
 refusal_said OfStore sink status said named = let e = said.0 in absurd (not_named status (λ f. omega (arith, e, f)) (λ f. omega (arith, e, f)) (λ f. omega (arith, e, f)) named)
 refusal_said OfMemory sink status said named = let e = said.0 in absurd (not_named status (λ f. omega (arith, e, f)) (λ f. omega (arith, e, f)) (λ f. omega (arith, e, f)) named)
+
+-- 2 is that of words alone
+done_not_two : (n : ℕ) → IsAnswerStatus n → n ≢ 2
+done_not_two n (zero, lt, e) f = omega (arith, e, f)
+done_not_two n (suc zero, lt, e) f = omega (arith, e, f)
+done_not_two n (suc (suc zero), lt, e) f = omega (arith, e, f)
+done_not_two n (suc (suc (suc zero)), lt, e) f = omega (arith, e, f)
+done_not_two n (suc (suc (suc (suc zero))), lt, e) f = omega (arith, e, f)
+done_not_two n (suc (suc (suc (suc (suc k)))), lt, e) f = omega (arith, lt)
+
+pub put_not_two : (text : Option (List ℕ)) (ends : ℕ) (sink : Sinks) (status : ℕ) → IsAnswerStatus ends → PutsText text ends sink status → status ≢ 2
+put_not_two None ends sink status is put f = done_not_two ends is (sym put.0 ∙ f)
+put_not_two (Some text) ends sink status is (PutWhole e calls same put) f = done_not_two ends is (sym e ∙ f)
+put_not_two (Some text) ends sink status is (PutPart e calls failed part) f = omega (arith, e, f)
+put_not_two (Some text) ends sink status is (PutNothing e calls line) f = omega (arith, e, f)
+
+file_not_two : (f : FileFault) → file_status f ≢ 2
+file_not_two Read e = omega (arith, e)
+file_not_two TooLong e = omega (arith, e)
+file_not_two (Image why) e = omega (arith, e)
+file_not_two (Ports why) e = omega (arith, e)
+file_not_two (Sequence why) e = omega (arith, e)
+file_not_two (Certificate why) e = omega (arith, e)
+file_not_two (Assembly why) e = omega (arith, e)
+file_not_two (Script why) e = omega (arith, e)
+file_not_two OtherSource e = omega (arith, e)
+
+own_not_two : (why : Why) → refusal_status why ≢ 2
+own_not_two (OfFile name why) e = file_not_two why e
+own_not_two (OfSource why) e = omega (arith, e)
+own_not_two (OfMacros why) e = omega (arith, e)
+own_not_two (OfUnits why) e = omega (arith, e)
+own_not_two OfStore e = omega (arith, e)
+own_not_two OfMemory e = omega (arith, e)
+
+pub refusal_not_two : (why : Why) (sink : Sinks) (status : ℕ) → Refused why sink status → status ≢ 2
+refusal_not_two why sink status refused f = go (refused_status why sink status refused)
+  where
+    go : (status ≡ refusal_status why) ⊎ ((status ≡ 5) × (refusal_status why ≢ 4) × (refusal_status why ≢ 5)) → ⊥
+    go (inl e) = own_not_two why (sym e ∙ f)
+    go (inr e) = omega (arith, e.0, f)
 
 pub of_stop : (s : Stop) → IsAnswerStatus (stop_status s)
 of_stop (stop.Ended ending) = (0, lit< tt, refl)

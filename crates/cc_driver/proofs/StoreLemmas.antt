@@ -1,10 +1,8 @@
 -- Stores one behind another, and behind fetches.
 use Rattle.std.proofs.Common.{inl, inr, ◌≡◌, ◌≢◌, ◌∙◌, ℕ, Bool, List, [], ◌∷◌, ◌++◌, Some, true, IsTrue, codes, refl, sym, ap, subst, length, append-nil, append_assoc, length-append, arith}
-use Rattle.std.specs.Prelude.{◌⊎◌}
 use Rattle.cc_shelf.specs.Counts.{Rose}
 use Rattle.cc_shelf.specs.Stock.{Stock, Call}
 use Rattle.cc_shelf.specs.Reliable.{StaysReliable}
-use Rattle.cc_shelf.specs.ShelfAnswers.{StoresFoundMemory, OneStoreWanted}
 use Rattle.cc_shelf.specs.Counts.{raised}
 use Rattle.cc_files.specs.cc_text.Refusals.{Why}
 use Rattle.cc_files.specs.World.{shelves}

@@ -3,7 +3,7 @@ use Rattle.cc_words.specs.Asked.{Asked, texts_of}
 use Rattle.cc_files.specs.cc_text.Refusals.{OfMemory}
 use Rattle.cc_files.specs.World.{shelves, sinks}
 use Rattle.cc_driver.specs.Answers.{Answers, IsRefused}
-use Rattle.cc_driver.proofs.DecidedLemmas.{answers_decide, cause_named}
+use Rattle.cc_driver.proofs.DecidedLemmas.{answers_decide, answers_not_two, cause_named}
 use Rattle.cc_driver.proofs.StatusLemmas.{not_named}
 use Rattle.cc_driver.proofs.WorkLemmas.{bounded, one_asked, stopped_first}
 use Rattle.cc_driver.proofs.command.c25cc.Goals as goal
@@ -37,3 +37,6 @@ returns-in-Ok-Some-clause-lines g c = λ what asks. cause_named what _ _ _ (retu
 
 pub returns-in-Err-clause-lines : goal.returns-in-Err-clause-lines
 returns-in-Err-clause-lines g c = λ what asks. cause_named what _ _ _ (returns-in-Err-clause-answers g c what asks)
+
+pub returns-in-Ok-Some-clause-words : goal.returns-in-Ok-Some-clause-words
+returns-in-Ok-Some-clause-words g c = λ two. absurd (answers_not_two _ _ _ _ c.answer.ensures.answers two)
