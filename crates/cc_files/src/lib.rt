@@ -7,8 +7,8 @@ mod shelf;
 
 pub use cc_text::{
     Built, Options, ProfileFault, ProfileOptions, Profiled, Refusal, built_functions_differ,
-    built_images_have_the_shape, sources_within_limits_have_no_fault, compile, expand,
-    expansions_have_spellings, join_text, profile_build, runs_tell, token_text, typed_program,
+    built_images_have_the_shape, compile, expand, expansions_have_spellings, join_text,
+    profile_build, runs_tell, sources_within_limits_have_no_fault, token_text, typed_program,
 };
 pub use output::{put, refuse, say};
 pub use shelf::{

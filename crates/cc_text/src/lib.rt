@@ -11,8 +11,8 @@ pub use c_macro::{expand, expansions_have_spellings};
 pub use c_units::{join_text, token_text};
 pub use lay_profile::{
     Built, Options, ProfileFault, ProfileOptions, Profiled, built_functions_differ,
-    built_images_have_the_shape, sources_within_limits_have_no_fault, compile, profile_build,
-    runs_tell, typed_program,
+    built_images_have_the_shape, compile, profile_build, runs_tell,
+    sources_within_limits_have_no_fault, typed_program,
 };
 pub use macro_text::macro_line;
 pub use refusal::{FileFault, Refusal};

@@ -17,7 +17,7 @@ mod weighing;
 pub use block_places::places;
 pub use cc_compile::{
     BuildFault, Built, CertFault, Certificate, LinkFault, Options, PlanFault,
-    built_functions_differ, sources_within_limits_have_no_fault, compile, runs_tell, typed_program,
+    built_functions_differ, compile, runs_tell, sources_within_limits_have_no_fault, typed_program,
 };
 pub use fault::ProfileFault;
 pub use laws::{
