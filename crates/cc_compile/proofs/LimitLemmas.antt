@@ -1,20 +1,17 @@
 -- A source within the limits has no fault.
-use Rattle.std.proofs.Common.{◌≡◌, ◌<◌, ◌≤◌, ◌+◌, ◌*◌, ℕ, List, ap, arith}
+use Rattle.std.proofs.Common.{◌<◌, ◌≤◌, ◌+◌, ◌*◌, ℕ, List, ap, arith}
 use Rattle.c_syntax.specs.Counts.{unit_count}
-use Rattle.c_syntax.specs.SyntaxTree.{UnitTree}
 use Rattle.c_tree.specs.TypedTree.{ProgramTree}
-use Rattle.c_rules.specs.Checked.{IsTyped}
 use Rattle.tree_code.specs.Lowered.{lowered_program}
 use Rattle.frame_layouts.specs.mem_plan.declared.data_plan.PlanFault.{PlanFault}
 use Rattle.frame_layouts.specs.mem_plan.declared.data_plan.PlanFault.TheVariants as plan_faults
 use Rattle.frame_layouts.specs.mem_plan.declared.data_plan.TheConstants.{MOST_DATA_WORDS}
 use Rattle.frame_layouts.specs.mem_plan.Plan.{data_need}
 use Rattle.frame_layouts.specs.declared.options.Options.{Options}
-use Rattle.c25_link.specs.declared.fault.LinkFault.{LinkFault}
 use Rattle.c25_link.specs.declared.fault.LinkFault.TheVariants as link_faults
 use Rattle.cc_compile.specs.Limits.{NeedsData, IsWithinLimits}
 use Rattle.cc_compile.specs.Images.{HasPlanFault, HasTooMuchData}
-use Rattle.cc_compile.specs.SourceFaults.{HasFault, HasNoProgramFor, HasProgram, HasTree, IsTypedWith}
+use Rattle.cc_compile.specs.SourceFaults.{HasFault, HasProgram, HasTree, IsTypedWith}
 use Rattle.cc_compile.specs.declared.fault.BuildFault.{BuildFault}
 use Rattle.cc_compile.specs.declared.fault.BuildFault.TheVariants.{Lex, Parse, Types, Plan, Link, NoMemory}
 use Rattle.cc_compile.proofs.OneFault.{both_of_program, both_of_tree, program_no_fault}

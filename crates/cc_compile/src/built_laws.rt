@@ -8,7 +8,8 @@ ghost use Rattle.cc_compile.specs.Compiles.{IsBuilt};
 
 /// No two functions of a source that is compiled have one name. It does nothing: its clause is what callers cite.
 pub fn built_functions_differ()
-    ensures { (o : Options) (bytes : List ℕ) (image : Contents) (frames : List Frame) (b : IsBuilt o bytes image frames) → AllPairs (λ x y. x ≢ y) (map (λ (f : FunctionTree). f.name) b.program.functions) }
+    ensures { (o : Options) (bytes : List ℕ) (image : Contents) (frames : List Frame) (b : IsBuilt o bytes image frames)
+        → AllPairs (λ x y. x ≢ y) (map (λ (f : FunctionTree). f.name) b.program.functions) }
 {
     c_syntax::functions_have_names();
     c_syntax::trees_are_small();

@@ -1,5 +1,5 @@
 -- A command whose files are in order is done, unless memory was wanting.
-use Rattle.std.proofs.Common.{◌≡◌, ◌∙◌, ◌≢◌, ◌<◌, ◌≤◌, ◌+◌, ◌^◌, ℕ, List, [], ◌∷◌, Ok, Err, inl, inr, refl, sym, ap, subst, lit<, arith}
+use Rattle.std.proofs.Common.{◌≡◌, ◌∙◌, ◌<◌, ◌≤◌, ◌+◌, ◌^◌, ℕ, List, [], ◌∷◌, inl, inr, refl, sym, ap, subst, lit<, arith}
 use Rattle.std.proofs.Math.Nat.{min-eq_left}
 use Rattle.std.specs.Prelude.{◌-◌, ◌⊎◌, Contains, IsTrue, Bool, true, false, if◌then◌else◌}
 use Rattle.word_base.specs.declared.outcome.Outcome.{Outcome}
@@ -33,7 +33,7 @@ use Rattle.cc_driver.specs.Asm.{text_file}
 use Rattle.cc_driver.specs.Build.{FileHas, chosen_options, plain_options, source_file}
 use Rattle.cc_driver.specs.Check.{CheckRefused, certificate_file, check_answer}
 use Rattle.cc_driver.specs.Check as check
-use Rattle.cc_driver.specs.Commands.{Comes, FilesHave, Rejects, files_of, stores_under}
+use Rattle.cc_driver.specs.Commands.{Comes, FilesHave, Rejects, files_of}
 use Rattle.cc_driver.specs.Completeness.{AreReliable, Completes, EndsDone, EndsWanting, IsAssemblerText, IsCertificateText, IsImageText, IsPortText, IsSequenceText, IsTypedSource, NothingFails}
 use Rattle.cc_driver.specs.Exec.{ExecuteRefused}
 use Rattle.cc_driver.specs.Exec as exec

@@ -1,5 +1,5 @@
 -- Executions of one source on one port file are runs of one machine, which agrees with what the source means.
-use Rattle.std.proofs.Common.{◌≡◌, ◌∙◌, ◌≤◌, ◌<◌, ◌++◌, ℕ, Bool, true, false, List, [], ◌∷◌, Some, refl, sym, ap, subst, arith, inl, inr}
+use Rattle.std.proofs.Common.{◌≡◌, ◌∙◌, ◌≤◌, ◌<◌, ◌++◌, ℕ, Bool, true, false, List, [], ◌∷◌, refl, sym, ap, subst, arith, inl, inr}
 use Rattle.std.specs.Prelude.{◌⊎◌, ◌==◌, nat_lt, if◌then◌else◌}
 use Rattle.std.specs.Str.Lines.{lines}
 use Rattle.std.proofs.lemmas.Bool.{ltb-false}
@@ -12,7 +12,7 @@ use Rattle.word_base.specs.Ports.{Input, Outputs, Prefix, input_of}
 use Rattle.c_tree.specs.SourceRun.{source_run}
 use Rattle.c25_isa.specs.Agrees.{Agrees, AgreesAt}
 use Rattle.c25_isa.specs.Image.{Contents}
-use Rattle.c25_isa.specs.MachineRun.{Reached, Running, Ended, machine_run, outputs_reached}
+use Rattle.c25_isa.specs.MachineRun.{Reached, Ended, machine_run, outputs_reached}
 use Rattle.c25_isa.specs.State.{IsStart, zero_start}
 use Rattle.c25_isa.specs.declared.event.Stop.{Stop}
 use Rattle.c25_isa.specs.declared.event.Stop.TheVariants as stop

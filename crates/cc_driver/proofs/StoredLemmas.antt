@@ -1,5 +1,5 @@
 -- What `run` and `check` make of the texts that `build` stored.
-use Rattle.std.proofs.Common.{◌≡◌, ◌∙◌, ◌+◌, ◌<◌, ◌++◌, ℕ, zero, suc, Bool, true, false, List, [], ◌∷◌, Option, Some, None, length, map, refl, sym, ap, ap₂, subst, append-nil, arith}
+use Rattle.std.proofs.Common.{◌≡◌, ◌∙◌, ◌+◌, ◌<◌, ◌++◌, ℕ, zero, suc, Bool, true, false, List, [], ◌∷◌, Some, None, length, map, refl, sym, ap, ap₂, subst, append-nil, arith}
 use Rattle.std.specs.Coded.{Coded-set, coded_list, coded_ℕ}
 use Rattle.std.specs.Prelude.{◌≢◌, ◌&&◌, All, AllPairs, codes, slice_get, slice_index_or, option_map, option_and_then, if◌then◌else◌, decimal}
 use Rattle.std.specs.List.{flat_map, list_all, position_from}
@@ -13,12 +13,10 @@ use Rattle.std.proofs.lemmas.List.Folds.{list_any_at}
 use Rattle.std.proofs.lemmas.Option.{slice_get-map, get_or_from_slice_get, slice_get_within}
 use Rattle.std.proofs.lemmas.Slice.Eq.{bytes_eq-Decides}
 use Rattle.c25_isa.specs.declared.image.FunctionRange.{FunctionRange}
-use Rattle.c25_isa.specs.AddressCount.{address_count}
 use Rattle.c25_isa.specs.Image.{Contents}
-use Rattle.c25_isa.specs.Walk.{Blocks, walk}
+use Rattle.c25_isa.specs.Walk.{walk}
 use Rattle.c25_image.specs.ImageText.{image_text}
 use Rattle.c_tree.specs.TypedTree.{FunctionTree, ProgramTree}
-use Rattle.lay_tree.specs.Replays.{replay}
 use Rattle.lay_cost.specs.Cost.{arranged_cost}
 use Rattle.cc_check.specs.declared.finding.Finding.{Finding}
 use Rattle.cc_check.specs.declared.finding.Finding.TheVariants as findings
@@ -31,7 +29,7 @@ use Rattle.cc_check.specs.lay_cert.CertText.{cert_text}
 use Rattle.cc_check.specs.lay_cert.Frames.{Frame}
 use Rattle.cc_check.specs.lay_cert.Verdicts.{claim_verdict, log_verdict, verdict_of}
 use Rattle.cc_check.specs.CheckText.{all_pass, check_text, finding_text, frame_line, has_frame, is_number, line_of, no_frame_lines}
-use Rattle.cc_check.specs.Findings.{blocks_finding, count_finding, expected_blocks, finding_of, first_difference, function_finding, function_of, is_pass, number_of, verdict_finding, walk_finding}
+use Rattle.cc_check.specs.Findings.{blocks_finding, expected_blocks, finding_of, first_difference, function_finding, function_of, is_pass, number_of, verdict_finding, walk_finding}
 use Rattle.cc_check.proofs.lay_cert.Exact.{reads_same as certificates_same}
 use Rattle.cc_report.specs.Report.{claim}
 use Rattle.cc_files.specs.cc_compile.Compiles.{names_of}
@@ -42,7 +40,7 @@ use Rattle.cc_files.specs.frame_layouts.Rows.{is_optimal, row_of}
 use Rattle.cc_files.specs.image_proof.acc_select_proof.SourceSequences.{source_sequence}
 use Rattle.cc_files.specs.Stores.{Stored}
 use Rattle.cc_answers.specs.Answers.{Answered}
-use Rattle.cc_driver.specs.Build.{BuildsTo, built_texts, certificate_name, plain_options}
+use Rattle.cc_driver.specs.Build.{BuildsTo, certificate_name, plain_options}
 use Rattle.cc_driver.specs.Check.{ChecksTo, check_answer}
 use Rattle.cc_driver.specs.Exec.{ExecutesTo}
 use Rattle.cc_driver.specs.Run.{ImageRuns, IsImageOf, RunsTo}

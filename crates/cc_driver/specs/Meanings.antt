@@ -1,5 +1,5 @@
 -- What the executions of a source have to do with what it means.
-use Rattle.std.specs.Prelude.{◌≡◌, ◌≤◌, ◌⊎◌, ℕ, List}
+use Rattle.std.specs.Prelude.{◌≡◌, ◌≤◌, ℕ, List}
 use Rattle.word_base.specs.Outcome.{outputs_of}
 use Rattle.word_base.specs.Ports.{Outputs, Prefix, input_of}
 use Rattle.c_tree.specs.SourceRun.{source_run}

@@ -19,28 +19,36 @@ ghost use Rattle.cc_driver.specs.Completeness.{AreReliable, NothingFails, Comple
 pub fn commands_complete()
     ensures build { (source image : List ℕ) (registers budget step : ℕ) (shelf : Shelves) (sink : Sinks) (status : ℕ)
         → Answers (ToBuild source image registers budget step) shelf sink status → NothingFails shelf sink
-        → FileHas shelf (source_file source) IsWithinLimits → Completes (ToBuild source image registers budget step) (0 ∷ []) shelf status }
+        → FileHas shelf (source_file source) IsWithinLimits
+        → Completes (ToBuild source image registers budget step) (0 ∷ []) shelf status }
     ensures exec { (source ports : List ℕ) (steps : ℕ) (shelf : Shelves) (sink : Sinks) (status : ℕ)
         → Answers (ToExecute source ports steps) shelf sink status → NothingFails shelf sink
-        → FilesHave shelf (source_file source) (ports_file ports) (λ s p. IsWithinLimits s × IsPortText p) → Completes (ToExecute source ports steps) (0 ∷ 6 ∷ 7 ∷ []) shelf status }
+        → FilesHave shelf (source_file source) (ports_file ports) (λ s p. IsWithinLimits s × IsPortText p)
+        → Completes (ToExecute source ports steps) (0 ∷ 6 ∷ 7 ∷ []) shelf status }
     ensures means { (source ports : List ℕ) (turns : ℕ) (shelf : Shelves) (sink : Sinks) (status : ℕ)
         → Answers (ToEvaluate source ports turns) shelf sink status → NothingFails shelf sink
-        → FilesHave shelf (source_file source) (ports_file ports) (λ s p. IsTypedSource s × IsPortText p) → Completes (ToEvaluate source ports turns) (0 ∷ 6 ∷ 10 ∷ []) shelf status }
+        → FilesHave shelf (source_file source) (ports_file ports) (λ s p. IsTypedSource s × IsPortText p)
+        → Completes (ToEvaluate source ports turns) (0 ∷ 6 ∷ 10 ∷ []) shelf status }
     ensures run { (image ports : List ℕ) (steps : ℕ) (shelf : Shelves) (sink : Sinks) (status : ℕ)
         → Answers (ToRun image ports steps) shelf sink status → NothingFails shelf sink
-        → FilesHave shelf (image_file image) (ports_file ports) (λ i p. IsImageText i × IsPortText p) → Completes (ToRun image ports steps) (0 ∷ 6 ∷ 7 ∷ []) shelf status }
+        → FilesHave shelf (image_file image) (ports_file ports) (λ i p. IsImageText i × IsPortText p)
+        → Completes (ToRun image ports steps) (0 ∷ 6 ∷ 7 ∷ []) shelf status }
     ensures layout { (sequence : List ℕ) (registers budget : ℕ) (shelf : Shelves) (sink : Sinks) (status : ℕ)
         → Answers (ToLayOut sequence registers budget) shelf sink status → NothingFails shelf sink
-        → FileHas shelf (sequence_file sequence) IsSequenceText → Completes (ToLayOut sequence registers budget) (0 ∷ []) shelf status }
+        → FileHas shelf (sequence_file sequence) IsSequenceText
+        → Completes (ToLayOut sequence registers budget) (0 ∷ []) shelf status }
     ensures check { (image certificate : List ℕ) (shelf : Shelves) (sink : Sinks) (status : ℕ)
         → Answers (ToCheck image certificate) shelf sink status → NothingFails shelf sink
-        → FilesHave shelf (image_file image) (certificate_file certificate) (λ i c. IsImageText i × IsCertificateText c) → Completes (ToCheck image certificate) (0 ∷ 8 ∷ []) shelf status }
+        → FilesHave shelf (image_file image) (certificate_file certificate) (λ i c. IsImageText i × IsCertificateText c)
+        → Completes (ToCheck image certificate) (0 ∷ 8 ∷ []) shelf status }
     ensures asm { (text image : List ℕ) (shelf : Shelves) (sink : Sinks) (status : ℕ)
         → Answers (ToAssemble text image) shelf sink status → NothingFails shelf sink
-        → FileHas shelf (text_file text) IsAssemblerText → Completes (ToAssemble text image) (0 ∷ []) shelf status }
+        → FileHas shelf (text_file text) IsAssemblerText
+        → Completes (ToAssemble text image) (0 ∷ []) shelf status }
     ensures dis { (image : List ℕ) (shelf : Shelves) (sink : Sinks) (status : ℕ)
         → Answers (ToList image) shelf sink status → NothingFails shelf sink
-        → FileHas shelf (image_file image) IsImageText → Completes (ToList image) (0 ∷ []) shelf status }
+        → FileHas shelf (image_file image) IsImageText
+        → Completes (ToList image) (0 ∷ []) shelf status }
     // Nothing fails where no call can: the top call keeps that (`shelf_reliable`, `sink_reliable`), and those in memory tell it.
     ensures reliable { (shelf : Shelves) (sink : Sinks) → IsTrue shelf.tells → AreReliable shelf sink → StaysReliable shelf.before shelf.now
         → PutsStayReliable sink.before sink.now → NothingFails shelf sink }

@@ -10,10 +10,13 @@ ghost use Rattle.cc_driver.specs.Meanings.{EndsOrRuns, GoOnWith, PutThese, outpu
 /// longer one puts the same outputs first; the steps are no fewer than the turns. Where the source does something undefined, each execution that is
 /// long enough puts the outputs before that first. It does nothing: its clauses are what callers cite.
 pub fn executions_mean()
-    ensures ends { (source ports : List ℕ) (steps turns : ℕ) (executed meant : Answered) (e : ExecutesTo source ports steps executed) (m : MeansTo source ports turns meant)
+    ensures ends { (source ports : List ℕ) (steps turns : ℕ) (executed meant : Answered)
+        (e : ExecutesTo source ports steps executed) (m : MeansTo source ports turns meant)
         → meant.status ≡ 0 → ∥ EndsOrRuns source ports turns steps executed meant e m ∥₁ }
-    ensures goes_on { (source ports : List ℕ) (steps turns : ℕ) (executed meant : Answered) → ExecutesTo source ports steps executed → (m : MeansTo source ports turns meant) → meant.status ≡ 6
+    ensures goes_on { (source ports : List ℕ) (steps turns : ℕ) (executed meant : Answered)
+        → ExecutesTo source ports steps executed → (m : MeansTo source ports turns meant) → meant.status ≡ 6
         → ∥ GoOnWith source ports turns (outputs_meant source ports turns meant m) ∥₁ }
-    ensures undefined { (source ports : List ℕ) (steps turns : ℕ) (executed meant : Answered) → ExecutesTo source ports steps executed → (m : MeansTo source ports turns meant) → meant.status ≡ 10
+    ensures undefined { (source ports : List ℕ) (steps turns : ℕ) (executed meant : Answered)
+        → ExecutesTo source ports steps executed → (m : MeansTo source ports turns meant) → meant.status ≡ 10
         → ∥ PutThese source ports (outputs_meant source ports turns meant m) ∥₁ }
 {}
