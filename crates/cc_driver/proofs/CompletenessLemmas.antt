@@ -1,5 +1,5 @@
 -- A command whose files are in order is done, unless memory was wanting.
-use Rattle.std.proofs.Common.{◌≡◌, ◌∙◌, ◌<◌, ◌≤◌, ◌+◌, ◌^◌, ℕ, List, [], ◌∷◌, inl, inr, refl, sym, ap, subst, lit<, arith}
+use Rattle.std.proofs.Common.{◌≡◌, ◌≢◌, ◌∙◌, ◌<◌, ◌≤◌, ◌+◌, ◌^◌, ℕ, List, [], ◌∷◌, inl, inr, refl, sym, ap, subst, lit<, arith}
 use Rattle.std.proofs.Math.Nat.{min-eq_left}
 use Rattle.std.specs.Prelude.{◌-◌, ◌⊎◌, Contains, IsTrue, Bool, true, false, if◌then◌else◌}
 use Rattle.word_base.specs.declared.outcome.Outcome.{Outcome}
@@ -45,6 +45,7 @@ use Rattle.cc_driver.specs.Run as run
 use Rattle.cc_driver.specs.Work.{WorkRefused, AtFetch, AtFiles, AtStore, AtMemory, AtStoreForMemory}
 use Rattle.cc_driver.proofs.CommandLemmas.{not_both, not_image, ports_refused}
 use Rattle.cc_driver.proofs.DecidedLemmas.{answers_decide, missing}
+use Rattle.cc_driver.proofs.StatusLemmas.{refused_status}
 use Rattle.cc_driver.proofs.FileLemmas.{all_told, one_file, two_files}
 
 -- ---- any command: where its files are told, and it refuses them for nothing, it is refused for want of memory alone
@@ -69,7 +70,11 @@ module _ (what : Asked) (shelf : Shelves) (sink : Sinks) (status : ℕ) (fine : 
       by : (status ≡ answer.status) ⊎ (status ≡ 5) → Completes what statuses shelf status
       by (inl e) = EndsDone answer work.texts work.comes work.stored (are answer work.texts work.comes) e
       by (inr e) = EndsWanting e
-  completes statuses are (IsRefused why work refused) = EndsWanting (refused.status_is ∙ work_wants why work)
+  completes statuses are (IsRefused why work refused) = by (refused_status why sink status refused)
+    where
+      by : (status ≡ refusal_status why) ⊎ ((status ≡ 5) × (refusal_status why ≢ 4) × (refusal_status why ≢ 5)) → Completes what statuses shelf status
+      by (inl is) = EndsWanting (is ∙ work_wants why work)
+      by (inr want) = EndsWanting want.0
 
 -- ---- the files that are told
 

@@ -86,6 +86,7 @@ runs_stored name source ports image certificate steps reported run executed h r 
       frames = h.frames;
       lines = r.lines;
       built = h.built;
+      made = h.made;
       ports = r.ports;
       runs = subst (λ (c : Contents). ImageRuns c.words r.lines steps run) same r.runs;
     } in
