@@ -21,30 +21,31 @@ use Rattle.lay_tree.proofs.Visits.{visited_fits, complete_bound, reaches_at_most
 use Rattle.lay_tree.proofs.Nodes.{incomplete}
 use Rattle.lay_tree.proofs.Least.{costs_nothing}
 
--- an end is that of a piece
-pub record IsPiece (k : ℕ) (seq : Sequence) (quota : ℕ) (n : Node) (v : Visited) : Type 0 where
+-- an end is that of a piece that began with a layout that costs at most so much
+pub record IsPiece (k : ℕ) (seq : Sequence) (quota most : ℕ) (n : Node) (v : Visited) : Type 0 where
   pub before : List (List ℕ)
+  pub costs : arranged_cost seq before ≤ most
   pub is : v ≡ piece_end k seq quota before n
 
-abbrev pub ArePieces : (k : ℕ) (seq : Sequence) (quota : ℕ) → List Node → List Visited → Type 0
-ArePieces k seq quota [] [] = Unit {0}
-ArePieces k seq quota [] (v ∷ vs) = ⊥
-ArePieces k seq quota (n ∷ ns) [] = ⊥
-ArePieces k seq quota (n ∷ ns) (v ∷ vs) = IsPiece k seq quota n v × ArePieces k seq quota ns vs
+abbrev pub ArePieces : (k : ℕ) (seq : Sequence) (quota most : ℕ) → List Node → List Visited → Type 0
+ArePieces k seq quota most [] [] = Unit {0}
+ArePieces k seq quota most [] (v ∷ vs) = ⊥
+ArePieces k seq quota most (n ∷ ns) [] = ⊥
+ArePieces k seq quota most (n ∷ ns) (v ∷ vs) = IsPiece k seq quota most n v × ArePieces k seq quota most ns vs
 
-pieces_of_round : (k : ℕ) (seq : Sequence) (quota : ℕ) (best : List (List ℕ)) (ns : List Node) → ArePieces k seq quota ns (map (piece_end k seq quota best) ns)
-pieces_of_round k seq quota best [] = tt
-pieces_of_round k seq quota best (n ∷ ns) = (record { before = best; is = refl }, pieces_of_round k seq quota best ns)
+pieces_of_round : (k : ℕ) (seq : Sequence) (quota most : ℕ) (best : List (List ℕ)) (ns : List Node) → arranged_cost seq best ≤ most → ArePieces k seq quota most ns (map (piece_end k seq quota best) ns)
+pieces_of_round k seq quota most best [] costs = tt
+pieces_of_round k seq quota most best (n ∷ ns) costs = (record { before = best; costs = costs; is = refl }, pieces_of_round k seq quota most best ns costs)
 
-more_pieces : (k : ℕ) (seq : Sequence) (quota : ℕ) (ns : List Node) (vs : List Visited) (ms : List Node) (ws : List Visited) → ArePieces k seq quota ns vs → ArePieces k seq quota ms ws → ArePieces k seq quota (ns ++ ms) (vs ++ ws)
-more_pieces k seq quota [] [] ms ws a b = b
-more_pieces k seq quota [] (v ∷ vs) ms ws a b = absurd a
-more_pieces k seq quota (n ∷ ns) [] ms ws a b = absurd a
-more_pieces k seq quota (n ∷ ns) (v ∷ vs) ms ws a b = (a.0, more_pieces k seq quota ns vs ms ws a.1 b)
+more_pieces : (k : ℕ) (seq : Sequence) (quota most : ℕ) (ns : List Node) (vs : List Visited) (ms : List Node) (ws : List Visited) → ArePieces k seq quota most ns vs → ArePieces k seq quota most ms ws → ArePieces k seq quota most (ns ++ ms) (vs ++ ws)
+more_pieces k seq quota most [] [] ms ws a b = b
+more_pieces k seq quota most [] (v ∷ vs) ms ws a b = absurd a
+more_pieces k seq quota most (n ∷ ns) [] ms ws a b = absurd a
+more_pieces k seq quota most (n ∷ ns) (v ∷ vs) ms ws a b = (a.0, more_pieces k seq quota most ns vs ms ws a.1 b)
 
 -- the pieces so far, and the best layout, which costs at most what that of each piece and the starting one do
 pub record IsSearched (k : ℕ) (seq : Sequence) (quota : ℕ) (start : List (List ℕ)) (ns : List Node) (s : Searched) : Type 0 where
-  pub pieces : ArePieces k seq quota ns s.ends
+  pub pieces : ArePieces k seq quota (arranged_cost seq start) ns s.ends
   pub cheapest : (v : Visited) → IsIn v s.ends → arranged_cost seq s.best ≤ arranged_cost seq v.best
   pub at_most : arranged_cost seq s.best ≤ arranged_cost seq start
 
@@ -53,7 +54,7 @@ behind_round k seq quota start ns s ms h =
     let ends = map (piece_end k seq quota s.best) ms in
     let first = cheapest_first (arranged_cost seq) s.best (map (λ (v : Visited). v.best) ends)
     in record {
-      pieces = more_pieces k seq quota ns s.ends ms ends h.pieces (pieces_of_round k seq quota s.best ms);
+      pieces = more_pieces k seq quota (arranged_cost seq start) ns s.ends ms ends h.pieces (pieces_of_round k seq quota (arranged_cost seq start) s.best ms h.at_most);
       cheapest = λ v i. elim (in_either v s.ends ends i) [
         | inl old ↦ omega (arith, first, h.cheapest v old)
         | inr now ↦ cheapest_each (arranged_cost seq) s.best (map (λ (w : Visited). w.best) ends) v.best (in_map (λ (w : Visited). w.best) v ends now)
@@ -79,14 +80,14 @@ abbrev all_marks : List Visited → List Mark
 all_marks [] = []
 all_marks (v ∷ vs) = v.marks ++ all_marks vs
 
-pieces_fit : (k : ℕ) (seq : Sequence) (quota c : ℕ) (ns : List Node) (vs : List Visited) → ArePieces k seq quota ns vs → AllFinished vs → ((v : Visited) → IsIn v vs → c ≤ arranged_cost seq v.best)
+pieces_fit : (k : ℕ) (seq : Sequence) (quota most c : ℕ) (ns : List Node) (vs : List Visited) → ArePieces k seq quota most ns vs → AllFinished vs → ((v : Visited) → IsIn v vs → c ≤ arranged_cost seq v.best)
     → (at : ℕ) → replay_from k seq c at ns (all_marks vs) ≡ Fits
-pieces_fit k seq quota c [] [] a finished costs at = refl
-pieces_fit k seq quota c [] (v ∷ vs) a finished costs at = absurd a
-pieces_fit k seq quota c (n ∷ ns) [] a finished costs at = absurd a
-pieces_fit k seq quota c (n ∷ ns) (v ∷ vs) a finished costs at =
+pieces_fit k seq quota most c [] [] a finished costs at = refl
+pieces_fit k seq quota most c [] (v ∷ vs) a finished costs at = absurd a
+pieces_fit k seq quota most c (n ∷ ns) [] a finished costs at = absurd a
+pieces_fit k seq quota most c (n ∷ ns) (v ∷ vs) a finished costs at =
     let piece = a.0 in
-    let more : (from : ℕ) → replay_from k seq c from ns (all_marks vs) ≡ Fits = pieces_fit k seq quota c ns vs a.1 finished.1 (λ w i. costs w (inr i)) in
+    let more : (from : ℕ) → replay_from k seq c from ns (all_marks vs) ≡ Fits = pieces_fit k seq quota most c ns vs a.1 finished.1 (λ w i. costs w (inr i)) in
     let ends = ap (λ (w : Visited). w.finished) (sym piece.is) ∙ finished.0 in
     let enough = subst (λ (w : Visited). c ≤ arranged_cost seq w.best) piece.is (costs v (inl refl)) in
     let fitting = visited_fits k seq c quota (n ∷ []) piece.before ns (all_marks vs) ends enough more at
@@ -175,7 +176,7 @@ shown_from k seq budget start lists cost log sequence e = go (reaches (bound k s
         let h = certified_of seq quota s.best (Branched ∷ []) 0 s.ends lists cost log same in
         let all = searched k seq quota start in
         let unfinished : is_complete seq root ≡ false = (or_parts _ _ is).1 in
-        let fitting = pieces_fit k seq quota (arranged_cost seq s.best) (children k seq root) s.ends all.pieces h.finished all.cheapest 1 in
+        let fitting = pieces_fit k seq quota (arranged_cost seq start) (arranged_cost seq s.best) (children k seq root) s.ends all.pieces h.finished all.cheapest 1 in
         let whole : Replays k seq (arranged_cost seq s.best) (Branched ∷ all_marks s.ends) = rw (unfinished, replay_from) (subst (λ ns. replay_from k seq (arranged_cost seq s.best) 1 ns (all_marks s.ends) ≡ Fits) (sym (append-nil (children k seq root))) fitting)
         in record {
           cost_is = h.cost_is ∙ ap (arranged_cost seq) (sym h.lists_are);

@@ -119,7 +119,7 @@ visited_arranged k seq zero (n ∷ ns) best sequence good arranged = arranged
 visited_arranged k seq (suc marks) (n ∷ ns) best sequence good arranged = by_first (λ v. IsArranged seq k v.best) k seq marks n ns best
     (λ is. visited_arranged k seq marks ns best sequence (λ m i. good m (inr i)) arranged)
     (λ less complete. visited_arranged k seq marks ns (node_lists n) sequence (λ m i. good m (inr i)) (good_complete k seq n sequence (good n (inl refl)) complete))
-    (λ unfinished. visited_arranged k seq marks (children k seq n ++ ns) best sequence
+    (λ below unfinished. visited_arranged k seq marks (children k seq n ++ ns) best sequence
     (λ m i. elim (in_either m (children k seq n) ns i) [ inl child ↦ good_children k seq n (good n (inl refl)) unfinished m child | inr other ↦ good m (inr other) ]) arranged)
 
 -- what rounds find

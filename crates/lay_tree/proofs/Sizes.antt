@@ -8,7 +8,9 @@ use Rattle.std.proofs.lemmas.List.Sums.{sum_by-cons, sum_by-append}
 use Rattle.lay_model.specs.Sequences.{Sequence}
 use Rattle.lay_cost.specs.Placements.{has}
 use Rattle.lay_cost.specs.Parts.{Node, node_lists}
-use Rattle.lay_tree.specs.Tree.{is_empty, with_scalar, with_close, all_scalars, unplaced, is_complete, has_closes_left, children}
+use Rattle.std.proofs.lemmas.List.FromFn.{length-range_with_len}
+use Rattle.lay_tree.specs.Marked.{HaveNodes, none, leaf, inner}
+use Rattle.lay_tree.specs.Tree.{root, is_empty, with_scalar, with_close, all_scalars, unplaced, is_complete, has_closes_left, children}
 use Rattle.lay_tree.specs.Search.{visit}
 use Rattle.lay_tree.proofs.Members.{IsIn, IsOnce, in_back, of_filter, has_of}
 use Rattle.lay_tree.proofs.Registers.{has_append}
@@ -151,7 +153,45 @@ visit_ends k seq zero (n ∷ ns) best enough = absurd (omega (arith, enough, sum
 visit_ends k seq (suc marks) (n ∷ ns) best enough = by_first (λ v. v.finished ≡ true) k seq marks n ns best
     (λ is. visit_ends k seq marks ns best fewer)
     (λ less complete. visit_ends k seq marks ns (node_lists n) fewer)
-    (λ unfinished. visit_ends k seq marks (children k seq n ++ ns) best (omega (arith, enough, sum_by-cons (size k seq) n ns, size_of_children k seq n unfinished, sum_by-append (size k seq) (children k seq n) ns)))
+    (λ below unfinished. visit_ends k seq marks (children k seq n ++ ns) best (omega (arith, enough, sum_by-cons (size k seq) n ns, size_of_children k seq n unfinished, sum_by-append (size k seq) (children k seq n) ns)))
   where
     fewer : sum_by (size k seq) ns ≤ marks
     fewer = omega (arith, enough, sum_by-cons (size k seq) n ns, size_some k seq n)
+
+-- so many nodes there are
+complete_size : (k : ℕ) (seq : Sequence) (n : Node) → is_complete seq n ≡ true → size k seq n ≡ 1
+complete_size k seq n complete = rw (no_scalar (unplaced seq n) complete) (go (is_empty n.open_list) refl)
+  where
+    no_scalar : (ss : List ℕ) → is_empty ss ≡ true → length ss ≡ 0
+    no_scalar [] all = refl
+    no_scalar (s ∷ ss) all = absurd (both_ways false refl all)
+
+    go : (b : Bool) → is_empty n.open_list ≡ b → (if is_empty n.open_list then empty_size 0 (closes_left k n) else opened_size 0 (closes_left k n)) ≡ 1
+    go true is = rw (is) refl
+    go false is = rw (is) refl
+
+counted_as : (k : ℕ) (seq : Sequence) (count : ℕ) (ns : List Node) → sum_by (size k seq) ns ≡ count → HaveNodes k seq ns count
+counted_as k seq zero [] e = none
+counted_as k seq zero (n ∷ ns) e = absurd (omega (arith, e, sum_by-cons (size k seq) n ns, size_some k seq n))
+counted_as k seq (suc count) [] e = absurd (omega (arith, e))
+counted_as k seq (suc count) (n ∷ ns) e = go (is_complete seq n) refl (counted_as k seq count)
+  where
+    go : (b : Bool) → is_complete seq n ≡ b → ((ms : List Node) → sum_by (size k seq) ms ≡ count → HaveNodes k seq ms count) → HaveNodes k seq (n ∷ ns) (suc count)
+    go true is more = leaf n ns count is (more ns (omega (arith, e, sum_by-cons (size k seq) n ns, complete_size k seq n is)))
+    go false is more = inner n ns count is (more (children k seq n ++ ns) (omega (arith, e, sum_by-cons (size k seq) n ns, size_of_children k seq n is, sum_by-append (size k seq) (children k seq n) ns)))
+
+pub counted : (k : ℕ) (seq : Sequence) (n : Node) → HaveNodes k seq (n ∷ []) (size k seq n)
+counted k seq n = counted_as k seq (size k seq n) (n ∷ []) (omega (arith, sum_by-cons (size k seq) n []))
+
+kept : (ss : List ℕ) → filter (λ s. true) ss ≡ ss
+kept [] = refl
+kept (s ∷ ss) = ap (λ rest. s ∷ rest) (kept ss)
+
+many_unplaced : (seq : Sequence) → length (unplaced seq root) ≡ seq.scalars
+many_unplaced seq = ap length (kept (all_scalars seq)) ∙ length-range_with_len 0 seq.scalars
+
+pub root_alone : (k : ℕ) (seq : Sequence) → seq.scalars ≡ 0 → size k seq root ≡ 1
+root_alone k seq no_scalars = ap (λ m. empty_size m (k - 1)) (many_unplaced seq ∙ no_scalars)
+
+pub root_size : (k : ℕ) (seq : Sequence) (u : ℕ) → seq.scalars ≡ suc u → size k seq root ≡ suc (suc u * opened_size u (k - 1))
+root_size k seq u many = ap (λ m. empty_size m (k - 1)) (many_unplaced seq ∙ many)

@@ -18,7 +18,7 @@ use Rattle.lay_tree.specs.Replays.{Fits, replay_from}
 pub reaches_at_most : (b : ℤ) (c : ℕ) → pos c ≤ℤ b → reaches b c ≡ true
 reaches_at_most b c h = grind (arith, ints)
 
-reaches_less : (b : ℤ) (c d : ℕ) → reaches b d ≡ true → c ≤ d → reaches b c ≡ true
+pub reaches_less : (b : ℤ) (c d : ℕ) → reaches b d ≡ true → c ≤ d → reaches b c ≡ true
 reaches_less b c d e le =
     let at_most : pos d ≤ℤ b = lt_z_no {a = b} {b = pos d} (subst T (sym e) tt)
     in reaches_at_most b c (omega (arith, ints, at_most, le))
@@ -50,14 +50,14 @@ costs_less k seq n best is complete = not_reached _ _ (subst (λ b. reaches b (a
 pub by_first : (P : Visited → Type 0) (k : ℕ) (seq : Sequence) (marks : ℕ) (n : Node) (ns : List Node) (best : List (List ℕ))
     → (reaches (bound k seq n) (arranged_cost seq best) ≡ true → P (behind Closed (visit k seq marks ns best)))
     → (arranged_cost seq (node_lists n) < arranged_cost seq best → is_complete seq n ≡ true → P (behind Closed (visit k seq marks ns (node_lists n))))
-    → (is_complete seq n ≡ false → P (behind Branched (visit k seq marks (children k seq n ++ ns) best)))
+    → (reaches (bound k seq n) (arranged_cost seq best) ≡ false → is_complete seq n ≡ false → P (behind Branched (visit k seq marks (children k seq n ++ ns) best)))
     → P (visit k seq (suc marks) (n ∷ ns) best)
 by_first P k seq marks n ns best closed complete branched = go (reaches (bound k seq n) (arranged_cost seq best)) refl (is_complete seq n) refl
   where
     go : (a : Bool) → reaches (bound k seq n) (arranged_cost seq best) ≡ a → (b : Bool) → is_complete seq n ≡ b → P (visit k seq (suc marks) (n ∷ ns) best)
     go true is b all = subst P (sym (visit_closed k seq marks n ns best is)) (closed is)
     go false is true all = subst P (sym (visit_complete k seq marks n ns best is all)) (complete (costs_less k seq n best is all) all)
-    go false is false all = subst P (sym (visit_branched k seq marks n ns best is all)) (branched all)
+    go false is false all = subst P (sym (visit_branched k seq marks n ns best is all)) (branched is all)
 
 -- the best layout costs at most what it did
 pub no_dearer : (k : ℕ) (seq : Sequence) (marks : ℕ) (ns : List Node) (best : List (List ℕ)) → arranged_cost seq (visit k seq marks ns best).best ≤ arranged_cost seq best
@@ -66,7 +66,7 @@ no_dearer k seq zero (n ∷ ns) best = omega arith
 no_dearer k seq (suc marks) (n ∷ ns) best = by_first (λ v. arranged_cost seq v.best ≤ arranged_cost seq best) k seq marks n ns best
     (λ is. no_dearer k seq marks ns best)
     (λ less complete. let h = no_dearer k seq marks ns (node_lists n) in omega (arith, h, less))
-    (λ incomplete. no_dearer k seq marks (children k seq n ++ ns) best)
+    (λ below incomplete. no_dearer k seq marks (children k seq n ++ ns) best)
 
 -- the marks of a finished visit fit the nodes, for each number that the best layout costs at least
 pub visited_fits : (k : ℕ) (seq : Sequence) (c marks : ℕ) (ns : List Node) (best : List (List ℕ)) (others : List Node) (log : List Mark)
@@ -83,7 +83,7 @@ visited_fits k seq c (suc marks) (n ∷ ns) best others log finished costs rest 
     (λ less complete finished2 costs2 rest2 at2.
     let enough : reaches (bound k seq n) c ≡ true = subst (λ b. reaches b c ≡ true) (sym (complete_bound k seq n complete)) (reaches_at_most (pos (arranged_cost seq (node_lists n))) c (omega (arith, ints, costs2, no_dearer k seq marks ns (node_lists n))))
     in rw (enough, replay_from) (visited_fits k seq c marks ns (node_lists n) others log finished2 costs2 rest2 (suc at2)))
-    (λ incomplete finished2 costs2 rest2 at2.
+    (λ below incomplete finished2 costs2 rest2 at2.
     let h = visited_fits k seq c marks (children k seq n ++ ns) best others log finished2 costs2 rest2 (suc at2)
     in rw (incomplete, replay_from) (subst (λ os. replay_from k seq c (suc at2) os ((visit k seq marks (children k seq n ++ ns) best).marks ++ log) ≡ Fits) (append_assoc (children k seq n) ns others) h))
     finished costs rest at
@@ -95,7 +95,7 @@ wrote_all k seq zero (n ∷ ns) best unfinished = refl
 wrote_all k seq (suc marks) (n ∷ ns) best unfinished = by_first (λ v. v.finished ≡ false → length v.marks ≡ suc marks) k seq marks n ns best
     (λ is open_end. ap suc (wrote_all k seq marks ns best open_end))
     (λ less complete open_end. ap suc (wrote_all k seq marks ns (node_lists n) open_end))
-    (λ incomplete open_end. ap suc (wrote_all k seq marks (children k seq n ++ ns) best open_end))
+    (λ below incomplete open_end. ap suc (wrote_all k seq marks (children k seq n ++ ns) best open_end))
     unfinished
 
 -- nodes behind others: the visit goes on with the marks that are left, where it is finished

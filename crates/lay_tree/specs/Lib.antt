@@ -3,4 +3,5 @@ pub mod Tree
 pub mod Bound
 pub mod Greedy
 pub mod Search
+pub mod Marked
 pub mod Replays

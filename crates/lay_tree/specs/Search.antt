@@ -1,5 +1,5 @@
 -- What a search answers (docs/LAYOUT.md, "Search"), with every bound computed from scratch.
-use Rattle.std.specs.Prelude.{◌<◌, ◌≡◌, ℕ, zero, suc, max, ◌/◌, ℤ, pos, int_lt, Bool, true, false, not, ◌||◌, List, [], ◌∷◌, ◌++◌, length, map, if◌then◌else◌}
+use Rattle.std.specs.Prelude.{ℕ, zero, suc, max, ◌/◌, ℤ, pos, int_lt, Bool, true, false, not, ◌||◌, List, [], ◌∷◌, ◌++◌, length, map, if◌then◌else◌}
 use Rattle.lay_model.specs.Sequences.{Sequence}
 use Rattle.lay_cost.specs.Cost.{arranged_cost}
 use Rattle.lay_cost.specs.Parts.{Node, node_lists}
@@ -70,9 +70,12 @@ quota_of budget pieces = max 1 (budget / pieces)
 abbrev pub search_pieces : ℕ → Sequence → ℕ → List (List ℕ) → Answer
 search_pieces k seq quota start = answer_with k seq quota (rounds k seq quota (record { best = start; ends = [] }) (children k seq root))
 
--- nothing is to be searched where the root's bound reaches the cost of the starting layout
+-- nothing is to be searched where the root's bound reaches the cost of the starting layout, or the root is complete
+abbrev pub is_settled : ℕ → Sequence → List (List ℕ) → Bool
+is_settled k seq start = reaches (bound k seq root) (arranged_cost seq start) || is_complete seq root
+
 abbrev pub search_from : ℕ → Sequence → ℕ → List (List ℕ) → Answer
-search_from k seq budget start = elim (reaches (bound k seq root) (arranged_cost seq start) || is_complete seq root) [
+search_from k seq budget start = elim (is_settled k seq start) [
   | true ↦ Certified start (arranged_cost seq start) (Closed ∷ [])
   | false ↦ search_pieces k seq (quota_of budget (length (children k seq root))) start
 ]
@@ -93,9 +96,3 @@ answer_cost (Exhausted lists cost piece quota log) = cost
 abbrev pub is_certified : Answer → Bool
 is_certified (Certified lists cost log) = true
 is_certified (Exhausted lists cost piece quota log) = false
-
--- what an exhausted answer says of a piece: there is a piece for each scalar, and this one wrote as many marks as it might
-pub record IsUnfinished (seq : Sequence) (budget piece quota : ℕ) (log : List Mark) : Type 0 where
-  pub piece_is : piece < seq.scalars
-  pub quota_is : quota ≡ quota_of budget seq.scalars
-  pub full : length log ≡ quota

@@ -8,7 +8,8 @@ ghost use Rattle.lay_tree.specs.declared.answer.Answer.TheVariants.{Certified, E
 ghost use Rattle.lay_tree.specs.Tree.{root, all_scalars, is_complete, IsBelow};
 ghost use Rattle.lay_tree.specs.Bound.{bound};
 ghost use Rattle.lay_tree.specs.Greedy.{starting_lists};
-ghost use Rattle.lay_tree.specs.Search.{search_answer, answer_lists, answer_cost, is_certified, IsUnfinished};
+ghost use Rattle.lay_tree.specs.Search.{search_answer, answer_lists, answer_cost, is_certified};
+ghost use Rattle.lay_tree.specs.Marked.{HasFewNodes, IsUnfinished};
 ghost use Rattle.lay_tree.specs.Replays.{Replays};
 
 /// The bound of a node is at most what each complete node below it costs, at every step and over any number of registers.
@@ -50,12 +51,16 @@ pub fn certified_answers_are_least()
     lay_cost::placements_close_up();
 }
 
-/// A search over at most eight scalars on one register, or at most six on up to four, is certified within a budget of 200,000.
+/// A search over at most eight scalars on one register, or at most six on up to four, is certified within a budget of 200,000. The tree
+/// of the former has at most 109,601 nodes, and that of the latter at most 43,933; each piece has at most 13,700 and 7,322.
 pub fn small_searches_end()
-    ensures { (k : ℕ) (seq : Sequence) (budget : ℕ) → 200000 ≤ budget → ((seq.scalars ≤ 8) × (k ≤ 1)) ⊎ ((seq.scalars ≤ 6) × (k ≤ 4)) → is_certified (search_answer k seq budget) ≡ true }
+    ensures one_register { (k : ℕ) (seq : Sequence) → seq.scalars ≤ 8 → k ≤ 1 → HasFewNodes k seq 109601 13700 }
+    ensures registers { (k : ℕ) (seq : Sequence) → seq.scalars ≤ 6 → k ≤ 4 → HasFewNodes k seq 43933 7322 }
+    ensures certified { (k : ℕ) (seq : Sequence) (budget : ℕ) → 200000 ≤ budget → ((seq.scalars ≤ 8) × (k ≤ 1)) ⊎ ((seq.scalars ≤ 6) × (k ≤ 4)) → is_certified (search_answer k seq budget) ≡ true }
 {}
 
-/// An exhausted answer has the number of a piece, and all marks that this piece might write.
+/// An exhausted answer has the number of a piece, and all marks that this piece might write. Each mark is for a node of the piece, and
+/// the bound of each branched node is below what the starting layout costs.
 pub fn exhausted_answers_are_full()
-    ensures { (k : ℕ) (seq : Sequence) (budget : ℕ) (lists : List (List ℕ)) (cost piece quota : ℕ) (log : List Mark) → search_answer k seq budget ≡ Exhausted lists cost piece quota log → IsUnfinished seq budget piece quota log }
+    ensures { (k : ℕ) (seq : Sequence) (budget : ℕ) (lists : List (List ℕ)) (cost piece quota : ℕ) (log : List Mark) → search_answer k seq budget ≡ Exhausted lists cost piece quota log → IsUnfinished k seq budget piece quota log }
 {}
