@@ -12,12 +12,13 @@ use Rattle.lay_tree.specs.declared.answer.Answer.TheVariants.{Certified}
 use Rattle.lay_tree.specs.Tree.{root, with_scalar, is_complete, is_empty, children, all_scalars}
 use Rattle.lay_tree.specs.Bound.{bound}
 use Rattle.lay_tree.specs.Greedy.{starting_lists}
-use Rattle.lay_tree.specs.Search.{reaches, search_from, search_answer, search_pieces, quota_of}
+use Rattle.lay_tree.specs.Search.{reaches, is_settled, search_from, search_answer, search_pieces, quota_of}
 use Rattle.lay_node.specs.Numbers.{kept_in, kept_reaches}
 use Rattle.lay_node.proofs.Children.{empty_kept, bound_reaches}
 use Rattle.lay_node.proofs.Rooting.{root_unplaced}
 use Rattle.lay_search.specs.declared.root.Root.{Root}
 use Rattle.lay_search.specs.Roots.{IsRoot}
+use Rattle.lay_search.specs.Openings.{IsDone}
 
 pub root_incomplete : (seq : Sequence) → (seq.scalars ≡ 0 → ⊥) → is_complete seq root ≡ false
 root_incomplete seq some = ap is_empty (root_unplaced seq) ∙ by seq.scalars some
@@ -60,10 +61,22 @@ children_of_root k seq = append-nil (map (with_scalar root) (Rattle.lay_tree.spe
 count_children : (k : ℕ) (seq : Sequence) → length (children k seq root) ≡ seq.scalars
 count_children k seq = ap length (children_of_root k seq) ∙ length-map (all_scalars seq) (with_scalar root) ∙ length-range_with_len 0 seq.scalars
 
-pub settled_answer : (k : ℕ) (seq : Sequence) (budget : ℕ) (lists : List (List ℕ)) (cost : ℕ) (marks : List Mark) (settled : Bool) → lists ≡ starting_lists k seq → cost ≡ arranged_cost seq lists → marks ≡ Closed ∷ [] → settled ≡ (reaches (bound k seq root) cost || is_complete seq root) → settled ≡ true → Certified lists cost marks ≡ search_answer k seq budget
+-- what the root's test says of the starting layout
+settled_by : (k : ℕ) (seq : Sequence) (lists : List (List ℕ)) (cost : ℕ) (settled : Bool) → lists ≡ starting_lists k seq → cost ≡ arranged_cost seq lists → settled ≡ (reaches (bound k seq root) cost || is_complete seq root)
+    → is_settled k seq (starting_lists k seq) ≡ settled
+settled_by k seq lists cost settled start costs is =
+    ap (is_settled k seq) (sym start) ∙ ap (λ c. reaches (bound k seq root) c || is_complete seq root) (sym costs) ∙ sym is
+
+pub settled_answer : (k : ℕ) (seq : Sequence) (budget : ℕ) (lists : List (List ℕ)) (cost : ℕ) (marks : List Mark) (settled : Bool) → lists ≡ starting_lists k seq → cost ≡ arranged_cost seq lists → marks ≡ Closed ∷ []
+    → settled ≡ (reaches (bound k seq root) cost || is_complete seq root) → settled ≡ true → IsDone k seq budget (Certified lists cost marks)
 settled_answer k seq budget lists cost marks settled start costs ms is yes1 =
-    let test : (reaches (bound k seq root) (arranged_cost seq lists) || is_complete seq root) ≡ true = ap (λ c. reaches (bound k seq root) c || is_complete seq root) (sym costs) ∙ sym is ∙ yes1 in
-    ap₂ (λ c m. Certified lists c m) costs ms ∙ sym (from_settled k seq budget lists test) ∙ ap (search_from k seq budget) start
+    let test : is_settled k seq (starting_lists k seq) ≡ true = settled_by k seq lists cost settled start costs is ∙ yes1 in
+    let closed : Certified lists cost marks ≡ Certified (starting_lists k seq) (arranged_cost seq (starting_lists k seq)) (Closed ∷ []) = ap₂ (λ c m. Certified lists c m) costs ms ∙ ap (λ ls. Certified ls (arranged_cost seq ls) (Closed ∷ [])) start
+    in record { settled = test; start = closed; answered = closed ∙ sym (from_settled k seq budget (starting_lists k seq) test) }
+
+pub open_root : (k : ℕ) (seq : Sequence) (lists : List (List ℕ)) (cost : ℕ) (settled : Bool) → lists ≡ starting_lists k seq → cost ≡ arranged_cost seq lists → settled ≡ (reaches (bound k seq root) cost || is_complete seq root)
+    → settled ≡ false → is_settled k seq (starting_lists k seq) ≡ false
+open_root k seq lists cost settled start costs is no1 = settled_by k seq lists cost settled start costs is ∙ no1
 
 pub open_answer : (k : ℕ) (seq : Sequence) (budget : ℕ) (lists : List (List ℕ)) (cost quota : ℕ) (settled : Bool) → lists ≡ starting_lists k seq → cost ≡ arranged_cost seq lists → quota ≡ quota_of budget seq.scalars → settled ≡ (reaches (bound k seq root) cost || is_complete seq root) → settled ≡ false → search_answer k seq budget ≡ search_pieces k seq quota lists
 open_answer k seq budget lists cost quota settled start costs share is no1 =

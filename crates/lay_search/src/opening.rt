@@ -28,7 +28,8 @@ pub enum Opening {
     },
 }
 
-/// The starting layout, and whether it is the best one by the root's bound alone.
+/// The starting layout, and whether the root alone ends the search: `Done` exactly where its bound reaches what that layout costs, or where
+/// it is complete, as it is of no scalars. Else `Split`. Want of memory where an allocation fails.
 pub fn open_search(
     alloc: Global,
     seq: &Sequence,

@@ -3,7 +3,7 @@ use Rattle.std.proofs.Common.{◌++◌, ◌∷◌, [], ap, ◌∙◌, arith}
 use Rattle.lay_node.proofs.Proper.{cost_small}
 use Rattle.lay_tree.specs.declared.answer.Mark.TheVariants.{Closed}
 use Rattle.lay_tree.specs.Search.{quota_of}
-use Rattle.lay_search.proofs.Opened.{settled_answer, open_answer}
+use Rattle.lay_search.proofs.Opened.{settled_answer, open_root, open_answer}
 use Rattle.lay_search.proofs.opening.open_search.Goals as goal
 
 pub is_settled-requires-clause-cost : goal.is_settled-requires-clause-cost
@@ -17,6 +17,7 @@ returns c =
     let pieces = c.scalars-pieces.ensures.scalars in
     let quota = c.quota_of.ensures ∙ ap (quota_of c.args.budget) pieces in
     record {
+      open_root = open_root c.args.registers c.args.seq.now c.in_ok-arrangement.arrangement c.cost-cost.result c.in_ok-is_settled.field-0 c.in_ok-arrangement.ensures.lists c.cost-cost.ensures c.in_ok-is_settled.ensures c.if-branch.false;
       start = c.in_ok-arrangement.ensures.lists;
       arranged = c.in_ok-arrangement.ensures.arranged;
       cost = c.cost-cost.ensures;
