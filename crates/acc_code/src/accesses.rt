@@ -10,9 +10,6 @@ use lay_model::{Blocks, Sequence};
 use std::alloc::Global;
 use word_base::NoMemory;
 
-/// The greatest number of accesses of a sequence.
-const MOST_ACCESSES: u64 = 1 << 60;
-
 /// The blocks of accesses of a function's scalars, each of weight 1, and the step 1. Its start and its end are cuts, and each item but an
 /// operation is one too. It fails only where memory is wanting.
 pub fn sequence(alloc: Global, function: &AccFunction) -> Result<Sequence, NoMemory>
@@ -22,7 +19,7 @@ pub fn sequence(alloc: Global, function: &AccFunction) -> Result<Sequence, NoMem
     let mut blocks = Gathered::new(alloc);
     list(&mut blocks, function.body.as_slice())?;
     blocks.cut()?;
-    sequence_with(function.scalars, blocks.closed)
+    Ok(sequence_with(function.scalars, blocks.closed))
 }
 
 /// The blocks up to some place of the code.
@@ -121,20 +118,11 @@ fn item(blocks: &mut Gathered, x: &AccItem) -> Result<(), NoMemory>
     }
 }
 
-// So many accesses as to pass the bound of a sequence never fit in memory.
-fn sequence_with(scalars: u8, blocks: Blocks) -> Result<Sequence, NoMemory>
+fn sequence_with(scalars: u8, blocks: Blocks) -> Sequence
     requires few { scalars ≤ 64 }
     requires blocks { All (IsAccessBlock scalars) blocks }
-    ensures { IfOk result (λ s. s ≡ record { scalars = scalars; step = 1; blocks = blocks }) }
+    ensures { result ≡ record { scalars = scalars; step = 1; blocks = blocks } }
 {
-    let mut count: u64 = 0;
-    for index in 0..blocks.len() {
-        count = count
-            .checked_add(blocks.accesses(index).len() as u64)
-            .ok_or(NoMemory)?;
-    }
-    if count > MOST_ACCESSES {
-        return Err(NoMemory);
-    }
-    Ok(Sequence::new(scalars, 1, blocks))
+    blocks.accesses_are_few();
+    Sequence::new(scalars, 1, blocks)
 }

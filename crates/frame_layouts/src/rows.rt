@@ -5,12 +5,10 @@ ghost use Rattle.frame_layouts.specs.Rows.{row_of};
 
 use cc_report::ReportRow;
 use lay_cert::{CertFrame, Claim};
-use lay_model::Sequence;
 use std::alloc::Global;
 use word_base::{NoMemory, Text};
 
-/// A row for each frame of a certificate, in order. Want of memory is also said where the accesses of a frame pass 32 bits, as those of no
-/// function that is compiled and of no certificate that is read do.
+/// A row for each frame of a certificate, in order.
 pub fn report_rows(alloc: Global, frames: &[CertFrame]) -> Result<Vec<ReportRow>, NoMemory>
     ensures { IfOk result (λ told. told.items ≡ map row_of frames.now) }
 {
@@ -28,22 +26,10 @@ fn row(alloc: Global, frame: &CertFrame) -> Result<ReportRow, NoMemory>
         name: Text::copy_of(alloc, frame.name())?,
         scalars: frame.seq().scalars(),
         registers: frame.registers(),
-        accesses: access_count(frame.seq())?,
+        accesses: frame.seq().blocks().access_count(),
         cost: frame.cost(),
         optimal: is_optimal(frame.claim()),
     })
-}
-
-fn access_count(seq: &Sequence) -> Result<u32, NoMemory>
-    ensures { IfOk result (λ count. count ≡ rows.access_count seq.now) }
-{
-    let mut count: u32 = 0;
-    let blocks = seq.blocks();
-    for index in 0..blocks.len() {
-        let more = u32::try_from(blocks.accesses(index).len()).map_err(|_| NoMemory)?;
-        count = count.checked_add(more).ok_or(NoMemory)?;
-    }
-    Ok(count)
 }
 
 fn is_optimal(claim: Claim) -> bool

@@ -1,8 +1,10 @@
 -- Blocks that lie one behind another: where each stands, and one more behind them.
-use Rattle.std.proofs.Common.{◌≡◌, ℕ, zero, suc, ◌-◌, ◌<◌, ◌≤◌, List, [], ◌∷◌, ◌++◌, length, get_or, take, drop, refl, ap, ◌∙◌, sym, subst, arith, length-append, length-drop}
-use Rattle.std.specs.Prelude.{slice_range}
+use Rattle.std.proofs.Common.{◌≡◌, ℕ, zero, suc, ◌-◌, ◌<◌, ◌≤◌, List, [], ◌∷◌, ◌++◌, length, get_or, take, drop, refl, ap, ◌∙◌, sym, subst, arith, length-append, length-drop, length-take}
+use Rattle.std.specs.Prelude.{◌+◌, slice_range, slice_get, sum_by, Option, Some, None}
 use Rattle.std.proofs.lemmas.List.{take_all, take-append-le, drop_at, drop-append-le}
 use Rattle.lay_model.specs.declared.blocks.BlockEnd.{BlockEnd}
+use Rattle.std.proofs.lemmas.List.Sums.{sum_by-cons}
+use Rattle.lay_model.specs.Sequences.{Block}
 use Rattle.lay_model.specs.Flat.{blocks_from, block_at, start_at, AreEnds}
 
 start_behind : (start : ℕ) (ends : List BlockEnd) (i : ℕ) (d : BlockEnd) → i < length ends → start_at start ends (suc i) ≡ (get_or ends i d).end
@@ -58,3 +60,29 @@ pub blocks_more : (start : ℕ) (ends : List BlockEnd) (xs ys : List ℕ) (e : B
 blocks_more start [] xs ys e are to = ap (λ l. (record { weight = e.weight; accesses = l }) ∷ []) (range_back xs ys start e.end are to)
 blocks_more start (x ∷ ends) xs ys e are to =
     (λ k. (record { weight = x.weight; accesses = range_front xs ys start x.end are.0 (ends_most x.end ends (length xs) are.1) k }) ∷ blocks_more x.end ends xs ys e are.1 to k)
+
+range_length : (xs : List ℕ) (a b : ℕ) → a ≤ b → b ≤ length xs → length (slice_range xs a b) ≡ b - a
+range_length xs a b ordered within = omega (arith, length-take (b - a) (drop a xs), length-drop a xs, ordered, within)
+
+-- the accesses of all blocks are those from the first one's begin on
+pub accesses_together : (start : ℕ) (ends : List BlockEnd) (accesses : List ℕ) → AreEnds start ends (length accesses) → start + sum_by (λ (b : Block). length b.accesses) (blocks_from start ends accesses) ≡ length accesses
+accesses_together start [] accesses are = omega (arith, are)
+accesses_together start (e ∷ ends) accesses are =
+    let one = range_length accesses start e.end are.0 (ends_most e.end ends (length accesses) are.1) in
+    omega (arith, are.0, one, accesses_together e.end ends accesses are.1, sum_by-cons (λ (b : Block). length b.accesses) (record { weight = e.weight; accesses = slice_range accesses start e.end }) (blocks_from e.end ends accesses))
+
+same : {a b : BlockEnd} → Some a ≡ Some b → a ≡ b
+same {a} {b} is = cc
+
+last_at : (start : ℕ) (ends : List BlockEnd) (size i : ℕ) (last : BlockEnd) → AreEnds start ends size → suc i ≡ length ends → Some last ≡ slice_get ends i → last.end ≡ size
+last_at start [] size i last are count is = absurd (omega (arith, count))
+last_at start (e ∷ []) size zero last are count is = ap (λ (o : BlockEnd). o.end) (same is) ∙ are.1
+last_at start (e ∷ x ∷ ends) size zero last are count is = absurd (omega (arith, count))
+last_at start (e ∷ ends) size (suc i) last are count is = last_at e.end ends size i last are.1 (omega (arith, count)) is
+
+-- the last end is behind all of them
+pub last_end : (start : ℕ) (ends : List BlockEnd) (size : ℕ) (last : BlockEnd) → AreEnds start ends size → Some last ≡ slice_get ends (length ends - 1) → last.end ≡ size
+last_end start [] size last are is = cc
+last_end start (e ∷ ends) size last are is =
+    let place : length (e ∷ ends) - 1 ≡ length ends = omega arith in
+    last_at start (e ∷ ends) size (length ends) last are refl (is ∙ ap (slice_get (e ∷ ends)) place)

@@ -1,5 +1,5 @@
 //! Blocks of accesses, which lie one behind another.
-ghost use Rattle.std.specs.Prelude.{◌≡◌, ◌<◌, ◌++◌, ◌∷◌, [], length, MatchResult};
+ghost use Rattle.std.specs.Prelude.{◌≡◌, ◌<◌, ◌^◌, ◌++◌, ◌∷◌, [], length, sum_by, MatchResult};
 ghost use Rattle.lay_model.specs.Flat.{block_at, start_at};
 
 use std::alloc::Global;
@@ -48,6 +48,23 @@ impl Blocks {
         ensures { result ≡ length self.now }
     {
         self.ends.len()
+    }
+
+    /// How many accesses all blocks have together.
+    pub fn access_count(&self) -> u32
+        ensures { result ≡ sum_by (λ b. length b.accesses) self.now }
+    {
+        match self.ends.last() {
+            Some(last) => last.end,
+            None => 0,
+        }
+    }
+
+    /// The accesses of all blocks have a number of 32 bits, which callers cite.
+    pub fn accesses_are_few(&self)
+        ensures { sum_by (λ b. length b.accesses) self.now < 2 ^ 32 }
+    {
+        self.access_count();
     }
 
     /// How often the block of this number, from 0, counts.

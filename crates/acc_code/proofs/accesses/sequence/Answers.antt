@@ -1,6 +1,5 @@
 use Rattle.std.proofs.Common.{ap, subst, sym, ◌∙◌}
 use Rattle.std.specs.Prelude.{All}
-use Rattle.std.proofs.lemmas.Result.{IfOk-weaker}
 use Rattle.acc_code.specs.AccView.{function_items_of}
 use Rattle.acc_code.specs.AccSequence.{IsAccessBlock}
 use Rattle.acc_code.proofs.Gathering.{gathered_from}
@@ -15,7 +14,5 @@ sequence_with-requires-clause-blocks c =
 
 pub returns : goal.returns
 returns c =
-    IfOk-weaker c.sequence_with.result _ _
-    (λ s is. is ∙ ap (λ l. record { scalars = c.args.function.now.scalars; step = 1; blocks = l })
-    (sym (gathered_from _ _ _ _ _ _ c.as_slice.result.now c.args.function.now.body c.as_slice.ensures c.new-blocks.ensures.closed c.new-blocks.ensures.block c.in_ok-list.ensures c.in_ok-cut.ensures)))
-    c.sequence_with.ensures
+    c.sequence_with.ensures ∙ ap (λ l. record { scalars = c.args.function.now.scalars; step = 1; blocks = l })
+    (sym (gathered_from _ _ _ _ _ _ c.as_slice.result.now c.args.function.now.body c.as_slice.ensures c.new-blocks.ensures.closed c.new-blocks.ensures.block c.in_ok-list.ensures c.in_ok-cut.ensures))
