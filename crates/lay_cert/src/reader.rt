@@ -1,10 +1,11 @@
 //! Reading certificates frame by frame.
-ghost use Rattle.std.specs.Prelude.{◌≡◌, ◌≤◌, ◌+◌, ℕ, List, [], ◌∷◌, ◌++◌, Bool, length, MatchOption, MatchResult, IfOk, IfSome};
+ghost use Rattle.std.specs.Prelude.{◌≡◌, ◌≤◌, ◌+◌, ℕ, List, [], ◌∷◌, ◌++◌, Bool, length, ◌≢◌, MatchOption, MatchResult, IfOk, IfErr, IfSome};
 ghost use Rattle.word_base.specs.Name.{IsName};
 ghost use Rattle.lay_cert.specs.Frames.{Frame, IsWhole};
 ghost use Rattle.lay_cert.specs.CertReading.{Unread, Inside, Finished, Named, Between, Reads, Says};
 ghost use Rattle.lay_cert.specs.LineReading.{Stands};
 ghost use Rattle.lay_cert.specs.FrameReading.{HasReadFrames};
+ghost use Rattle.lay_cert.specs.declared.fault.CertFault.TheVariants as faults;
 
 use crate::certificate::{CertFrame, FrameParts};
 use crate::fault::CertFault;
@@ -36,10 +37,11 @@ impl<'a> Model for CertReader<'a> {
 }
 
 impl<'a> CertReader<'a> {
-    /// Before the first frame of these bytes, of which it reads the version.
+    /// Before the first frame of these bytes, of which it reads the version. It takes no memory.
     pub fn new(bytes: &'a [u8]) -> Result<Self, CertFault>
         requires { length bytes.now ≤ 536870912 }
-        ensures { MatchResult result (HasReadFrames bytes.now []) (Says bytes.now) }
+        ensures read { MatchResult result (HasReadFrames bytes.now []) (Says bytes.now) }
+        ensures memory { IfErr result (λ f. f ≢ faults.NoMemory) }
     {
         let mut lines = Lines::new(bytes);
         let steps = read_version(&mut lines)?;
@@ -75,7 +77,8 @@ impl<'a> CertReader<'a> {
 
 // Reads the version, and says whether it has lines of steps.
 fn read_version(lines: &mut Lines<'_>) -> Result<bool, CertFault>
-    ensures { (bytes : List ℕ) → Stands bytes lines.old Unread → MatchResult result (λ steps. Stands bytes lines.new (Inside steps [] Between)) (Says bytes) }
+    ensures read { (bytes : List ℕ) → Stands bytes lines.old Unread → MatchResult result (λ steps. Stands bytes lines.new (Inside steps [] Between)) (Says bytes) }
+    ensures memory { IfErr result (λ f. f ≢ faults.NoMemory) }
 {
     let found = lines.number(b"C25 CERTIFICATE ", 0, u64::MAX)?;
     match found {

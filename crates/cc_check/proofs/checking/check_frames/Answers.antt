@@ -6,13 +6,13 @@ use Rattle.cc_check.proofs.checking.check_frames.Goals as goal
 pub returns-in_err-reader : goal.returns-in_err-reader
 returns-in_err-reader c =
     let p = err_from_is_err_and c.from_residual-in_err-reader.result c.from_residual-in_err-reader.ensures.1 in
-    rw (p.1, p.2) c.in_err-reader.ensures
+    rw (p.1, p.2) c.in_err-reader.ensures.read
 
 pub loop-checked-init : goal.loop-checked-init
 loop-checked-init c = record {
   reads = record {
     frames = [];
-    read = c.in_ok-reader.ensures;
+    read = c.in_ok-reader.ensures.read;
     checked = none_checked c.args.image.now _ _ _ c.new-3.ensures.items refl c.requires.none;
     marked = c.requires.marks;
   };

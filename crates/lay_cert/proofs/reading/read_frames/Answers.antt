@@ -7,12 +7,12 @@ use Rattle.lay_cert.proofs.reading.read_frames.Goals as goal
 pub returns-in_err-reader : goal.returns-in_err-reader
 returns-in_err-reader c =
     let p = err_from_is_err_and c.from_residual.result c.from_residual.ensures.1 in
-    rw (p.1, p.2) c.in_err-reader.ensures
+    rw (p.1, p.2) c.in_err-reader.ensures.read
 
 pub loop-frames-init : goal.loop-frames-init
 loop-frames-init c =
     let none : c.new-frames.result.items ≡ [] = c.new-frames.ensures.items in
-    subst (λ fs. HasReadFrames c.args.bytes.now fs c.in_ok-reader.reader) (sym none) c.in_ok-reader.ensures
+    subst (λ fs. HasReadFrames c.args.bytes.now fs c.in_ok-reader.reader) (sym none) c.in_ok-reader.ensures.read
 
 pub returns-in_err-frame : goal.returns-in_err-frame
 returns-in_err-frame c =
