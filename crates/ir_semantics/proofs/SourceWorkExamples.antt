@@ -3,11 +3,12 @@ use Rattle.std.proofs.Common.{◌≡◌, refl, ℕ, ◌+◌, ◌*◌, true, [], 
 use Rattle.std.specs.Prelude.{codes}
 use Rattle.word_base.specs.declared.outcome.Ending.TheVariants.{Returned, InputEnded}
 use Rattle.c_syntax.specs.declared.operator.BinaryOp.TheVariants as op
+use Rattle.c_syntax.specs.declared.operator.UnaryOp.TheVariants as sign
 use Rattle.c_tree.specs.declared.program.Base.TheVariants.{Int}
 use Rattle.c_tree.specs.declared.program.ScalarType.{ScalarType}
 use Rattle.c_tree.specs.declared.program.VarRef.TheVariants as name
 use Rattle.c_tree.specs.declared.program.Initial.TheVariants as initial
-use Rattle.c_tree.specs.TypedTree.{Form, Expr, Node, Named, Const, Read, Binary, And, Or, Not, Pick, Assign, AssignOp, StepBefore, Call, In, Comma, Convert, none, more, Stmt, Block, Fill, Do_expr, If, While, Do_while, For, Switch, Break, Continue, Return, done, both, no_more, case, default, body, ProgramTree}
+use Rattle.c_tree.specs.TypedTree.{Form, Expr, Node, Named, At, Const, Read, AddressOf, Load, Unary, Binary, And, Or, Not, Pick, Assign, AssignOp, StepBefore, StepAfter, Call, In, Comma, Convert, none, more, Stmt, Block, Fill, Do_expr, If, While, Do_while, For, Switch, Break, Continue, Return, done, both, no_more, case, default, body, ProgramTree}
 use Rattle.ir_semantics.specs.Keeps.{Ended, More}
 use Rattle.ir_semantics.specs.SourceWork.{worked_run}
 
@@ -92,3 +93,23 @@ calling = record {
 
 called : worked_run calling (λ p. []) 0 ≡ Ended [] (Returned 1) (10 + (3 + (2 + (12 + 2))) + (10 + (1 + (9 + (9 * 1 + 64 * 3)) + (3 + 5))))
 called = refl
+
+-- an object is stored to, stepped and read through its address, and the negative is returned
+abbrev address : Expr
+address = Node (AddressOf (name.Local 0)) (Some (record { base = Int; stars = 1 })) 0
+
+abbrev pointing : ProgramTree
+pointing = record {
+  statics = [];
+  functions = record {
+    name = codes "main";
+    result = int;
+    params = [];
+    scalars = [];
+    locals = record { name = codes "a"; length = 1; kind = record { base = Int; stars = 0 }; initial = [] } ∷ [];
+    body = Block (name.Local 0 ∷ []) (both (Do_expr (node (Assign (At address 0) one))) (both (Do_expr (node (StepAfter true (At address 0)))) (both (Return (Some (node (Unary sign.Minus (node (Load address)))))) done)));
+  } ∷ [];
+}
+
+pointed : worked_run pointing (λ p. []) 0 ≡ Ended [] (Returned 65534) (10 + (1 + (1 + (19 + (2 + 2))) + ((1 + (14 + 2)) + (3 + (1 + (5 + 2))))))
+pointed = refl
