@@ -10,7 +10,8 @@ use Rattle.ir_semantics.specs.SourceWork.{worked_run}
 use Rattle.ir_semantics.specs.WorkOutcomes.{Ended}
 use Rattle.frame_emit.specs.StaticWords.{static_words}
 
--- where the program ends, the image does within 1,000 steps, 16 for each word of static objects, and 64 for each unit of the program's work
+-- where the program ends, the image does within 1,000 steps, 16 for each word of static objects and their spare words, and 64 for each unit of the
+-- program's work
 abbrev pub EndsInTime : ProgramTree → List ℕ → Type 0
 EndsInTime t words =
     (b : Start) (input : Input) (n : ℕ) (outs : Outputs) (ending : Ending) (work : ℕ) → IsStart b → BeginsWith words b → IsInput input → worked_run t input n ≡ Ended outs ending work

@@ -28,7 +28,7 @@ pub record EndsSo (t : ProgramTree) (input : Input) (outs : Outputs) (ending : E
 
 -- a run of so many steps that put these outputs and stands here: where it ended, the program ends with the same outputs and ending, or does something
 -- undefined; it came to a trap only where the program does something undefined; and it still runs, where the program ends, only before 1,000 steps,
--- 16 for each word of static objects, and 64 for each unit of the program's work
+-- 16 for each word of static objects and their spare words, and 64 for each unit of the program's work
 pub record TellsOf (t : ProgramTree) (input : Input) (steps : ℕ) (outs : Outputs) (stands : Stop) : Type 0 where
   pub ended : (ending : Ending) → stands ≡ stop.Ended ending → EndsSo t input outs ending ⊎ IsUndefined t input
   pub trapped : (kind : TrapKind) (at : ℕ) → stands ≡ stop.Trap kind at → IsUndefined t input
