@@ -1,5 +1,5 @@
 -- How much the objects and frames of a program need at most, and that what was gathered of its functions is what they need.
-use Rattle.std.proofs.Common.{◌≡◌, ◌≤◌, ◌<◌, ◌+◌, ◌*◌, ◌^◌, ◌∙◌, ℕ, zero, suc, List, [], ◌∷◌, Bool, true, false, refl, length, map, get_or, ap, sym, subst, arith, Some, slice_index}
+use Rattle.std.proofs.Common.{◌≡◌, ◌≤◌, ◌<◌, ◌+◌, ◌*◌, ◌∙◌, ℕ, zero, suc, List, [], ◌∷◌, Bool, true, false, refl, length, map, get_or, ap, sym, subst, arith, Some, slice_index}
 use Rattle.std.specs.Prelude.{All, slice_get, option_map}
 use Rattle.std.proofs.lemmas.List.{get_or-map, length-map}
 use Rattle.std.proofs.lemmas.List.Elements.{All-head, All-tail}
@@ -9,7 +9,7 @@ use Rattle.std.proofs.Math.Bridge.{le_prop}
 use Rattle.std.proofs.Math.Logic.{∥∥₁_elim}
 use Rattle.c_tree.specs.TypedTree.{ObjectTree}
 use Rattle.c_tree.specs.View.{object_of}
-use Rattle.c_tree.specs.Rounds.{CallsAmong}
+use Rattle.c_tree.specs.Rounds.{CallsAmong, IsRound}
 use Rattle.c_tree.specs.declared.program.Object.{Object}
 use Rattle.tree_code.specs.declared.program.TreeFunction.{TreeFunction}
 use Rattle.tree_code.specs.declared.program.TreeProgram.{TreeProgram}
@@ -24,7 +24,7 @@ use Rattle.mem_plan.specs.declared.needs.FunctionNeeds.{FunctionNeeds}
 use Rattle.mem_plan.specs.Begins.{IsBegin}
 use Rattle.mem_plan.specs.DataNeeds.{objects_words, has_return_word, return_words, own, own_of, own_at, own_in, needs_of, most_object_words}
 use Rattle.mem_plan.specs.Plan.{object_addresses, frames_from, end_from, plan_of, AreArranged, IsArranged, AreBegins}
-use Rattle.mem_plan.specs.Tested.{calls_in, owns_in, IsTested}
+use Rattle.mem_plan.specs.Gathered.{calls_in, owns_in, AreBeginsBy, AreProgramNeeds, most_own}
 
 -- each object has 32,767 cells at most
 objects_small : (statics os : List ObjectTree) → All (IsObjectAmong statics) os → objects_words os ≤ 32768 * length os
@@ -52,7 +52,7 @@ one_word : (b : Bool) → return_words b ≤ 1
 one_word true = omega arith
 one_word false = omega arith
 
-small_own : (p : ProgramCode) → IsCode p → (k : ℕ) (d : FunctionCode) → k < length p.functions → own (get_or p.functions k d) ≤ 2 ^ 40
+small_own : (p : ProgramCode) → IsCode p → (k : ℕ) (d : FunctionCode) → k < length p.functions → own (get_or p.functions k d) ≤ most_own
 small_own p code k d within =
     let scalars = (code.functions k d within).most_scalars in
     omega (arith, few_locals p code k d within, one_word (has_return_word (get_or p.functions k d)), scalars)
@@ -73,13 +73,13 @@ locals_bound p fs list same alike known =
     (few_locals p code k (function_code_of d) (subst (λ n. k < n) (sym (ap length same ∙ length-map fs function_code_of)) within))))
 
 pub own_bound : (p : ProgramCode) (fs : List TreeFunction) (needs list : List FunctionNeeds) → p.functions ≡ map function_code_of fs → needs ≡ map needs_of (map function_code_of fs)
-    → list ≡ needs → ∥ IsCode p ∥₁ → All (λ f. f.own ≤ 2 ^ 40) list
+    → list ≡ needs → ∥ IsCode p ∥₁ → All (λ f. f.own ≤ most_own) list
 own_bound p fs needs list same gathered alike known =
     ∥∥₁_elim known (hlevel le_prop) (λ code.
-    subst (All (λ f. f.own ≤ 2 ^ 40)) (sym (alike ∙ gathered ∙ ap (map needs_of) (sym same)))
+    subst (All (λ f. f.own ≤ most_own)) (sym (alike ∙ gathered ∙ ap (map needs_of) (sym same)))
     (λ k d within.
     let inside : k < length p.functions = subst (λ n. k < n) (length-map p.functions needs_of) within in
-    subst (λ n. n.own ≤ 2 ^ 40) (sym (get_or-map needs_of p.functions k none d inside)) (small_own p code k none inside)))
+    subst (λ n. n.own ≤ most_own) (sym (get_or-map needs_of p.functions k none d inside)) (small_own p code k none inside)))
   where
     none : FunctionCode
     none = record { name = []; scalars = 0; params = []; locals = []; body = tree.Break }
@@ -98,12 +98,27 @@ words_same : (fs : List FunctionCode) → map (λ f. f.own) (map needs_of fs) �
 words_same [] = refl
 words_same (f ∷ fs) = ap (λ l. own f ∷ l) (words_same fs)
 
-pub begins_so : (fs : List FunctionCode) (needs : List FunctionNeeds) (begins : List ℕ) → needs ≡ map needs_of fs → IsTested needs begins
+-- so it is that of the functions of a program
+pub program_needs : (p : TreeProgram) (needs read : List FunctionNeeds) → needs ≡ map needs_of (map function_code_of p.functions) → read ≡ needs → ∥ IsCode (tree_of p) ∥₁
+    → AreProgramNeeds read
+program_needs p needs read gathered alike known = subst AreProgramNeeds (sym (alike ∙ gathered)) (record {
+  bodies = λ g f call. ∥∥₁_elim known le_prop (λ code.
+      let low = code.bodies g f (subst (λ lists. CallsAmong lists g f) (calls_same fs) call)
+      in omega (arith, low, length-map fs needs_of));
+  no_cycle = λ n ms round. ∥∥₁_elim known (λ x y. absurd x) (λ code. code.no_cycle n ms (subst (λ lists. IsRound (CallsAmong lists) n ms) (calls_same fs) round));
+  few = ∥∥₁_elim known le_prop (λ code. let few = code.most_functions in omega (arith, few, length-map fs needs_of));
+  small = own_bound (tree_of p) p.functions (map needs_of fs) (map needs_of fs) refl refl refl known;
+})
+  where
+    fs : List FunctionCode
+    fs = map function_code_of p.functions
+
+pub begins_so : (fs : List FunctionCode) (needs : List FunctionNeeds) (begins : List ℕ) → needs ≡ map needs_of fs → AreBeginsBy needs begins
     → IsBegin (CallsAmong (code_calls fs)) (own_at fs) (slice_index begins)
-begins_so fs needs begins gathered tested =
+begins_so fs needs begins gathered so_begins =
     subst (λ own. IsBegin (CallsAmong (code_calls fs)) own (slice_index begins)) (λ i n. owns_same fs n i)
     (subst (λ lists. IsBegin (CallsAmong lists) (owns_in (map needs_of fs)) (slice_index begins)) (calls_same fs)
-    (subst (λ ns. IsBegin (calls_in ns) (owns_in ns) (slice_index begins)) gathered tested.begins_so))
+    (subst (λ ns. IsBegin (calls_in ns) (owns_in ns) (slice_index begins)) gathered so_begins.begins_so))
 
 pub ends_so : (begin : ℕ → ℕ) (fs : List FunctionCode) (needs : List FunctionNeeds) → needs ≡ map needs_of fs → end_from begin 0 (map (λ f. f.own) needs) ≡ end_from begin 0 (map own fs)
 ends_so begin fs needs gathered = ap (λ ns. end_from begin 0 (map (λ f. f.own) ns)) gathered ∙ ap (end_from begin 0) (words_same fs)
@@ -160,9 +175,9 @@ plan_made p arrangements begin statics frames used words statics_is words_is fra
 pub gathered_of : (fs list : List TreeFunction) (needs : List FunctionNeeds) → needs ≡ map needs_of (map function_code_of list) → list ≡ fs → needs ≡ map needs_of (map function_code_of fs)
 gathered_of fs list needs is alike = is ∙ ap (λ l. map needs_of (map function_code_of l)) alike
 
-pub found_begins : (p : TreeProgram) (needs read : List FunctionNeeds) (begins : List ℕ) → needs ≡ map needs_of (map function_code_of p.functions) → read ≡ needs → IsTested read begins
+pub found_begins : (p : TreeProgram) (needs read : List FunctionNeeds) (begins : List ℕ) → needs ≡ map needs_of (map function_code_of p.functions) → read ≡ needs → AreBeginsBy read begins
     → AreBegins (tree_of p) (slice_index begins)
-found_begins p needs read begins gathered alike tested = begins_so (map function_code_of p.functions) read begins (alike ∙ gathered) tested
+found_begins p needs read begins gathered alike so_begins = begins_so (map function_code_of p.functions) read begins (alike ∙ gathered) so_begins
 
 -- the greatest end, by what was gathered
 pub greatest_so : (p : TreeProgram) (needs read : List FunctionNeeds) (begins begins_read : List ℕ) (greatest : ℕ) → needs ≡ map needs_of (map function_code_of p.functions) → read ≡ needs

@@ -3,3 +3,5 @@ pub mod BodyLemmas
 pub mod BoundLemmas
 pub mod ApartLemmas
 pub mod UniqueLemmas
+pub mod GraphLemmas
+pub mod SearchLemmas

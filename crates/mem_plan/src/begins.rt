@@ -1,130 +1,128 @@
-//! Where frames begin, in words behind the static objects.
-ghost use Rattle.std.specs.Prelude.{◌≡◌, ◌<◌, ◌≤◌, ◌+◌, ◌⊎◌, ℕ, length, true, slice_index, All, IfOk};
+//! Where frames begin, in words behind the static objects. A search follows the calls of one function after another, each
+//! behind all those that call it.
+ghost use Rattle.std.specs.Prelude.{◌≡◌, ◌<◌, ◌≤◌, ◌+◌, ◌^◌, ℕ, length, max, slice_index, IfOk};
 ghost use Rattle.std.specs.List.{Contains};
-ghost use Rattle.mem_plan.specs.Begins.{IsBehind};
-ghost use Rattle.mem_plan.specs.declared.begins.TheConstants.{MOST_BEGIN};
-ghost use Rattle.mem_plan.specs.Tested.{calls_in, owns_in, IsTested};
+ghost use Rattle.c_tree.specs.Declarations.{occurrences};
+ghost use Rattle.mem_plan.specs.Gathered.{AreBeginsBy, AreProgramNeeds};
+ghost use Rattle.mem_plan.specs.Search.{AreReady, HasFollowed, all_calls_to, begins_behind, calls_at, order_behind, waiting_behind};
 
 use crate::needs::FunctionNeeds;
-use crate::search::{Call, Found, found_by_search};
 use std::alloc::Global;
 use word_base::NoMemory;
 
-/// More than any frame's begin.
-pub(crate) const MOST_BEGIN: u64 = 1_000_000_000_000_000;
-
-/// Where each function's frame begins. The search promises nothing, so what it finds is tested; where it isn't right, the answer is
-/// want of memory.
+/// Where each function's frame begins.
 pub(crate) fn begins_of(alloc: Global, needs: &[FunctionNeeds]) -> Result<Vec<u64>, NoMemory>
-    ensures { IfOk result (λ begins. IsTested needs.now begins.items) }
+    requires { AreProgramNeeds needs.now }
+    ensures { IfOk result (λ begins. AreBeginsBy needs.now begins.items) }
 {
-    let found = found_by_search(alloc, needs)?;
-    if is_right(&found, needs) {
-        Ok(found.begins)
-    } else {
-        Err(NoMemory)
+    let mut search = Search::new(alloc, needs)?;
+    for place in 0..needs.len() {
+        search.follow(place, needs)?;
+    }
+    Ok(search.begins)
+}
+
+/// The larger of two numbers.
+pub(crate) fn larger(a: u64, b: u64) -> u64
+    ensures { result ≡ max a b }
+{
+    if a < b { b } else { a }
+}
+
+#[derive(Drop)]
+struct Search {
+    /// Where each frame begins, by the calls that have been followed.
+    begins: Vec<u64>,
+    /// How many calls of each function haven't been. 64 bits might not hold those of all functions together.
+    waiting: Vec<u128>,
+    /// The functions of which all calls have been followed. Theirs are in this order.
+    order: Vec<usize>,
+}
+
+impl Search {
+    fn new(alloc: Global, needs: &[FunctionNeeds]) -> Result<Self, NoMemory>
+        requires { AreProgramNeeds needs.now }
+        ensures { IfOk result (λ search. HasFollowed needs.now 0 search) }
+    {
+        let waiting = waiting_of(alloc, needs)?;
+        let order = ready_of(alloc, &waiting)?;
+        Ok(Search {
+            begins: vec![in alloc; 0; needs.len()]?,
+            waiting,
+            order,
+        })
+    }
+
+    // The calls of the function at a place of the order.
+    fn follow(&mut self, place: usize, needs: &[FunctionNeeds]) -> Result<(), NoMemory>
+        requires needs { AreProgramNeeds needs.now }
+        requires place { place < length needs.now }
+        requires followed { HasFollowed needs.now place self.old }
+        ensures { IfOk result (λ _. HasFollowed needs.now (place + 1) self.new) }
+    {
+        let function = self.order[place];
+        let caller = &needs[function];
+        let end = self.begins[function] + caller.own;
+        for called in caller.calls.as_slice() {
+            self.pass(usize::from(*called), end)?;
+        }
+        Ok(())
+    }
+
+    // A call of a function by one whose frame ends here.
+    fn pass(&mut self, function: usize, end: u64) -> Result<(), NoMemory>
+        requires begins { function < length self.old.begins.items }
+        requires waiting { function < length self.old.waiting.items }
+        requires some { 0 < slice_index self.old.waiting.items function }
+        ensures begins { IfOk result (λ _. self.new.begins.items ≡ begins_behind self.old.begins.items function end) }
+        ensures waiting { IfOk result (λ _. self.new.waiting.items ≡ waiting_behind self.old.waiting.items function) }
+        ensures order { IfOk result (λ _. self.new.order.items ≡ order_behind self.old.waiting.items self.old.order.items function) }
+    {
+        self.begins[function] = larger(self.begins[function], end);
+        let waiting = self.waiting[function] - 1;
+        self.waiting[function] = waiting;
+        if waiting == 0 {
+            self.order.push(function)?;
+        }
+        Ok(())
     }
 }
 
-fn is_right(found: &Found, needs: &[FunctionNeeds]) -> bool
-    ensures { result ≡ true → IsTested needs.now found.now.begins.items }
+// How many calls there are of each function.
+fn waiting_of(alloc: Global, needs: &[FunctionNeeds]) -> Result<Vec<u128>, NoMemory>
+    requires { AreProgramNeeds needs.now }
+    ensures size { IfOk result (λ w. length w.items ≡ length needs.now) }
+    ensures calls { IfOk result (λ w. (f : ℕ) → f < length needs.now → slice_index w.items f ≡ all_calls_to (calls_at needs.now) f (length needs.now)) }
 {
-    found.begins.len() == needs.len()
-        && are_small(&found.begins)
-        && are_above(&found.begins, needs)
-        && are_reached(found, needs)
+    let mut waiting = vec![in alloc; 0; needs.len()]?;
+    for caller in needs {
+        count(caller.calls.as_slice(), &mut waiting);
+    }
+    Ok(waiting)
 }
 
-fn are_small(begins: &[u64]) -> bool
-    ensures { result ≡ true → All (λ begin. begin ≤ MOST_BEGIN) begins.now }
+// A function's calls of each.
+fn count(calls: &[u16], waiting: &mut [u128])
+    requires bodies { (f : ℕ) → Contains calls.now f → f < length waiting.old }
+    requires room { (f : ℕ) → slice_index waiting.old f ≤ 2 ^ 72 }
+    ensures size { length waiting.new ≡ length waiting.old }
+    ensures calls { (f : ℕ) → f < length waiting.old → slice_index waiting.new f ≡ slice_index waiting.old f + occurrences f calls.now }
+    ensures few { (f : ℕ) → slice_index waiting.new f ≤ slice_index waiting.old f + 2 ^ 64 }
 {
-    begins.iter().all(|begin| *begin <= MOST_BEGIN)
+    for called in calls {
+        waiting[usize::from(*called)] += 1;
+    }
 }
 
-// No frame begins before one ends whose function calls its own.
-fn are_above(begins: &[u64], needs: &[FunctionNeeds]) -> bool
-    requires { length begins.now ≡ length needs.now }
-    ensures { result ≡ true → (g f : ℕ) → calls_in needs.now g f → slice_index begins.now g + owns_in needs.now g ≤ slice_index begins.now f }
+// The functions of which no call is waited for.
+fn ready_of(alloc: Global, waiting: &[u128]) -> Result<Vec<usize>, NoMemory>
+    ensures { IfOk result (λ order. AreReady (length waiting.now) waiting.now order.items) }
 {
-    for (number, caller) in needs.iter().enumerate() {
-        if !ends_before(begins[number], caller, begins) {
-            return false;
+    let mut order = Vec::new(alloc);
+    for (number, waiting) in waiting.iter().enumerate() {
+        if *waiting == 0 {
+            order.push(number)?;
         }
     }
-    true
-}
-
-// Whether a frame that begins here ends before those of the functions that are called.
-fn ends_before(begin: u64, caller: &FunctionNeeds, begins: &[u64]) -> bool
-    ensures { result ≡ true → (f : ℕ) → Contains caller.now.calls f → begin + caller.now.own ≤ slice_index begins.now f }
-{
-    let Some(end) = begin.checked_add(caller.own) else {
-        return false;
-    };
-    for called in caller.calls.as_slice() {
-        if !is_from(end, usize::from(*called), begins) {
-            return false;
-        }
-    }
-    true
-}
-
-// Whether the frame of a function begins at this end or behind it.
-fn is_from(end: u64, function: usize, begins: &[u64]) -> bool
-    ensures { result ≡ true → end ≤ slice_index begins.now function }
-{
-    match begins.get(function) {
-        Some(begin) => end <= *begin,
-        None => false,
-    }
-}
-
-// Each frame begins at 0, or where one ends whose function calls its own.
-fn are_reached(found: &Found, needs: &[FunctionNeeds]) -> bool
-    ensures { result ≡ true → (f : ℕ) → (slice_index found.now.begins.items f ≡ 0) ⊎ IsBehind (calls_in needs.now) (owns_in needs.now) (slice_index found.now.begins.items) f }
-{
-    for number in 0..found.begins.len() {
-        let origin = found.origins.get(number).copied().flatten();
-        if !is_reached(number, origin, &found.begins, needs) {
-            return false;
-        }
-    }
-    true
-}
-
-fn is_reached(number: usize, origin: Option<Call>, begins: &[u64], needs: &[FunctionNeeds]) -> bool
-    requires { number < length begins.now }
-    ensures { result ≡ true → (slice_index begins.now number ≡ 0) ⊎ IsBehind (calls_in needs.now) (owns_in needs.now) (slice_index begins.now) number }
-{
-    let begin = begins[number];
-    if begin == 0 {
-        true
-    } else {
-        is_behind(number, begin, origin, begins, needs)
-    }
-}
-
-// Whether a frame begins where that of the function of this call ends.
-fn is_behind(
-    number: usize,
-    begin: u64,
-    origin: Option<Call>,
-    begins: &[u64],
-    needs: &[FunctionNeeds],
-) -> bool
-    ensures { result ≡ true → slice_index begins.now number ≡ begin → IsBehind (calls_in needs.now) (owns_in needs.now) (slice_index begins.now) number }
-{
-    let Some(call) = origin else {
-        return false;
-    };
-    let Some(caller) = needs.get(call.caller) else {
-        return false;
-    };
-    let Some(from) = begins.get(call.caller) else {
-        return false;
-    };
-    let Some(called) = caller.calls.as_slice().get(call.place) else {
-        return false;
-    };
-    usize::from(*called) == number && from.checked_add(caller.own) == Some(begin)
+    Ok(order)
 }

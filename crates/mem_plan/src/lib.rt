@@ -10,7 +10,6 @@ mod laws;
 mod layout;
 mod needs;
 mod planning;
-mod search;
 
 pub use data_plan::{
     DATA_START, DataPlan, FramePlan, MOST_DATA_WORDS, MOST_LISTS, PlanFault, SCRATCH_WORDS,

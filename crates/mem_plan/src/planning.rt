@@ -1,13 +1,13 @@
 //! The plan of a program.
-ghost use Rattle.std.specs.Prelude.{◌≡◌, ◌≤◌, ◌+◌, ◌^◌, map, max, length, slice_index, All, IfOk, IfErr};
-ghost use Rattle.mem_plan.specs.declared.begins.TheConstants.{MOST_BEGIN};
+ghost use Rattle.std.specs.Prelude.{◌≡◌, ◌≤◌, ◌+◌, map, length, slice_index, All, IfOk, IfErr};
 ghost use Rattle.mem_plan.specs.DataNeeds as data_needs;
 ghost use Rattle.mem_plan.specs.DataNeeds.{most_object_words, own};
+ghost use Rattle.mem_plan.specs.Gathered.{most_begin, most_own};
 ghost use Rattle.mem_plan.specs.Plan.{AreArranged, IsPlan, Says, end_from, frames_from};
 ghost use Rattle.tree_code.specs.ProgramView.{tree_of};
 ghost use Rattle.tree_code.specs.WordView.{function_code_of};
 
-use crate::begins::begins_of;
+use crate::begins::{begins_of, larger};
 use crate::data_plan::{
     DATA_START, DataPlan, FramePlan, MOST_DATA_WORDS, PlanFault, SCRATCH_WORDS,
 };
@@ -26,8 +26,7 @@ const STATICS_START: u32 = DATA_START as u32 + SCRATCH_WORDS as u32;
 ///
 /// # Errors
 ///
-/// `DataFull` exactly where the program needs more than `MOST_DATA_WORDS` words. `NoMemory` where an allocation fails, and, which no
-/// clause excludes, where the order in which functions are gone through didn't give each frame its begin: it is tested.
+/// `DataFull` exactly where the program needs more than `MOST_DATA_WORDS` words. `NoMemory` where an allocation fails.
 pub fn plan(
     alloc: Global,
     tree: &TreeProgram,
@@ -57,22 +56,16 @@ pub fn plan(
 // Where the last of the frames end, in words behind the static objects.
 fn greatest_end(needs: &[FunctionNeeds], begins: &[u64]) -> u64
     requires size { length begins.now ≡ length needs.now }
-    requires begins { All (λ begin. begin ≤ MOST_BEGIN) begins.now }
-    requires own { All (λ f. f.own ≤ 2 ^ 40) needs.now }
+    requires begins { All (λ begin. begin ≤ most_begin) begins.now }
+    requires own { All (λ f. f.own ≤ most_own) needs.now }
     ensures is { result ≡ end_from (slice_index begins.now) 0 (map (λ f. f.own) needs.now) }
-    ensures small { result ≤ MOST_BEGIN + 2 ^ 40 }
+    ensures small { result ≤ most_begin + most_own }
 {
     let mut greatest = 0;
     for (number, f) in needs.iter().enumerate() {
         greatest = larger(greatest, begins[number] + f.own);
     }
     greatest
-}
-
-fn larger(a: u64, b: u64) -> u64
-    ensures { result ≡ max a b }
-{
-    if a < b { b } else { a }
 }
 
 // The frames, by where the first of them begins.

@@ -4,12 +4,18 @@ use Rattle.mem_plan.specs.DataNeeds.{objects_words, own}
 use Rattle.mem_plan.specs.Plan.{end_from, frames_from, object_addresses}
 use Rattle.tree_code.specs.ProgramView.{tree_of}
 use Rattle.tree_code.specs.WordView.{function_code_of}
-use Rattle.mem_plan.proofs.BoundLemmas.{statics_bound, locals_bound, own_bound, gathered_of, found_begins, greatest_so, plan_made}
+use Rattle.mem_plan.proofs.BoundLemmas.{statics_bound, locals_bound, own_bound, program_needs, gathered_of, found_begins, greatest_so, plan_made}
 use Rattle.mem_plan.proofs.planning.plan.Goals as goal
 
 pub needs_of-requires : goal.needs_of-requires
 needs_of-requires c =
     locals_bound (tree_of c.args.tree.now) c.args.tree.now.functions c.as_slice-functions.result.now refl c.as_slice-functions.ensures c.args.tree.now.well_formed
+
+pub begins_of-requires : goal.begins_of-requires
+begins_of-requires c =
+    program_needs c.args.tree.now c.in_ok-needs.needs.items c.deref.result.now
+    (gathered_of c.args.tree.now.functions c.as_slice-functions.result.now c.in_ok-needs.needs.items c.in_ok-needs.ensures c.as_slice-functions.ensures) c.deref.ensures.value
+    c.args.tree.now.well_formed
 
 pub objects_words-static_words-requires : goal.objects_words-static_words-requires
 objects_words-static_words-requires c =
