@@ -1,7 +1,6 @@
 //! Builds for recorded runs whose calls fail, each in turn. The answers were decided by hand from docs/COMMANDS.md and
 //! docs/FORMATS.md.
-use crate::commands::{held, list_of};
-use cc_driver::c25cc;
+use crate::commands::{held, list_of, status_of};
 use cc_memory::{MemShelf, MemSink};
 use std::process::Abort;
 use std::test::Fail;
@@ -39,7 +38,7 @@ fn profiles<R: Threads + Sync + AllocGlobal + Abort>(
     shelf.insert(alloc, "p", ports)?;
     let mut out = MemSink::new(alloc, fails_at.1.to_vec(alloc)?);
     let list = list_of(alloc, &["pbuild", "i", "m", "p", "a.img"])?;
-    let status = c25cc(rt, alloc, &list, &mut shelf, &mut out);
+    let status = status_of(rt, alloc, &list, &mut shelf, &mut out);
     assert_eq!(rt;
         (status, out.bytes.as_slice()),
         (answer.0, answer.1.as_bytes())

@@ -1,6 +1,5 @@
 //! Sessions whose calls fail, each in turn. The answers were decided by hand from docs/COMMANDS.md.
-use crate::commands::list_of;
-use cc_driver::c25cc;
+use crate::commands::{list_of, status_of};
 use cc_memory::{MemShelf, MemSink};
 use std::process::Abort;
 use std::test::Fail;
@@ -31,7 +30,7 @@ fn shows<R: Threads + Sync + AllocGlobal + Abort>(
     shelf.insert(alloc, "s", script)?;
     let mut out = MemSink::new(alloc, sink_fails_at.to_vec(alloc)?);
     let list = list_of(alloc, &["debug", "i", "p", "s"])?;
-    let ended = c25cc(rt, alloc, &list, &mut shelf, &mut out);
+    let ended = status_of(rt, alloc, &list, &mut shelf, &mut out);
     assert_eq!(rt; (ended, out.bytes.as_slice()), (status, text.as_bytes()));
     assert_eq!(rt; (shelf.calls, shelf.files.len()), (calls, 3));
     Ok(())
