@@ -61,13 +61,16 @@ pub code_at_reset : (s : Start) (code : List Instr) → AllByRecursion IsInstr c
 code_at_reset s code fits begins room =
     code_at s.program code 0 fits (λ a lt. let e : 0 + a ≡ a = omega arith in ap s.program e ∙ begins a lt) (omega arith)
 
--- the machine does the instruction at PC
-pub step_at : (s : State) (i : Instr) → StandsAt s.program s.pc i → step s ≡ perform s (Some (i, length_of (second_word i)))
-step_at s i at =
-    ap (perform s)
-    (ap (λ w. decode w (s.program (wrap16 (s.pc + 1)))) at.first
-    ∙ decode-first_word i (s.program (wrap16 (s.pc + 1))) at.fits (next (second_word i) at.second at.room))
+-- the instruction at PC is decoded
+pub decode_at : (s : State) (i : Instr) → StandsAt s.program s.pc i → decode (s.program s.pc) (s.program (wrap16 (s.pc + 1))) ≡ Some (i, length_of (second_word i))
+decode_at s i at =
+    ap (λ w. decode w (s.program (wrap16 (s.pc + 1)))) at.first
+    ∙ decode-first_word i (s.program (wrap16 (s.pc + 1))) at.fits (next (second_word i) at.second at.room)
   where
     next : (o : Option ℕ) → Follows o (s.program (s.pc + 1)) → s.pc + length_of o ≤ 65536 → Follows o (s.program (wrap16 (s.pc + 1)))
     next None follows room = tt
     next (Some w) follows room = let e : wrap16 (s.pc + 1) ≡ s.pc + 1 = omega arith in ap s.program e ∙ follows
+
+-- the machine does it
+pub step_at : (s : State) (i : Instr) → StandsAt s.program s.pc i → step s ≡ perform s (Some (i, length_of (second_word i)))
+step_at s i at = ap (perform s) (decode_at s i at)
