@@ -22,5 +22,9 @@ pub mod OpenedWords
 pub mod StatementWords
 pub mod RenumberedWords
 pub mod UnitWords
+pub mod TemporaryOperands
+pub mod TemporaryExpressions
+pub mod CountedBodies
+pub mod CountedSources
 mod Examples
 mod WordExamples

@@ -6,8 +6,12 @@ use Rattle.c_rules.specs.Faults.{Says, fault_of}
 use Rattle.c_rules.specs.Units.{typed_unit}
 use Rattle.c_types.proofs.ProgramLemmas.{refusal_says, says_source, typed_source}
 use Rattle.c_limits.proofs.WholeLemmas.{fault_says}
-use Rattle.c_types.proofs.ProgramLemmas.{made_is_formed, made_is_typed}
+use Rattle.c_types.proofs.ProgramLemmas.{functions_counted, made_is_formed, made_is_typed}
 use Rattle.c_types.proofs.program.check.Goals as goal
+
+pub frames_of-requires : goal.frames_of-requires
+frames_of-requires c =
+    functions_counted c.args.unit.now c.in_ok-file.file c.externals.ensures.externals c.in_ok-file.ensures c.deref.ensures.value c.externals.ensures.limits
 
 pub program-requires : goal.program-requires
 program-requires c =
