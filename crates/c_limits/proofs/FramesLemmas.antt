@@ -2,12 +2,14 @@
 use Rattle.std.proofs.Common.{◌≡◌, ◌<◌, ◌≤◌, ◌+◌, ◌||◌, ◌∷◌, [], ℕ, suc, Bool, true, false, if◌then◌else◌, List, length, take, drop, get_or, map, ap, ◌∙◌, sym, refl, arith}
 use Rattle.std.proofs.lemmas.List.{take_more, drop_more, length-map}
 use Rattle.std.proofs.lemmas.List.Recursion.{or_push}
+use Rattle.c_tree.specs.declared.program.VarRef.{VarRef}
 use Rattle.c_tree.specs.declared.program.VarRef.TheVariants as refs
 use Rattle.c_tree.specs.declared.uses.Use.{Use}
 use Rattle.c_rules.specs.declared.local.Local.{Local}
 use Rattle.c_rules.specs.Statements.{LocalTree}
 use Rattle.c_rules.specs.Programs.{is_address, is_pointed, references}
 use Rattle.c_rules.specs.LocalView.{local_tree_of}
+use Rattle.c_rules.proofs.Formed.FrameTypes.{references_length}
 use Rattle.c_rules.proofs.FrameNumbers.{numbered_from, references_counted}
 use Rattle.c_limits.specs.declared.frames.Numbering.{Numbering}
 use Rattle.c_limits.specs.Frames.{Marks, numbered_by, scalars_by, scalars_with}
@@ -98,3 +100,13 @@ one_fits k marks ls i l other long within is so_far few =
     let all = one_further (scalars_with k) (λ ms ns. scalars_with k (get_or marks i other ∷ ms) (local_tree_of l ∷ ns)) marks ls i l other long within is (λ ms ns. refl) so_far
     in let alone = one_alone k (get_or marks i other) (drop (i + 1) marks) (local_tree_of l) (map local_tree_of (drop (i + 1) ls))
     in omega (arith, all, alone, few)
+
+-- no more scalars than objects
+scalars_among : (rs : List VarRef) → frame_scalars rs ≤ length rs
+scalars_among [] = omega arith
+scalars_among (refs.Scalar n ∷ rs) = omega (arith, scalars_among rs)
+scalars_among (refs.Local n ∷ rs) = omega (arith, scalars_among rs)
+scalars_among (refs.Static n ∷ rs) = omega (arith, scalars_among rs)
+
+pub scalars_few : (us : List Use) (ls : List LocalTree) → frame_scalars (references us ls) ≤ length ls
+scalars_few us ls = omega (arith, scalars_among (references us ls), references_length us ls)

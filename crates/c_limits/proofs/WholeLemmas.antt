@@ -227,15 +227,14 @@ module _ (P : ℕ → Type 0) where
       subst (λ ws. All P (case_counts ws.items)) (sym is) (first_all (case_counts vs.items) (all_cases (map vec_items lists)) all)
   cases_at (vs ∷ lists) (suc i) us all is below = cases_at lists i us (last_all (case_counts vs.items) (all_cases (map vec_items lists)) all) is (omega arith)
 
-  pub case_at : (us : List Use) (i : ℕ) (u : Use) (n : ℕ) → All P (case_counts us) → u ≡ get_or us i u → i < length us → u ≡ kind.Cases n → P n
-  case_at [] i u n all is below case = absurd (omega arith)
-  case_at (kind.Cases m ∷ us) zero u n all is below case =
-      let same : m ≡ n = cc (sym is ∙ case) in subst P same (All-head P m (case_counts us) all)
-  case_at (kind.Call f at ∷ us) zero u n all is below case = absurd (cc (sym is ∙ case))
-  case_at (kind.Address r ∷ us) zero u n all is below case = absurd (cc (sym is ∙ case))
-  case_at (kind.Cases m ∷ us) (suc i) u n all is below case = case_at us i u n (All-tail P m (case_counts us) all) is (omega arith) case
-  case_at (kind.Call f at ∷ us) (suc i) u n all is below case = case_at us i u n all is (omega arith) case
-  case_at (kind.Address r ∷ us) (suc i) u n all is below case = case_at us i u n all is (omega arith) case
+  pub case_at : (us : List Use) (i : ℕ) (other : Use) (n : ℕ) → All P (case_counts us) → i < length us → get_or us i other ≡ kind.Cases n → P n
+  case_at [] i other n all below case = absurd (omega arith)
+  case_at (kind.Cases m ∷ us) zero other n all below case = let same : m ≡ n = cc case in subst P same (All-head P m (case_counts us) all)
+  case_at (kind.Call f at ∷ us) zero other n all below case = absurd (cc case)
+  case_at (kind.Address r ∷ us) zero other n all below case = absurd (cc case)
+  case_at (kind.Cases m ∷ us) (suc i) other n all below case = case_at us i other n (All-tail P m (case_counts us) all) (omega arith) case
+  case_at (kind.Call f at ∷ us) (suc i) other n all below case = case_at us i other n all (omega arith) case
+  case_at (kind.Address r ∷ us) (suc i) other n all below case = case_at us i other n all (omega arith) case
 
   all_appended : (xs ys : List ℕ) → All P xs → All P ys → All P (xs ++ ys)
   all_appended [] ys first second = second

@@ -1,4 +1,4 @@
-use Rattle.std.proofs.Common.{◌≡◌, ◌+◌, max, refl, arith}
+use Rattle.std.proofs.Common.{◌≡◌, ◌+◌, max, refl, arith, rules}
 use Rattle.std.specs.Prelude.{min}
 use Rattle.c_tree.specs.View.{expr_of, argument_list}
 use Rattle.c_tree.specs.Temporaries.{temporaries, argument_temporaries}
@@ -8,8 +8,8 @@ use Rattle.c_limits.proofs.temporaries.+expressions.Goals as goal
 
 pub arguments-loop-e-preserved : goal.arguments-loop-e-preserved
 arguments-loop-e-preserved t c =
-    let here : c.saturating_add-kept.result ≡ min (c.loop-e.kept + c.expression.result) 4294967295 = search rules
-    in let next : c.saturating_add-kept-2.result ≡ min (c.loop-e.kept + 1) 4294967295 = search rules
+    let here : c.saturating_add.result ≡ min (c.loop-e.kept + c.expression.result) 4294967295 = search rules
+    in let next : c.saturating_add-kept.result ≡ min (c.loop-e.kept + 1) 4294967295 = search rules
     in let further = step_further (λ es. argument_temporaries (argument_list es)) (λ kept most e. max most (kept + temporaries (expr_of e))) argument_more
     c.args.list.now c.loop-e.e-index c.e-item.result c.e-item.is c.loop-e-test.true refl
     in record {
