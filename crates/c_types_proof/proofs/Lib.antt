@@ -10,10 +10,7 @@ pub mod Counting
 pub mod Frames
 pub mod Units
 pub mod Placing
-pub mod Derived
 pub mod CharacterTokens
-pub mod Spoken
-pub mod Texts
 pub mod ConstantWords
 pub mod OperandWords
 pub mod TypedWords
