@@ -1,6 +1,7 @@
 //! How many temporaries the code of a statement needs.
 //!
 //! The code of an operator keeps its left operand in one while it evaluates the right one, unless that one is simple.
+//! Counts stay at the most that 32 bits hold, which no function of a source within its limits reaches.
 ghost use Rattle.std.specs.Prelude.{◌≡◌, ◌≤◌, ◌+◌, ℕ, max};
 ghost use Rattle.c_tree.specs.TypedTree.{no_more, Kind, Node, Unary, Binary, Assign, AssignOp};
 ghost use Rattle.c_syntax.specs.declared.operator.UnaryOp.TheVariants.{Minus};

@@ -28,7 +28,8 @@ use word_base::NoMemory;
 /// The greatest number of frame scalars of a function, its temporaries counted.
 const MOST_SCALARS: u32 = MOST_FRAME_SCALARS as u32;
 
-/// What the objects of each function stand for, where what is wanted of the whole source holds.
+/// What the objects of each function stand for, where what is wanted of the whole source holds. The functions are those of a source
+/// within its limits, so that each count has 32 bits.
 pub fn frames_of(alloc: Global, functions: &[TypedFunction]) -> Result<Vec<Vec<VarRef>>, TypeFault>
     requires { AreCounted (map typed_function_of functions.now) }
     ensures whole { IfOk result (λ _. AreWhole (map typed_function_of functions.now)) }
