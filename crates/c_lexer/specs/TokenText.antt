@@ -1,14 +1,12 @@
 -- The text of tokens, from which they can be read again (docs/LANGUAGE.md, "Texts of tokens").
-use Rattle.std.specs.Prelude.{◌≡◌, ◌≢◌, ℕ, zero, suc, ◌+◌, ◌/◌, ◌%◌, ◌≤◌, ◌<◌, ◌^◌, nat_lt, if◌then◌else◌, Bool, true, false, List, [], ◌∷◌, ◌++◌, length, codes, decimal, flat_map}
-use Rattle.word_base.specs.Name.{IsName}
+use Rattle.std.specs.Prelude.{ℕ, zero, suc, ◌+◌, ◌/◌, ◌%◌, nat_lt, if◌then◌else◌, Bool, true, false, List, [], ◌∷◌, ◌++◌, length, codes, decimal, flat_map}
 use Rattle.text_base.specs.Hex.{hex_digit, hex4}
-use Rattle.c_syntax.specs.declared.token.Keyword.{Keyword}
 use Rattle.c_syntax.specs.declared.token.Punct.TheVariants.{Semicolon, OpenBrace, CloseBrace}
 use Rattle.c_syntax.specs.declared.token.Token.{Token}
 use Rattle.c_syntax.specs.declared.token.TokenKind.{TokenKind}
 use Rattle.c_syntax.specs.declared.token.TokenKind.TheVariants.{Word, Name, Number, Char, Mark}
 use Rattle.c_syntax.specs.FixedTexts.{keyword_text, mark_text}
-use Rattle.c_syntax.specs.Constants.{greatest_value}
+pub use Rattle.c_syntax.specs.TokenSpellings.{HasSpelling}
 
 -- a number in hexadecimal digits without leading zeros, or its last ones where it has more than so many
 abbrev pub hexadecimal : ℕ → ℕ → List ℕ
@@ -51,11 +49,3 @@ abbrev pub placed_from : ℕ → List Token → List Token
 placed_from at [] = []
 placed_from at (t ∷ ts) =
     record { kind = t.kind; at = at; len = length (kind_text t.kind) } ∷ placed_from (at + (length (kind_text t.kind) + 1)) ts
-
--- what a text can have as a token: a name that is one and no keyword, no decimal number 0, and no value beyond its bits
-abbrev pub HasSpelling : TokenKind → Type 0
-HasSpelling (Word keyword) = Unit {0}
-HasSpelling (Name name) = IsName name × ((keyword : Keyword) → name ≢ keyword_text keyword)
-HasSpelling (Number value marked is_decimal) = (value ≤ greatest_value) × (is_decimal ≡ true → value ≢ 0)
-HasSpelling (Char value) = value < 2 ^ 16
-HasSpelling (Mark mark) = Unit {0}

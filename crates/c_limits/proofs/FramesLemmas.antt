@@ -1,15 +1,18 @@
 -- Marks of objects, and what is numbered by them.
-use Rattle.std.proofs.Common.{◌≡◌, ◌<◌, ◌+◌, ◌||◌, ◌∷◌, [], ℕ, suc, Bool, true, false, if◌then◌else◌, List, length, take, drop, get_or, map, ap, ◌∙◌, sym, refl, arith}
+use Rattle.std.proofs.Common.{◌≡◌, ◌<◌, ◌≤◌, ◌+◌, ◌||◌, ◌∷◌, [], ℕ, suc, Bool, true, false, if◌then◌else◌, List, length, take, drop, get_or, map, ap, ◌∙◌, sym, refl, arith}
 use Rattle.std.proofs.lemmas.List.{take_more, drop_more, length-map}
 use Rattle.std.proofs.lemmas.List.Recursion.{or_push}
+use Rattle.c_tree.specs.declared.program.VarRef.{VarRef}
 use Rattle.c_tree.specs.declared.program.VarRef.TheVariants as refs
 use Rattle.c_tree.specs.declared.uses.Use.{Use}
 use Rattle.c_rules.specs.declared.local.Local.{Local}
 use Rattle.c_rules.specs.Statements.{LocalTree}
 use Rattle.c_rules.specs.Programs.{is_address, is_pointed, references}
 use Rattle.c_rules.specs.LocalView.{local_tree_of}
+use Rattle.c_rules.proofs.Formed.FrameTypes.{references_length}
 use Rattle.c_rules.proofs.FrameNumbers.{numbered_from, references_counted}
-use Rattle.c_limits.specs.Frames.{Marks, numbered_by, scalars_by}
+use Rattle.c_limits.specs.declared.frames.Numbering.{Numbering}
+use Rattle.c_limits.specs.Frames.{Marks, numbered_by, scalars_by, scalars_with}
 use Rattle.c_rules.specs.Programs.{in_frame, frame_scalars}
 
 -- a turn of the loop over uses, whose marks are lent meanwhile
@@ -79,3 +82,31 @@ module _ {A : Type 0} (known further : List Bool → List LocalTree → A) (mark
       ∙ ap (λ ms. known ms (map local_tree_of (get_or ls i l ∷ drop (i + 1) ls))) (sym (drop_more marks i other marked))
       ∙ ap (λ xs. known (drop i marks) (map local_tree_of xs)) (sym (drop_more ls i l within))
       ∙ before
+
+-- one object among those to come
+one_alone : (k : Numbering) (m : Bool) (ms : List Bool) (l : LocalTree) (ls : List LocalTree)
+    → scalars_with k (m ∷ []) (l ∷ []) ≤ scalars_with k (m ∷ ms) (l ∷ ls)
+one_alone k m ms l ls = by (in_frame l m)
+  where
+    by : (b : Bool) → k.scalars + (if b then suc 0 else 0) ≤ k.scalars + (if b then suc (scalars_by ms ls) else scalars_by ms ls)
+    by true = omega arith
+    by false = omega arith
+
+pub one_fits : (k : Numbering) (marks : List Bool) (ls : List Local) (i : ℕ) (l : Local) (other : Bool) {whole limit : ℕ}
+    → length marks ≡ length ls → i < length ls → l ≡ get_or ls i l
+    → scalars_with k (drop i marks) (map local_tree_of (drop i ls)) ≡ whole → whole ≤ limit
+    → scalars_with k (get_or marks i other ∷ []) (local_tree_of l ∷ []) ≤ limit
+one_fits k marks ls i l other long within is so_far few =
+    let all = one_further (scalars_with k) (λ ms ns. scalars_with k (get_or marks i other ∷ ms) (local_tree_of l ∷ ns)) marks ls i l other long within is (λ ms ns. refl) so_far
+    in let alone = one_alone k (get_or marks i other) (drop (i + 1) marks) (local_tree_of l) (map local_tree_of (drop (i + 1) ls))
+    in omega (arith, all, alone, few)
+
+-- no more scalars than objects
+scalars_among : (rs : List VarRef) → frame_scalars rs ≤ length rs
+scalars_among [] = omega arith
+scalars_among (refs.Scalar n ∷ rs) = omega (arith, scalars_among rs)
+scalars_among (refs.Local n ∷ rs) = omega (arith, scalars_among rs)
+scalars_among (refs.Static n ∷ rs) = omega (arith, scalars_among rs)
+
+pub scalars_few : (us : List Use) (ls : List LocalTree) → frame_scalars (references us ls) ≤ length ls
+scalars_few us ls = omega (arith, scalars_among (references us ls), references_length us ls)

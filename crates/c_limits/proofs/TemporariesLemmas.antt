@@ -1,8 +1,7 @@
 -- Temporaries of arguments, of forms whose parts stand in lists, and of operators.
-use Rattle.std.proofs.Common.{◌≡◌, ◌≢◌, refl, false, ◌+◌, max, ◌++◌, ◌∷◌, [], ℕ, List, length, ap, ◌∙◌, sym, subst, Result, IfOk, arith}
+use Rattle.std.proofs.Common.{◌≡◌, ◌≢◌, refl, false, ◌+◌, max, ◌++◌, ◌∷◌, [], ℕ, List, length, ap, ◌∙◌, sym, arith}
 use Rattle.std.specs.Prelude.{Box}
 use Rattle.std.specs.Global.{Global}
-use Rattle.std.proofs.lemmas.Result.{IfOk-weaker}
 use Rattle.c_tree.specs.declared.typed_expression.TypedExpr.{TypedExpr}
 use Rattle.c_tree.specs.declared.typed_expression.ExprForm as form
 use Rattle.c_tree.specs.declared.typed_expression.ExprForm.{ExprForm}
@@ -16,6 +15,7 @@ use Rattle.c_tree.specs.declared.program.VarRef.{VarRef}
 use Rattle.c_tree.specs.TypedTree.{Kind, Node, Unary, Binary}
 use Rattle.c_tree.specs.View.{expr_of, form_of, argument_list, stmt_of, statement_list, choice_list}
 use Rattle.c_tree.proofs.Views.{typed_call_form, block_of_list, switch_of_list}
+use Rattle.c_limits.specs.Capped.{capped}
 use Rattle.c_tree.specs.Temporaries.{is_constant, is_simple, temporaries, form_temporaries, argument_temporaries, statement_temporaries, statements_temporaries, choices_temporaries}
 
 -- the last argument, behind so many that are kept
@@ -26,42 +26,42 @@ argument_more (y ∷ []) x = omega arith
 argument_more (y ∷ z ∷ zs) x = let further = argument_more (z ∷ zs) x in omega arith
 
 -- a form that is this one, and an expression that is this one
-pub of_shape : {E : Type 0} (r : Result ℕ E) {f g : ExprForm} → f ≡ g → IfOk r (λ n. n ≡ form_temporaries (form_of g)) → IfOk r (λ n. n ≡ form_temporaries (form_of f))
-of_shape r is found = subst (λ h. IfOk r (λ n. n ≡ form_temporaries (form_of h))) (sym is) found
+pub of_shape : (r : ℕ) {f g : ExprForm} → f ≡ g → r ≡ capped (form_temporaries (form_of g)) → r ≡ capped (form_temporaries (form_of f))
+of_shape r is found = found ∙ ap (λ h. capped (form_temporaries (form_of h))) (sym is)
 
-pub held : {E : Type 0} (r : Result ℕ E) {a b : TypedExpr} → a ≡ b → IfOk r (λ n. n ≡ temporaries (expr_of a)) → IfOk r (λ n. n ≡ temporaries (expr_of b))
-held r is found = subst (λ e. IfOk r (λ n. n ≡ temporaries (expr_of e))) is found
+pub held : (r : ℕ) {a b : TypedExpr} → a ≡ b → r ≡ capped (temporaries (expr_of a)) → r ≡ capped (temporaries (expr_of b))
+held r is found = found ∙ ap (λ e. capped (temporaries (expr_of e))) is
 
 -- a statement that is this one
-pub of_statement : {E : Type 0} (r : Result ℕ E) {s t : TypedStmt} → s ≡ t → IfOk r (λ n. n ≡ statement_temporaries (stmt_of t)) → IfOk r (λ n. n ≡ statement_temporaries (stmt_of s))
-of_statement r is found = subst (λ u. IfOk r (λ n. n ≡ statement_temporaries (stmt_of u))) (sym is) found
+pub of_statement : (r : ℕ) {s t : TypedStmt} → s ≡ t → r ≡ capped (statement_temporaries (stmt_of t)) → r ≡ capped (statement_temporaries (stmt_of s))
+of_statement r is found = found ∙ ap (λ u. capped (statement_temporaries (stmt_of u))) (sym is)
 
 -- a call of a list of arguments
-pub of_call : {E : Type 0} (r : Result ℕ E) (shape : ExprForm) (f : ℕ) (l : _) {items : List TypedExpr} → shape ≡ form.Call f l → items ≡ l.items
-    → IfOk r (λ n. n ≡ argument_temporaries (argument_list items)) → IfOk r (λ n. n ≡ form_temporaries (form_of shape))
+pub of_call : (r : ℕ) (shape : ExprForm) (f : ℕ) (l : _) {items : List TypedExpr} → shape ≡ form.Call f l → items ≡ l.items
+    → r ≡ capped (argument_temporaries (argument_list items)) → r ≡ capped (form_temporaries (form_of shape))
 of_call r shape f l is listed found =
-    IfOk-weaker r _ _ (λ n e. e ∙ ap (λ items. argument_temporaries (argument_list items)) listed
-    ∙ ap form_temporaries (sym (ap form_of is ∙ typed_call_form f l))) found
+    found ∙ ap (λ items. capped (argument_temporaries (argument_list items))) listed
+    ∙ ap (λ g. capped (form_temporaries g)) (sym (ap form_of is ∙ typed_call_form f l))
 
 -- a block and a switch of lists
-pub of_block : {E : Type 0} (r : Result ℕ E) (s : TypedStmt) (declared : _) (l : _) {items : List TypedStmt} → s ≡ stmt.Block declared l → items ≡ l.items
-    → IfOk r (λ n. n ≡ statements_temporaries (statement_list items)) → IfOk r (λ n. n ≡ statement_temporaries (stmt_of s))
+pub of_block : (r : ℕ) (s : TypedStmt) (declared : _) (l : _) {items : List TypedStmt} → s ≡ stmt.Block declared l → items ≡ l.items
+    → r ≡ capped (statements_temporaries (statement_list items)) → r ≡ capped (statement_temporaries (stmt_of s))
 of_block r s declared l is listed found =
-    IfOk-weaker r _ _ (λ n e. e ∙ ap (λ items. statements_temporaries (statement_list items)) listed
-    ∙ ap statement_temporaries (sym (ap stmt_of is ∙ block_of_list declared l))) found
+    found ∙ ap (λ items. capped (statements_temporaries (statement_list items))) listed
+    ∙ ap (λ t. capped (statement_temporaries t)) (sym (ap stmt_of is ∙ block_of_list declared l))
 
-pub of_switch : {E : Type 0} (r : Result ℕ E) (s : TypedStmt) (e : TypedExpr) (l : _) {items : List Choice} → s ≡ stmt.Switch e l → items ≡ l.items
-    → IfOk r (λ n. n ≡ max (temporaries (expr_of e)) (choices_temporaries (choice_list items))) → IfOk r (λ n. n ≡ statement_temporaries (stmt_of s))
+pub of_switch : (r : ℕ) (s : TypedStmt) (e : TypedExpr) (l : _) {items : List Choice} → s ≡ stmt.Switch e l → items ≡ l.items
+    → r ≡ capped (max (temporaries (expr_of e)) (choices_temporaries (choice_list items))) → r ≡ capped (statement_temporaries (stmt_of s))
 of_switch r s e l is listed found =
-    IfOk-weaker r _ _ (λ n h. h ∙ ap (λ items. max (temporaries (expr_of e)) (choices_temporaries (choice_list items))) listed
-    ∙ ap statement_temporaries (sym (ap stmt_of is ∙ switch_of_list e l))) found
+    found ∙ ap (λ items. capped (max (temporaries (expr_of e)) (choices_temporaries (choice_list items)))) listed
+    ∙ ap (λ t. capped (statement_temporaries t)) (sym (ap stmt_of is ∙ switch_of_list e l))
 
 -- an operator on what two boxes hold
-pub of_binary : {E : Type 0} (r : Result ℕ E) (shape : ExprForm) (op : BinaryOp) (left right : _) {a b : TypedExpr} → shape ≡ form.Binary op left right
-    → a ≡ left.value → b ≡ right.value → IfOk r (λ n. n ≡ form_temporaries (Binary op (expr_of a) (expr_of b))) → IfOk r (λ n. n ≡ form_temporaries (form_of shape))
+pub of_binary : (r : ℕ) (shape : ExprForm) (op : BinaryOp) (left right : _) {a b : TypedExpr} → shape ≡ form.Binary op left right
+    → a ≡ left.value → b ≡ right.value → r ≡ capped (form_temporaries (Binary op (expr_of a) (expr_of b))) → r ≡ capped (form_temporaries (form_of shape))
 of_binary r shape op left right {b = b} is first second found =
-    IfOk-weaker r _ _ (λ n e. e ∙ ap (λ a. form_temporaries (Binary op (expr_of a) (expr_of b))) first
-    ∙ ap (λ b. form_temporaries (Binary op (expr_of left.value) (expr_of b))) second ∙ sym (ap (λ s. form_temporaries (form_of s)) is)) found
+    found ∙ ap (λ a. capped (form_temporaries (Binary op (expr_of a) (expr_of b)))) first
+    ∙ ap (λ b. capped (form_temporaries (Binary op (expr_of left.value) (expr_of b)))) second ∙ sym (ap (λ s. capped (form_temporaries (form_of s))) is)
 
 -- a form that is no number, address or name, and under no operator or conversion
 pub computed : (shape : ExprForm) (kind : Kind) (at : ℕ) → ((w : ℕ) → shape ≢ form.Const w) → ((v : VarRef) → shape ≢ form.AddressOf v)

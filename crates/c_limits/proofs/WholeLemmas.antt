@@ -1,6 +1,7 @@
 -- What is wanted of a whole source, from what its parts are tested for.
-use Rattle.std.proofs.Common.{◌≡◌, ◌<◌, ◌⊎◌, inl, inr, ◌++◌, ◌∷◌, [], ℕ, zero, suc, Bool, true, false, List, length, map, get_or, take, drop, ap, ◌∙◌, sym, refl, subst, vec_items, ◌+◌, nat_lt, if◌then◌else◌, Option, Some, None, arith}
-use Rattle.std.specs.Prelude.{Vec, Result, Ok, Err, IfErr}
+use Rattle.std.proofs.Common.{◌≡◌, ◌<◌, ◌≤◌, ◌⊎◌, inl, inr, ◌++◌, ◌∷◌, [], ℕ, zero, suc, Bool, true, false, List, length, map, get_or, take, drop, ap, ◌∙◌, sym, refl, subst, vec_items, ◌+◌, nat_lt, if◌then◌else◌, Option, Some, None, arith}
+use Rattle.std.specs.Prelude.{Vec, Result, Ok, Err, IfErr, All}
+use Rattle.std.proofs.lemmas.List.Elements.{All-nil, All-cons, All-head, All-tail}
 use Rattle.std.specs.Result.{IsErrAnd}
 use Rattle.std.specs.Global.{Global}
 use Rattle.std.proofs.lemmas.List.{length-map, map-append, map_more}
@@ -12,7 +13,9 @@ use Rattle.c_rules.specs.declared.fault.TypeFault.{TypeFault}
 use Rattle.c_rules.specs.declared.fault.TypeFault.TheVariants as faults
 use Rattle.c_limits.specs.declared.functions.TypedFunction as memory
 use Rattle.c_tree.specs.declared.uses.Use.{Use}
+use Rattle.c_tree.specs.declared.uses.Use.TheVariants as kind
 use Rattle.c_rules.specs.Checked.{AreWhole}
+use Rattle.c_rules.specs.Counted.{IsCounted, AreCounted, most_counted}
 use Rattle.c_rules.specs.Faults.{SaysOf}
 use Rattle.c_rules.specs.Programs.{frame, has_main, HasNoCycle}
 use Rattle.c_rules.specs.Units.{TypedFunction}
@@ -196,3 +199,56 @@ module _ (fs : List TypedFunction) (main : has_main fs ≡ true) (bodies : missi
 pub fault_says : {A : Type 0} (P : TypeFault → Type 0) → (f : TypeFault) (result : Result A TypeFault) → IsErrAnd result (λ e. e ≡ f) → P f → IfErr result P
 fault_says P f (Ok a) given known = absurd given
 fault_says P f (Err e) given known = subst P (sym given) known
+
+-- what is counted of each function, and of each switch
+pub counted_at : (fs : List memory.TypedFunction) (i : ℕ) (f : memory.TypedFunction) → AreCounted (map typed_function_of fs) → f ≡ get_or fs i f → i < length fs
+    → IsCounted (typed_function_of f)
+counted_at fs i f counted is below = at fs i counted.each below is
+  where
+    at : (gs : List memory.TypedFunction) (k : ℕ) → All IsCounted (map typed_function_of gs) → k < length gs → f ≡ get_or gs k f → IsCounted (typed_function_of f)
+    at [] k all within there = absurd (omega arith)
+    at (g ∷ gs) zero all within there =
+        subst (λ h. IsCounted (typed_function_of h)) (sym there) (All-head IsCounted (typed_function_of g) (map typed_function_of gs) all)
+    at (g ∷ gs) (suc k) all within there = at gs k (All-tail IsCounted (typed_function_of g) (map typed_function_of gs) all) (omega arith) there
+
+module _ (P : ℕ → Type 0) where
+  first_all : (xs ys : List ℕ) → All P (xs ++ ys) → All P xs
+  first_all [] ys all = All-nil P
+  first_all (x ∷ xs) ys all = All-cons P x xs (All-head P x (xs ++ ys) all) (first_all xs ys (All-tail P x (xs ++ ys) all))
+
+  last_all : (xs ys : List ℕ) → All P (xs ++ ys) → All P ys
+  last_all [] ys all = all
+  last_all (x ∷ xs) ys all = last_all xs ys (All-tail P x (xs ++ ys) all)
+
+  pub cases_at : (lists : List (Vec Use Global)) (i : ℕ) (us : Vec Use Global) → All P (all_cases (map vec_items lists)) → us ≡ get_or lists i us → i < length lists
+      → All P (case_counts us.items)
+  cases_at [] i us all is below = absurd (omega arith)
+  cases_at (vs ∷ lists) zero us all is below =
+      subst (λ ws. All P (case_counts ws.items)) (sym is) (first_all (case_counts vs.items) (all_cases (map vec_items lists)) all)
+  cases_at (vs ∷ lists) (suc i) us all is below = cases_at lists i us (last_all (case_counts vs.items) (all_cases (map vec_items lists)) all) is (omega arith)
+
+  pub case_at : (us : List Use) (i : ℕ) (other : Use) (n : ℕ) → All P (case_counts us) → i < length us → get_or us i other ≡ kind.Cases n → P n
+  case_at [] i other n all below case = absurd (omega arith)
+  case_at (kind.Cases m ∷ us) zero other n all below case = let same : m ≡ n = cc case in subst P same (All-head P m (case_counts us) all)
+  case_at (kind.Call f at ∷ us) zero other n all below case = absurd (cc case)
+  case_at (kind.Address r ∷ us) zero other n all below case = absurd (cc case)
+  case_at (kind.Cases m ∷ us) (suc i) other n all below case = case_at us i other n (All-tail P m (case_counts us) all) (omega arith) case
+  case_at (kind.Call f at ∷ us) (suc i) other n all below case = case_at us i other n all (omega arith) case
+  case_at (kind.Address r ∷ us) (suc i) other n all below case = case_at us i other n all (omega arith) case
+
+  all_appended : (xs ys : List ℕ) → All P xs → All P ys → All P (xs ++ ys)
+  all_appended [] ys first second = second
+  all_appended (x ∷ xs) ys first second = All-cons P x (xs ++ ys) (All-head P x xs first) (all_appended xs ys (All-tail P x xs first) second)
+
+-- all switches, where the uses are lent meanwhile
+counted_cases : (fs : List TypedFunction) → All IsCounted fs → All (λ n. n ≤ most_counted) (all_cases (map uses_of fs))
+counted_cases [] all = All-nil (λ n. n ≤ most_counted)
+counted_cases (f ∷ fs) all =
+    all_appended (λ n. n ≤ most_counted) (case_counts (uses_of f)) (all_cases (map uses_of fs)) (All-head IsCounted f fs all).cases (counted_cases fs (All-tail IsCounted f fs all))
+
+pub cases_counted : (fs : List memory.TypedFunction) (lists : List (Vec Use Global)) {lent : List (Vec Use Global)} → lent ≡ lists
+    → map vec_items lists ≡ map (λ f. statement_uses (stmt_of f.body.value)) fs → AreCounted (map typed_function_of fs)
+    → All (λ n. n ≤ most_counted) (all_cases (map vec_items lent))
+cases_counted fs lists same listed counted =
+    subst (λ l. All (λ n. n ≤ most_counted) (all_cases (map vec_items l))) (sym same)
+    (subst (λ l. All (λ n. n ≤ most_counted) (all_cases l)) (sym (uses_of_trees fs listed)) (counted_cases (map typed_function_of fs) counted.each))

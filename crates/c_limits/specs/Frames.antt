@@ -1,5 +1,5 @@
 -- The frame scalars of a function as the code counts them, by marks: which of its objects have their addresses taken.
-use Rattle.std.specs.Prelude.{◌≡◌, ◌<◌, ◌≤◌, ℕ, suc, Bool, false, if◌then◌else◌, List, [], ◌∷◌, ◌++◌, length, slice_index_or}
+use Rattle.std.specs.Prelude.{◌≡◌, ◌<◌, ◌≤◌, ◌+◌, ℕ, suc, Bool, false, if◌then◌else◌, List, [], ◌∷◌, ◌++◌, length, slice_index_or}
 use Rattle.c_tree.specs.declared.program.VarRef.{VarRef}
 use Rattle.c_tree.specs.declared.program.VarRef.TheVariants as refs
 use Rattle.c_tree.specs.declared.uses.Use.{Use}
@@ -30,6 +30,10 @@ scalars_by marks ls = 0
 -- what is numbered, with what is to be
 abbrev pub still : Numbering → List Bool → List LocalTree → List VarRef
 still known marks ls = known.references.items ++ numbered_by marks known.scalars known.objects ls
+
+-- so many scalars are numbered, with those to come
+abbrev pub scalars_with : Numbering → List Bool → List LocalTree → ℕ
+scalars_with known marks ls = known.scalars + scalars_by marks ls
 
 -- what each object stands for, where a frame has room for the scalars
 abbrev pub IsFrame : List VarRef → Frame → Type 0

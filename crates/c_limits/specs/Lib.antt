@@ -1,4 +1,5 @@
 pub mod OperandForms
+pub mod Capped
 pub mod Frames
 pub mod Storage
 pub mod Calls

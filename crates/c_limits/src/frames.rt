@@ -1,6 +1,7 @@
 //! What the objects of a function stand for: frame scalars, and objects in memory.
-ghost use Rattle.std.specs.Prelude.{◌≡◌, ◌<◌, ◌||◌, ◌∷◌, Bool, true, false, ℕ, List, map, length, slice_index_or, IfOk};
-ghost use Rattle.c_limits.specs.Frames.{Marks, numbered_by, scalars_by, still, IsFrame};
+ghost use Rattle.std.specs.Prelude.{◌≡◌, ◌<◌, ◌≤◌, ◌+◌, ◌||◌, ◌∷◌, [], Bool, true, false, ℕ, List, map, length, slice_index_or, IfOk, OnOk};
+ghost use Rattle.c_limits.specs.Frames.{Marks, numbered_by, scalars_by, scalars_with, still, IsFrame};
+ghost use Rattle.c_rules.specs.Counted.{most_counted};
 ghost use Rattle.c_rules.specs.Programs.{in_frame};
 ghost use Rattle.c_rules.specs.Programs.{is_address, references};
 ghost use Rattle.c_rules.specs.Statements.{LocalTree};
@@ -24,10 +25,11 @@ pub(crate) enum Frame {
 
 /// What the objects of a function stand for, in order of declaration.
 pub(crate) fn frame_of(alloc: Global, uses: &[Use], locals: &[Local]) -> Result<Frame, NoMemory>
+    requires few { length locals.now ≤ most_counted }
     ensures { IfOk result (IsFrame (references uses.now (map local_tree_of locals.now))) }
 {
     let pointed = pointed_by(alloc, uses, locals.len())?;
-    let scalars = count_scalars(&pointed, locals)?;
+    let scalars = count_scalars(&pointed, locals);
     if scalars > MOST_SCALARS {
         return Ok(Frame::TooMany(scalars));
     }
@@ -66,21 +68,24 @@ fn is_in_frame(local: &Local, pointed: bool) -> bool
     }
 }
 
-fn count_scalars(pointed: &[bool], locals: &[Local]) -> Result<u32, NoMemory>
-    requires { length pointed.now ≡ length locals.now }
-    ensures { IfOk result (λ n. n ≡ scalars_by pointed.now (map local_tree_of locals.now)) }
+fn count_scalars(pointed: &[bool], locals: &[Local]) -> u32
+    requires marked { length pointed.now ≡ length locals.now }
+    requires few { length locals.now ≤ most_counted }
+    ensures { result ≡ scalars_by pointed.now (map local_tree_of locals.now) }
 {
-    let mut count: u32 = 0;
+    let mut count = 0;
     for (n, local) in locals.iter().enumerate() {
         if is_in_frame(local, pointed[n]) {
-            count = count.checked_add(1).ok_or(NoMemory)?;
+            count += 1;
         }
     }
-    Ok(count)
+    count
 }
 
 fn references(alloc: Global, pointed: &[bool], locals: &[Local]) -> Result<Vec<VarRef>, NoMemory>
-    requires { length pointed.now ≡ length locals.now }
+    requires marked { length pointed.now ≡ length locals.now }
+    requires few { length locals.now ≤ most_counted }
+    requires scalars { scalars_by pointed.now (map local_tree_of locals.now) ≤ MOST_FRAME_SCALARS }
     ensures { IfOk result (λ references. references.items ≡ numbered_by pointed.now 0 0 (map local_tree_of locals.now)) }
 {
     let mut numbering = Numbering {
@@ -104,14 +109,18 @@ pub(crate) struct Numbering {
 
 impl Numbering {
     fn add(&mut self, local: &Local, pointed: bool) -> Result<(), NoMemory>
-        ensures { IfOk result (λ _. (marks : List Bool) (ls : List LocalTree) → still self.new marks ls ≡ still self.old (pointed ∷ marks) (local_tree_of local.now ∷ ls)) }
+        requires scalars { scalars_with self.old (pointed ∷ []) (local_tree_of local.now ∷ []) ≤ MOST_FRAME_SCALARS }
+        requires objects { self.old.objects < most_counted }
+        ensures numbered { IfOk result (λ _. (marks : List Bool) (ls : List LocalTree) → still self.new marks ls ≡ still self.old (pointed ∷ marks) (local_tree_of local.now ∷ ls)) }
+        ensures scalars { IfOk result (λ _. (marks : List Bool) (ls : List LocalTree) → scalars_with self.new marks ls ≡ scalars_with self.old (pointed ∷ marks) (local_tree_of local.now ∷ ls)) }
+        ensures objects { OnOk result (self.new.objects ≤ self.old.objects + 1) }
     {
         if is_in_frame(local, pointed) {
             self.references.push(VarRef::Scalar(self.scalars))?;
-            self.scalars = self.scalars.checked_add(1).ok_or(NoMemory)?;
+            self.scalars += 1;
         } else {
             self.references.push(VarRef::Local(self.objects))?;
-            self.objects = self.objects.checked_add(1).ok_or(NoMemory)?;
+            self.objects += 1;
         }
         Ok(())
     }

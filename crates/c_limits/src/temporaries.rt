@@ -1,32 +1,26 @@
 //! How many temporaries the code of a statement needs.
 //!
 //! The code of an operator keeps its left operand in one while it evaluates the right one, unless that one is simple.
-ghost use Rattle.std.specs.Prelude.{◌≡◌, ◌+◌, ℕ, max, IfOk};
+//! Counts stay at the most that 32 bits hold, which no function of a source within its limits reaches.
+ghost use Rattle.std.specs.Prelude.{◌≡◌, ◌≤◌, ◌+◌, ℕ, max};
 ghost use Rattle.c_tree.specs.TypedTree.{no_more, Kind, Node, Unary, Binary, Assign, AssignOp};
 ghost use Rattle.c_syntax.specs.declared.operator.UnaryOp.TheVariants.{Minus};
 ghost use Rattle.c_syntax.specs.declared.operator.BinaryOp.{BinaryOp};
 ghost use Rattle.c_tree.specs.View.{expr_of, lvalue_of, argument_list, option_expr_of, stmt_of, statement_list, choice_list, choice_before};
 ghost use Rattle.c_limits.specs.OperandForms.{constant_form, simple_form};
+ghost use Rattle.c_limits.specs.Capped.{capped};
+ghost use Rattle.c_rules.specs.Counted.{most_counted};
 ghost use Rattle.c_tree.specs.Temporaries as counts;
 
 use c_syntax::UnaryOp;
 use c_tree::{Choice, ExprForm, Target, TargetForm, TypedExpr, TypedStmt};
-use word_base::NoMemory;
 
 /// The number of temporaries of a statement.
-pub(crate) fn temporaries_of(s: &TypedStmt) -> Result<u32, NoMemory>
-    ensures { IfOk result (λ n. n ≡ counts.statement_temporaries (stmt_of s.now)) }
+pub(crate) fn temporaries_of(s: &TypedStmt) -> u32
+    requires { counts.statement_temporaries (stmt_of s.now) ≤ most_counted }
+    ensures { result ≡ counts.statement_temporaries (stmt_of s.now) }
 {
     statement(s)
-}
-
-fn sum(count: u32, more: u32) -> Result<u32, NoMemory>
-    ensures { IfOk result (λ n. n ≡ count + more) }
-{
-    match count.checked_add(more) {
-        Some(n) => Ok(n),
-        None => Err(NoMemory),
-    }
 }
 
 /// What an operand is, beneath conversions.
@@ -77,89 +71,66 @@ fn negative_form(e: &TypedExpr) -> OperandForm
 }
 
 // So many with those that are kept while an operand is evaluated, unless it is simple.
-fn behind(kept: u32, e: &TypedExpr, count: u32) -> Result<u32, NoMemory>
-    ensures { IfOk result (λ n. n ≡ counts.unless_simple (expr_of e.now) (kept + count)) }
+fn behind(kept: u32, e: &TypedExpr, count: u32) -> u32
+    ensures { (n : ℕ) → count ≡ capped n → result ≡ capped (counts.unless_simple (expr_of e.now) (kept + n)) }
 {
     match operand_form(e) {
-        OperandForm::Constant | OperandForm::Name => Ok(0),
-        OperandForm::Computed => sum(kept, count),
+        OperandForm::Constant | OperandForm::Name => 0,
+        OperandForm::Computed => kept.saturating_add(count),
     }
 }
 
-// The larger of two counts, where both are known.
-fn larger(a: Result<u32, NoMemory>, b: Result<u32, NoMemory>) -> Result<u32, NoMemory>
-    ensures { (m n : ℕ) → IfOk a (λ x. x ≡ m) → IfOk b (λ y. y ≡ n) → IfOk result (λ z. z ≡ max m n) }
+fn larger(a: u32, b: u32) -> u32
+    ensures { (m n : ℕ) → a ≡ capped m → b ≡ capped n → result ≡ capped (max m n) }
 {
-    Ok(a?.max(b?))
+    a.max(b)
 }
 
-// An operator on two operands that want so many, unless their count wanted memory.
-fn binary(
-    left: &TypedExpr,
-    first: Result<u32, NoMemory>,
-    right: &TypedExpr,
-    second: Result<u32, NoMemory>,
-) -> Result<u32, NoMemory>
-    requires first { IfOk first (λ n. n ≡ counts.temporaries (expr_of left.now)) }
-    requires second { IfOk second (λ n. n ≡ counts.temporaries (expr_of right.now)) }
-    ensures { (op : BinaryOp) → IfOk result (λ n. n ≡ counts.form_temporaries (Binary op (expr_of left.now) (expr_of right.now))) }
+// An operator on two operands that want so many.
+fn binary(left: &TypedExpr, first: u32, right: &TypedExpr, second: u32) -> u32
+    requires first { first ≡ capped (counts.temporaries (expr_of left.now)) }
+    requires second { second ≡ capped (counts.temporaries (expr_of right.now)) }
+    ensures { (op : BinaryOp) → result ≡ capped (counts.form_temporaries (Binary op (expr_of left.now) (expr_of right.now))) }
 {
-    let (first, second) = (first?, second?);
     let second = match operand_form(left) {
         OperandForm::Constant => second,
-        OperandForm::Name | OperandForm::Computed => behind(1, right, second)?,
+        OperandForm::Name | OperandForm::Computed => behind(1, right, second),
     };
-    Ok(first.max(second))
+    first.max(second)
 }
 
-fn assignment(
-    to: &Target,
-    first: Result<u32, NoMemory>,
-    value: &TypedExpr,
-    second: Result<u32, NoMemory>,
-) -> Result<u32, NoMemory>
-    requires first { IfOk first (λ n. n ≡ counts.target_temporaries (lvalue_of to.now.form to.now.at)) }
-    requires second { IfOk second (λ n. n ≡ counts.temporaries (expr_of value.now)) }
-    ensures { IfOk result (λ n. n ≡ counts.form_temporaries (Assign (lvalue_of to.now.form to.now.at) (expr_of value.now))) }
+fn assignment(to: &Target, first: u32, value: &TypedExpr, second: u32) -> u32
+    requires first { first ≡ capped (counts.target_temporaries (lvalue_of to.now.form to.now.at)) }
+    requires second { second ≡ capped (counts.temporaries (expr_of value.now)) }
+    ensures { result ≡ capped (counts.form_temporaries (Assign (lvalue_of to.now.form to.now.at) (expr_of value.now))) }
 {
     match &to.form {
         TargetForm::Named(_) => second,
-        TargetForm::At(_) => {
-            let second = behind(1, value, second?)?;
-            Ok(first?.max(second))
-        }
+        TargetForm::At(_) => first.max(behind(1, value, second)),
     }
 }
 
 // An assignment by an operator, which keeps what was there as well.
-fn update(
-    to: &Target,
-    first: Result<u32, NoMemory>,
-    value: &TypedExpr,
-    second: Result<u32, NoMemory>,
-) -> Result<u32, NoMemory>
-    requires first { IfOk first (λ n. n ≡ counts.target_temporaries (lvalue_of to.now.form to.now.at)) }
-    requires second { IfOk second (λ n. n ≡ counts.temporaries (expr_of value.now)) }
-    ensures { (op : BinaryOp) → IfOk result (λ n. n ≡ counts.form_temporaries (AssignOp op (lvalue_of to.now.form to.now.at) (expr_of value.now))) }
+fn update(to: &Target, first: u32, value: &TypedExpr, second: u32) -> u32
+    requires first { first ≡ capped (counts.target_temporaries (lvalue_of to.now.form to.now.at)) }
+    requires second { second ≡ capped (counts.temporaries (expr_of value.now)) }
+    ensures { (op : BinaryOp) → result ≡ capped (counts.form_temporaries (AssignOp op (lvalue_of to.now.form to.now.at) (expr_of value.now))) }
 {
     match &to.form {
-        TargetForm::Named(_) => behind(1, value, second?),
-        TargetForm::At(_) => {
-            let second = behind(2, value, second?)?;
-            Ok(first?.max(second))
-        }
+        TargetForm::Named(_) => behind(1, value, second),
+        TargetForm::At(_) => first.max(behind(2, value, second)),
     }
 }
 
 #[cycle(expressions)]
-fn expression(e: &TypedExpr) -> Result<u32, NoMemory>
-    ensures { IfOk result (λ n. n ≡ counts.temporaries (expr_of e.now)) }
+fn expression(e: &TypedExpr) -> u32
+    ensures { result ≡ capped (counts.temporaries (expr_of e.now)) }
 {
     match &e.form {
-        ExprForm::Const(_) => Ok(0),
-        ExprForm::Read(_) => Ok(0),
-        ExprForm::AddressOf(_) => Ok(0),
-        ExprForm::In { .. } => Ok(0),
+        ExprForm::Const(_) => 0,
+        ExprForm::Read(_) => 0,
+        ExprForm::AddressOf(_) => 0,
+        ExprForm::In { .. } => 0,
         ExprForm::Load(value) => expression(value),
         ExprForm::Not(value) => expression(value),
         ExprForm::Convert(value) => expression(value),
@@ -183,48 +154,46 @@ fn expression(e: &TypedExpr) -> Result<u32, NoMemory>
 }
 
 #[cycle(expressions)]
-fn target(to: &Target) -> Result<u32, NoMemory>
-    ensures { IfOk result (λ n. n ≡ counts.target_temporaries (lvalue_of to.now.form to.now.at)) }
+fn target(to: &Target) -> u32
+    ensures { result ≡ capped (counts.target_temporaries (lvalue_of to.now.form to.now.at)) }
 {
     match &to.form {
-        TargetForm::Named(_) => Ok(0),
+        TargetForm::Named(_) => 0,
         TargetForm::At(pointer) => expression(pointer),
     }
 }
 
 // Each argument is kept until the call, other than the last.
 #[cycle(expressions)]
-fn arguments(list: &[TypedExpr]) -> Result<u32, NoMemory>
-    ensures { IfOk result (λ n. n ≡ counts.argument_temporaries (argument_list list.now)) }
+fn arguments(list: &[TypedExpr]) -> u32
+    ensures { result ≡ capped (counts.argument_temporaries (argument_list list.now)) }
 {
-    let mut kept = 0;
+    let mut kept: u32 = 0;
     let mut most: u32 = 0;
     for e in list {
-        let count = expression(e)?;
-        let here = sum(kept, count)?;
-        most = most.max(here);
-        kept = sum(kept, 1)?;
+        most = most.max(kept.saturating_add(expression(e)));
+        kept = kept.saturating_add(1);
     }
-    Ok(most)
+    most
 }
 
-fn optional(e: &Option<TypedExpr>) -> Result<u32, NoMemory>
-    ensures { IfOk result (λ n. n ≡ counts.optional_temporaries (option_expr_of e.now)) }
+fn optional(e: &Option<TypedExpr>) -> u32
+    ensures { result ≡ capped (counts.optional_temporaries (option_expr_of e.now)) }
 {
     match e {
         Some(e) => expression(e),
-        None => Ok(0),
+        None => 0,
     }
 }
 
 #[cycle(statements)]
-fn statement(s: &TypedStmt) -> Result<u32, NoMemory>
-    ensures { IfOk result (λ n. n ≡ counts.statement_temporaries (stmt_of s.now)) }
+fn statement(s: &TypedStmt) -> u32
+    ensures { result ≡ capped (counts.statement_temporaries (stmt_of s.now)) }
 {
     match s {
-        TypedStmt::Fill(_) => Ok(0),
-        TypedStmt::Break => Ok(0),
-        TypedStmt::Continue => Ok(0),
+        TypedStmt::Fill(_) => 0,
+        TypedStmt::Break => 0,
+        TypedStmt::Continue => 0,
         TypedStmt::Expr(e) => expression(e),
         TypedStmt::Return(value) => optional(value),
         TypedStmt::Block { body, .. } => statements(body),
@@ -250,35 +219,33 @@ fn statement(s: &TypedStmt) -> Result<u32, NoMemory>
 }
 
 #[cycle(statements)]
-fn statements(list: &[TypedStmt]) -> Result<u32, NoMemory>
-    ensures { IfOk result (λ n. n ≡ counts.statements_temporaries (statement_list list.now)) }
+fn statements(list: &[TypedStmt]) -> u32
+    ensures { result ≡ capped (counts.statements_temporaries (statement_list list.now)) }
 {
     let mut most: u32 = 0;
     for s in list {
-        let count = statement(s)?;
-        most = most.max(count);
+        most = most.max(statement(s));
     }
-    Ok(most)
+    most
 }
 
 #[cycle(statements)]
-fn choices(list: &[Choice]) -> Result<u32, NoMemory>
-    ensures { IfOk result (λ n. n ≡ counts.choices_temporaries (choice_list list.now)) }
+fn choices(list: &[Choice]) -> u32
+    ensures { result ≡ capped (counts.choices_temporaries (choice_list list.now)) }
 {
     let mut most: u32 = 0;
     for part in list {
-        let count = choice(part)?;
-        most = most.max(count);
+        most = most.max(choice(part));
     }
-    Ok(most)
+    most
 }
 
 #[cycle(statements)]
-fn choice(part: &Choice) -> Result<u32, NoMemory>
-    ensures { IfOk result (λ n. n ≡ counts.choices_temporaries (choice_before part.now no_more)) }
+fn choice(part: &Choice) -> u32
+    ensures { result ≡ capped (counts.choices_temporaries (choice_before part.now no_more)) }
 {
     match part {
-        Choice::Case(_) | Choice::Default => Ok(0),
+        Choice::Case(_) | Choice::Default => 0,
         Choice::Body(s) => statement(s),
     }
 }

@@ -1,9 +1,10 @@
 //! What is wanted of a whole source behind the rules of its nodes: ISO 9899:1990 6.7 and the limits of docs/LANGUAGE.md, "Types".
-ghost use Rattle.std.specs.Prelude.{◌≡◌, ◌≤◌, ◌+◌, [], ◌∷◌, map, length, vec_items, IfOk, IfErr, Some, None};
+ghost use Rattle.std.specs.Prelude.{◌≡◌, ◌≤◌, [], ◌∷◌, map, length, vec_items, All, IfOk, IfErr, Some, None};
 ghost use Rattle.c_tree.specs.View.{stmt_of};
 ghost use Rattle.c_rules.specs.declared.fault.LimitName.TheVariants as limit;
 ghost use Rattle.c_rules.specs.Chains.{IsRecursion};
 ghost use Rattle.c_rules.specs.Checked.{AreWhole};
+ghost use Rattle.c_rules.specs.Counted.{IsCounted, AreCounted, most_counted};
 ghost use Rattle.c_rules.specs.Faults.{SaysOf};
 ghost use Rattle.c_rules.specs.Programs.{frame_scalars};
 ghost use Rattle.c_rules.specs.Programs as programs;
@@ -27,8 +28,10 @@ use word_base::NoMemory;
 /// The greatest number of frame scalars of a function, its temporaries counted.
 const MOST_SCALARS: u32 = MOST_FRAME_SCALARS as u32;
 
-/// What the objects of each function stand for, where what is wanted of the whole source holds.
+/// What the objects of each function stand for, where what is wanted of the whole source holds. The functions are those of a source
+/// within its limits, so that each count has 32 bits.
 pub fn frames_of(alloc: Global, functions: &[TypedFunction]) -> Result<Vec<Vec<VarRef>>, TypeFault>
+    requires { AreCounted (map typed_function_of functions.now) }
     ensures whole { IfOk result (λ _. AreWhole (map typed_function_of functions.now)) }
     ensures frames { IfOk result (λ frames. frame_lists frames.items ≡ map frame (map typed_function_of functions.now)) }
     ensures refused { IfErr result (SaysOf (map typed_function_of functions.now)) }
@@ -136,17 +139,15 @@ fn over(which: LimitName, count: u32) -> TypeFault
     TypeFault::Limit { which, count }
 }
 
-// A count that has 32 bits in each source that memory holds.
 fn counted(which: LimitName, count: usize) -> TypeFault
+    requires { count ≤ most_counted }
     ensures { IsOver which (Some count) result }
 {
-    match u32::try_from(count) {
-        Ok(count) => over(which, count),
-        Err(_) => TypeFault::NoMemory,
-    }
+    over(which, count as u32)
 }
 
 fn few_functions(functions: &[TypedFunction]) -> Result<(), TypeFault>
+    requires { AreCounted (map typed_function_of functions.now) }
     ensures few { IfOk result (λ _. passed limit.Functions (map typed_function_of functions.now) ≡ None) }
     ensures refused { IfErr result (IsOver limit.Functions (passed limit.Functions (map typed_function_of functions.now))) }
 {
@@ -157,6 +158,7 @@ fn few_functions(functions: &[TypedFunction]) -> Result<(), TypeFault>
 }
 
 fn few_parameters(functions: &[TypedFunction]) -> Result<(), TypeFault>
+    requires { AreCounted (map typed_function_of functions.now) }
     ensures few { IfOk result (λ _. passed limit.Parameters (map typed_function_of functions.now) ≡ None) }
     ensures refused { IfErr result (IsOver limit.Parameters (passed limit.Parameters (map typed_function_of functions.now))) }
 {
@@ -173,7 +175,8 @@ fn small_frames(
     functions: &[TypedFunction],
     uses: &[Vec<Use>],
 ) -> Result<Vec<Vec<VarRef>>, TypeFault>
-    requires { map vec_items uses.now ≡ map (λ f. statement_uses (stmt_of f.body.value)) functions.now }
+    requires uses { map vec_items uses.now ≡ map (λ f. statement_uses (stmt_of f.body.value)) functions.now }
+    requires counted { AreCounted (map typed_function_of functions.now) }
     ensures frames { IfOk result (λ frames. frame_lists frames.items ≡ map (λ f. frame (typed_function_of f)) functions.now) }
     ensures small { IfOk result (λ _. passed limit.Scalars (map typed_function_of functions.now) ≡ None) }
     ensures refused { IfErr result (IsOver limit.Scalars (passed limit.Scalars (map typed_function_of functions.now))) }
@@ -186,16 +189,17 @@ fn small_frames(
 }
 
 fn small_frame(alloc: Global, f: &TypedFunction, uses: &[Use]) -> Result<Vec<VarRef>, TypeFault>
-    requires { uses.now ≡ statement_uses (stmt_of f.now.body.value) }
+    requires uses { uses.now ≡ statement_uses (stmt_of f.now.body.value) }
+    requires counted { IsCounted (typed_function_of f.now) }
     ensures frame { IfOk result (λ references. references.items ≡ frame (typed_function_of f.now)) }
     ensures small { IfOk result (λ _. frame_size (typed_function_of f.now) ≤ MOST_FRAME_SCALARS) }
     ensures refused { IfErr result (IsOver limit.Scalars (first_above MOST_FRAME_SCALARS (frame_size (typed_function_of f.now) ∷ []))) }
 {
-    let temporaries = temporaries_of(&f.body)?;
+    let temporaries = temporaries_of(&f.body);
     match frame_of(alloc, uses, &f.locals)? {
-        Frame::TooMany(scalars) => Err(over(LimitName::Scalars, sum(scalars, temporaries)?)),
+        Frame::TooMany(scalars) => Err(over(LimitName::Scalars, scalars + temporaries)),
         Frame::Known(references) => {
-            let size = sum(scalars_among(&references), temporaries)?;
+            let size = scalars_among(&references) + temporaries;
             if size > MOST_SCALARS {
                 return Err(over(LimitName::Scalars, size));
             }
@@ -204,18 +208,12 @@ fn small_frame(alloc: Global, f: &TypedFunction, uses: &[Use]) -> Result<Vec<Var
     }
 }
 
-fn sum(scalars: u32, temporaries: u32) -> Result<u32, NoMemory>
-    ensures { IfOk result (λ n. n ≡ scalars + temporaries) }
-{
-    scalars.checked_add(temporaries).ok_or(NoMemory)
-}
-
 // How many frame scalars there are among the objects of a function.
 fn scalars_among(references: &[VarRef]) -> u32
     requires { frame_scalars references.now ≤ MOST_FRAME_SCALARS }
     ensures { result ≡ frame_scalars references.now }
 {
-    let mut count: u32 = 0;
+    let mut count = 0;
     for reference in references {
         if let VarRef::Scalar(_) = reference {
             count += 1;
@@ -225,6 +223,7 @@ fn scalars_among(references: &[VarRef]) -> u32
 }
 
 fn few_cases(uses: &[Vec<Use>]) -> Result<(), TypeFault>
+    requires { All (λ n. n ≤ most_counted) (wanted.all_cases (map vec_items uses.now)) }
     ensures few { IfOk result (λ _. first_above MOST_CASES (wanted.all_cases (map vec_items uses.now)) ≡ None) }
     ensures refused { IfErr result (IsOver limit.Cases (first_above MOST_CASES (wanted.all_cases (map vec_items uses.now)))) }
 {
@@ -235,6 +234,7 @@ fn few_cases(uses: &[Vec<Use>]) -> Result<(), TypeFault>
 }
 
 fn few_cases_in(uses: &[Use]) -> Result<(), TypeFault>
+    requires { All (λ n. n ≤ most_counted) (wanted.case_counts uses.now) }
     ensures few { IfOk result (λ _. first_above MOST_CASES (wanted.case_counts uses.now) ≡ None) }
     ensures refused { IfErr result (IsOver limit.Cases (first_above MOST_CASES (wanted.case_counts uses.now))) }
 {

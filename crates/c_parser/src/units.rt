@@ -1,6 +1,7 @@
 //! Whole sources.
-ghost use Rattle.std.specs.Prelude.{◌≡◌, ◌+◌, ◌<◌, ◌≤◌, length, IfOk, IfErr};
+ghost use Rattle.std.specs.Prelude.{◌≡◌, ◌+◌, ◌<◌, ◌≤◌, length, All, IfOk, IfErr};
 ghost use Rattle.c_syntax.specs.Lexes.{most_tokens};
+ghost use Rattle.c_syntax.specs.TokenSpellings.{HasSpelling};
 ghost use Rattle.c_syntax.specs.Derives.{DerivesSpecs, DerivesExternal};
 ghost use Rattle.c_syntax.specs.Measures.{parameters_height, item_form_height, external_height, greatest_height};
 ghost use Rattle.c_syntax.specs.SyntaxView.{specs_of, parameters_of, item_form_of, external_of, unit_of};
@@ -120,6 +121,7 @@ fn function_kind(params: Tall<Params>) -> Tall<ItemKind>
 // The row `unit` over all tokens.
 fn unit(alloc: Global, tokens: &[Token]) -> Result<Unit, Refusal>
     requires few { length tokens.now ≤ most_tokens }
+    requires spelled { All (λ t. HasSpelling t.kind) tokens.now }
     ensures tree { IfOk result (λ u. IsSource tokens.now (unit_of u)) }
     ensures refused { IfErr result (Refuses (NoSource tokens.now)) }
 {
@@ -158,10 +160,11 @@ fn place(tokens: &[Token], left: u32) -> u32
     }
 }
 
-/// The tree of a list of tokens, which the row `unit` derives and which is at most 200 high (docs/LANGUAGE.md, "Grammar").
+/// The tree of a list of tokens such as a text has, which the row `unit` derives and which is at most 200 high (docs/LANGUAGE.md, "Grammar").
 /// Tokens that have no such tree are refused: at the first token with which none can go on, or at the end of the last one.
 pub fn parse(alloc: Global, tokens: &[Token]) -> Result<Unit, ParseFault>
     requires few { length tokens.now ≤ most_tokens }
+    requires spelled { All (λ t. HasSpelling t.kind) tokens.now }
     ensures tree { IfOk result (λ u. IsSource tokens.now (unit_of u)) }
     ensures refused { IfErr result (Says tokens.now) }
 {

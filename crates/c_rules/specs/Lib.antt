@@ -12,6 +12,7 @@ pub mod Renumbering
 pub mod Units
 pub mod Programs
 pub mod Whole
+pub mod Counted
 pub mod Checked
 pub mod Faults
 pub mod Rounds

@@ -1,5 +1,8 @@
 pub mod OneReading
 pub mod NamedFunctions
+pub mod DerivedValues
+pub mod Spoken
+pub mod SpelledUnits
 pub mod Pieces
 pub mod Spellings
 pub mod Sorts

@@ -13,7 +13,7 @@ use Rattle.c_syntax.specs.Derives.{DerivesFunction, DerivesUnit, LastExternal, M
 use Rattle.c_syntax.specs.FunctionNames.{function_names}
 
 -- each name among tokens is one
-abbrev AreNamed : List Token → Type 0
+abbrev pub AreNamed : List Token → Type 0
 AreNamed [] = ⊤
 AreNamed (t ∷ ts) = ((name : List ℕ) → t.kind ≡ token.Name name → IsName name) × AreNamed ts
 
@@ -39,7 +39,7 @@ function_named tokens tree named derives =
     in let front = first_named (derives.a ++ derives.b ++ derives.n ∷ derives.t ∷ derives.c) (derives.u ∷ derives.d) all
     in (last_named (derives.a ++ derives.b) (derives.n ∷ derives.t ∷ derives.c) front).0 tree.name derives.name
 
-unit_named : (tokens : List Token) (tree : UnitTree) → AreNamed tokens → DerivesUnit tokens tree → All IsName (function_names tree)
+pub unit_named : (tokens : List Token) (tree : UnitTree) → AreNamed tokens → DerivesUnit tokens tree → All IsName (function_names tree)
 unit_named tokens _ named (LastExternal {tree = Defined f} external) =
     All-cons IsName f.name [] (function_named tokens f named external) (All-nil IsName)
 unit_named tokens _ named (LastExternal {tree = Declared d} external) = All-nil IsName

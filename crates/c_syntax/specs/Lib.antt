@@ -4,6 +4,7 @@ pub mod FixedTexts
 pub mod Constants
 pub mod Spelling
 pub mod Lexes
+pub mod TokenSpellings
 pub mod SyntaxTree
 pub mod Grammar
 pub mod Derives
@@ -16,3 +17,4 @@ pub mod SyntaxView
 pub mod FunctionNames
 pub mod Values
 pub mod Characters
+pub mod Units

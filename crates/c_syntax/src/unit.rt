@@ -1,7 +1,7 @@
 //! Whole sources, as the grammar has them (docs/LANGUAGE.md, "Grammar").
 ghost use Rattle.std.specs.Prelude.{◌≡◌};
 ghost use Rattle.c_syntax.specs.SyntaxView.{unit_of};
-ghost use Rattle.c_syntax.specs.Counts.{IsWithinLimits};
+ghost use Rattle.c_syntax.specs.Units.{IsUnit};
 
 use crate::decl::{Decl, Params};
 use crate::expr::Specs;
@@ -32,7 +32,8 @@ pub enum External {
 }
 
 /// The tree of a whole source, a list of externals. It is at most 200 high, and has at most 400,000 expressions, statements
-/// and declared items, and at most 200,000 externals, parameters and stars each. Contracts see the externals, whose tree is `unit_of`.
+/// and declared items, and at most 200,000 externals, parameters and stars each. Its functions have names as tokens have them, its
+/// braces hold values, and its character constants are words. Contracts see the externals, whose tree is `unit_of`.
 #[derive(Drop)]
 pub struct Unit {
     externals: Vec<External>,
@@ -42,7 +43,7 @@ impl Model for Unit {
     ghost use Rattle.std.specs.Prelude.{List};
     ghost use Rattle.c_syntax.specs.declared.unit.External.{External};
     ghost use Rattle.c_syntax.specs.SyntaxView.{unit_of};
-    ghost use Rattle.c_syntax.specs.Counts.{IsWithinLimits};
+    ghost use Rattle.c_syntax.specs.Units.{IsUnit};
     ghost use Rattle.c_syntax.specs.contracts.expr.ExprKind as expression;
     ghost use Rattle.c_syntax.specs.contracts.stmt.StmtKind as statement;
     ghost use Rattle.std.specs.Coded.{codes};
@@ -53,13 +54,13 @@ impl Model for Unit {
 
     ghost view = { λ u. u.externals.items };
 
-    ghost invariant = { λ u. IsWithinLimits (unit_of u.externals.items) };
+    ghost invariant = { λ u. IsUnit (unit_of u.externals.items) };
 }
 
 impl Unit {
     /// The tree of these externals. It takes no memory.
     pub fn new(externals: Vec<External>) -> Self
-        requires { IsWithinLimits (unit_of externals.items) }
+        requires { IsUnit (unit_of externals.items) }
         ensures { result ≡ externals.items }
     {
         Unit { externals }
@@ -68,7 +69,7 @@ impl Unit {
     /// The externals, in their order.
     pub fn externals(&self) -> &[External]
         ensures externals { result.now ≡ self.now }
-        ensures limits { IsWithinLimits (unit_of self.now) }
+        ensures unit { IsUnit (unit_of self.now) }
     {
         &self.externals
     }

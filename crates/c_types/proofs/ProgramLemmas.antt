@@ -18,6 +18,7 @@ use Rattle.c_rules.specs.declared.fault.Refusal.{Refusal}
 use Rattle.c_rules.specs.declared.fault.Refusal.TheVariants as refusals
 use Rattle.c_rules.specs.Answers.{Refuses}
 use Rattle.c_rules.specs.Checked.{AreWhole, IsTyped, Breaks}
+use Rattle.c_rules.specs.Counted.{AreCounted}
 use Rattle.c_rules.specs.Faults.{Says, SaysOf, rule_fault, fault_of}
 use Rattle.c_rules.specs.Visits.{broken_in}
 use Rattle.c_rules.proofs.Walked.SourceWalked.{walk_finds}
@@ -32,6 +33,7 @@ use Rattle.c_syntax.specs.Counts.{IsWithinLimits}
 use Rattle.c_syntax.specs.FunctionNames.{function_names}
 use Rattle.c_tree.specs.WellFormedProgram.{IsProgram}
 use Rattle.c_rules.proofs.Formed.FormedSource.{well_formed_source}
+use Rattle.c_types_proof.proofs.CountedSources.{sources_are_counted}
 
 -- what a refusal of a node says of its source
 broken_says : (unit : UnitTree) (rule : Rule) (at : ℕ) → Breaks unit rule at → Says unit (rule_fault rule at)
@@ -71,6 +73,14 @@ pub says_source : (unit : List External) {externals : List External} (file : fil
     → typed_unit (unit_of externals) ≡ Is (file_of file) → functions ≡ file.functions.items → SaysOf (map typed_function_of functions) f → Says (unit_of unit) f
 says_source unit file f same typed lent known =
     says_of (unit_of unit) (file_of file) f (sym (ap (λ u. typed_unit (unit_of u)) same) ∙ typed) (subst (λ fs. SaysOf (map typed_function_of fs) f) lent known)
+
+-- what is counted of the functions, where they are lent meanwhile
+pub functions_counted : (unit : List External) {externals : List External} (file : files.File) {functions : List memory.TypedFunction} → externals ≡ unit
+    → typed_unit (unit_of externals) ≡ Is (file_of file) → functions ≡ file.functions.items → IsWithinLimits (unit_of unit)
+    → AreCounted (map typed_function_of functions)
+functions_counted unit file same typed lent limits =
+    subst (λ fs. AreCounted (map typed_function_of fs)) (sym lent)
+    (sources_are_counted (unit_of unit) (file_of file) limits (sym (ap (λ u. typed_unit (unit_of u)) same) ∙ typed))
 
 -- functions with their own frames
 own_frames : (fs : List TypedFunction) → functions_with (map frame fs) fs ≡ map function_tree fs

@@ -1,12 +1,8 @@
 //! The check of a whole source, and its typed program.
 ghost use Rattle.std.specs.Prelude.{◌≡◌, map, All, IfOk, IfErr};
-ghost use Rattle.word_base.specs.Name.{IsName};
-ghost use Rattle.c_syntax.specs.FunctionNames.{function_names};
 ghost use Rattle.c_tree.specs.ProgramView.{program_of};
 ghost use Rattle.c_tree.specs.View.{function_of as function_view, object_of};
 ghost use Rattle.c_syntax.specs.SyntaxView.{unit_of};
-ghost use Rattle.c_syntax.specs.Values.{UnitHasValues};
-ghost use Rattle.c_syntax.specs.Characters.{UnitSaysWords};
 ghost use Rattle.c_tree.specs.Placed.{FunctionIsPlaced};
 ghost use Rattle.c_tree.specs.TypedOfWords.{ProgramHasWords};
 ghost use Rattle.c_tree.specs.WellFormedProgram.{IsProgram};
@@ -27,12 +23,8 @@ use std::alloc::Global;
 use word_base::{Items, NoMemory};
 
 /// The typed program of a tree, or the first fault: that of the first node in walking order that breaks a rule of ISO 9899:1990
-/// 6.1 to 6.7, as docs/LANGUAGE.md, "Types", has them, and then what is wanted of the whole source. The names of functions are names
-/// as tokens have them, braces hold values as the grammar has it, and character constants are words as those of a text are.
+/// 6.1 to 6.7, as docs/LANGUAGE.md, "Types", has them, and then what is wanted of the whole source.
 pub fn check(alloc: Global, unit: &Unit) -> Result<Program, TypeFault>
-    requires names { All IsName (function_names (unit_of unit.now)) }
-    requires values { UnitHasValues (unit_of unit.now) }
-    requires words { UnitSaysWords (unit_of unit.now) }
     ensures typed { IfOk result (λ p. IsTyped (unit_of unit.now) (program_of p)) }
     ensures refused { IfErr result (Says (unit_of unit.now)) }
 {

@@ -8,18 +8,8 @@ use Rattle.c_syntax.specs.Spelling.{Means}
 use Rattle.c_syntax.specs.declared.token.Token.{Token}
 use Rattle.c_syntax.specs.declared.token.TokenKind.{TokenKind}
 use Rattle.c_syntax.specs.declared.token.TokenKind.TheVariants as token
+use Rattle.c_syntax.proofs.Spoken.{KindIsWord, AreWords}
 use Rattle.c_lexer.proofs.CharacterLemmas.{number_below}
-
--- a character constant among tokens is a word
-abbrev pub KindIsWord : TokenKind → Type 0
-KindIsWord (token.Word keyword) = ⊤
-KindIsWord (token.Name name) = ⊤
-KindIsWord (token.Number value marked decimal) = ⊤
-KindIsWord (token.Char value) = value < 65536
-KindIsWord (token.Mark mark) = ⊤
-
-abbrev pub AreWords : List Token → Type 0
-AreWords tokens = AllByRecursion (λ t. KindIsWord t.kind) tokens
 
 -- signs, each with a character that is a word, as escapes are
 abbrev AreFew : List (ℕ × ℕ) → Type 0

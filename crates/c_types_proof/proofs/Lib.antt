@@ -10,10 +10,7 @@ pub mod Counting
 pub mod Frames
 pub mod Units
 pub mod Placing
-pub mod Derived
 pub mod CharacterTokens
-pub mod Spoken
-pub mod Texts
 pub mod ConstantWords
 pub mod OperandWords
 pub mod TypedWords
@@ -22,5 +19,9 @@ pub mod OpenedWords
 pub mod StatementWords
 pub mod RenumberedWords
 pub mod UnitWords
+pub mod TemporaryOperands
+pub mod TemporaryExpressions
+pub mod CountedBodies
+pub mod CountedSources
 mod Examples
 mod WordExamples

@@ -3,18 +3,11 @@ use Rattle.std.proofs.Common.{◌≡◌, ◌≢◌, ◌≤◌, ◌∙◌, ◌++�
 use Rattle.std.specs.Prelude.{⊤, All, Result, IfErr, IsErrAnd}
 use Rattle.std.proofs.lemmas.List.{take_more, take-append-drop, map-append, length-map, length-take-le}
 use Rattle.c_rules.proofs.Turns.{first_left}
-use Rattle.std.proofs.lemmas.List.Elements.{All-cons, All-nil}
-use Rattle.word_base.specs.Name.{IsName}
+use Rattle.std.proofs.lemmas.List.Elements.{All-from_recursion}
 use Rattle.c_tree.specs.c_syntax.declared.token.Token.{Token}
 use Rattle.c_tree.specs.c_syntax.SyntaxTree.{UnitTree, Defined, Declared}
-use Rattle.c_tree.specs.c_syntax.Derives.{DerivesUnit, LastExternal, MoreExternals}
-use Rattle.c_tree.specs.c_syntax.FunctionNames.{function_names}
 use Rattle.c_tree.specs.c_syntax.Lexes.{most_tokens}
 use Rattle.c_lexer.specs.TokenText.{HasSpelling}
-use Rattle.c_types_proof.proofs.Texts.{IsOfText}
-use Rattle.c_types_proof.proofs.CharacterTokens.{KindIsWord, tokens_few}
-use Rattle.c_types_proof.proofs.Derived.{unit_values}
-use Rattle.c_types_proof.proofs.Spoken.{unit_says}
 use Rattle.std.specs.List.{AllByRecursion, AllZip}
 use Rattle.c_rules.specs.declared.fault.TypeFault.{TypeFault}
 use Rattle.c_rules.specs.declared.fault.TypeFault.TheVariants as types
@@ -33,7 +26,6 @@ use Rattle.c_parser.specs.ParseFaults as parser
 use Rattle.c_units.specs.PartFaults.{of_lex_fault, of_parse_fault, of_type_fault}
 use Rattle.c_units.specs.Files.{FileTree, HasTokens, HasTree, IsFile, AreFiles, HasOwnFault, OfTokens, OfSyntax, OfTypes, HasFileFault}
 use Rattle.c_units.proofs.SpellingLemmas.{left_of, tokens_spelled}
-use Rattle.c_units.proofs.StaticLemmas.{AreNamed, function_named, first_named, last_named}
 
 -- ---- tokens that are left
 
@@ -49,28 +41,10 @@ left_few position (t ∷ ts) = by (is_dropped position t ts) (left_few (Within f
 pub few_left : (bytes : List ℕ) (tokens : List Token) (externs : List ℕ) → HasTokens bytes tokens externs → length tokens ≤ most_tokens
 few_left bytes tokens externs h = omega (arith, ap length h.left, left_few AtStart h.all, h.lexes.1)
 
--- ---- types can be checked
+-- ---- each has a spelling
 
-named : (ts : List Token) → AllByRecursion (λ t. HasSpelling t.kind) ts → AreNamed IsName ts
-named [] h = tt {0}
-named (t ∷ ts) h = (λ name is. (subst HasSpelling is h.0).0, named ts h.1)
-
-functions_named : (tokens : List Token) (tree : UnitTree) → AreNamed IsName tokens → DerivesUnit tokens tree → All IsName (function_names tree)
-functions_named tokens _ are (LastExternal {tree = Defined f} external) = All-cons IsName f.name [] (function_named IsName tokens f are external) (All-nil IsName)
-functions_named tokens _ are (LastExternal {tree = Declared d} external) = All-nil IsName
-functions_named tokens _ are (MoreExternals a b {tree = Defined f} {trees = trees} cut external rest) =
-    let both = subst (AreNamed IsName) cut are in
-    All-cons IsName f.name (function_names trees) (function_named IsName a f (first_named IsName a b both) external) (functions_named b trees (last_named IsName a b both) rest)
-functions_named tokens _ are (MoreExternals a b {tree = Declared d} {trees = trees} cut external rest) =
-    functions_named b trees (last_named IsName a b (subst (AreNamed IsName) cut are)) rest
-
-pub tree_of_text : (bytes : List ℕ) (file : FileTree) → HasTree bytes file → IsOfText file.unit
-tree_of_text bytes file h = record {
-  names = functions_named file.tokens file.unit (named file.tokens (tokens_spelled bytes file.tokens file.externs h.tokens)) h.source.derives;
-  values = unit_values file.tokens file.unit h.source.derives;
-  words = unit_says file.tokens file.unit h.source.derives
-      (subst (AllByRecursion (λ t. KindIsWord t.kind)) (sym h.tokens.left) (left_of (λ t. KindIsWord t.kind) AtStart h.tokens.all (tokens_few bytes h.tokens.all h.tokens.lexes)));
-}
+pub all_spelled : (bytes : List ℕ) (tokens : List Token) (externs : List ℕ) → HasTokens bytes tokens externs → All (λ t. HasSpelling t.kind) tokens
+all_spelled bytes tokens externs h = All-from_recursion (λ t. HasSpelling t.kind) tokens (tokens_spelled bytes tokens externs h)
 
 -- ---- faults
 

@@ -1,4 +1,5 @@
-use Rattle.std.proofs.Common.{◌+◌, max, arith}
+use Rattle.std.proofs.Common.{◌≡◌, ◌+◌, max, refl, arith, rules}
+use Rattle.std.specs.Prelude.{min}
 use Rattle.c_tree.specs.View.{expr_of, argument_list}
 use Rattle.c_tree.specs.Temporaries.{temporaries, argument_temporaries}
 use Rattle.c_limits.proofs.TemporariesLemmas.{argument_more, of_binary, of_call, of_shape, held}
@@ -6,12 +7,15 @@ use Rattle.c_tree.proofs.Folds.{step_further}
 use Rattle.c_limits.proofs.temporaries.+expressions.Goals as goal
 
 pub arguments-loop-e-preserved : goal.arguments-loop-e-preserved
-arguments-loop-e-preserved t c = record {
-  kept = omega arith;
-  most = let further = step_further (λ es. argument_temporaries (argument_list es)) (λ kept most e. max most (kept + temporaries (expr_of e))) argument_more
-      c.args.list.now c.loop-e.e-index c.e-item.result c.e-item.is c.loop-e-test.true c.loop-e.invariant.most
-      in omega (arith, c.max-most.ensures, c.in_ok-here.ensures, c.in_ok-count.ensures, c.loop-e.invariant.kept, further);
-}
+arguments-loop-e-preserved t c =
+    let here : c.saturating_add.result ≡ min (c.loop-e.kept + c.expression.result) 4294967295 = search rules
+    in let next : c.saturating_add-kept.result ≡ min (c.loop-e.kept + 1) 4294967295 = search rules
+    in let further = step_further (λ es. argument_temporaries (argument_list es)) (λ kept most e. max most (kept + temporaries (expr_of e))) argument_more
+    c.args.list.now c.loop-e.e-index c.e-item.result c.e-item.is c.loop-e-test.true refl
+    in record {
+      kept = omega (arith, next, c.loop-e.invariant.kept);
+      most = omega (arith, c.max-most.ensures, here, c.expression.ensures, c.loop-e.invariant.most, c.loop-e.invariant.kept, further);
+    }
 
 pub expression-returns-in-Call : goal.expression-returns-in-Call
 expression-returns-in-Call t c = of_call c.arguments.result c.args.e.now.form c.in-Call.function c.in-Call.args c.in-Call.is c.deref-in-Call.ensures.value c.arguments.ensures

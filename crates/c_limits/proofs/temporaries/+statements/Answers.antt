@@ -9,16 +9,18 @@ use Rattle.c_limits.proofs.temporaries.+statements.Goals as goal
 
 pub choices-loop-part-preserved : goal.choices-loop-part-preserved
 choices-loop-part-preserved t c =
-    choices_further maxima choices_temporaries refl (λ w rest. omega arith) (λ rest. omega arith) (λ s rest. omega arith) c.args.list.now c.loop-part.part-index c.part-item.result c.part-item.is c.loop-part-test.true c.loop-part.invariant
-    (omega (arith, c.max-most.ensures, c.in_ok-count.ensures))
+    let further = choices_further maxima choices_temporaries refl (λ w rest. omega arith) (λ rest. omega arith) (λ s rest. omega arith)
+    c.args.list.now c.loop-part.part-index c.part-item.result c.part-item.is c.loop-part-test.true refl refl
+    in omega (arith, c.max-most.ensures, c.choice.ensures, c.loop-part.invariant, further)
 
 pub statement-returns-in-Block : goal.statement-returns-in-Block
 statement-returns-in-Block t c = of_block c.statements.result c.args.s.now c.in-Block.declared c.in-Block.body c.in-Block.is c.deref.ensures.value c.statements.ensures
 
 pub statements-loop-s-preserved : goal.statements-loop-s-preserved
 statements-loop-s-preserved t c =
-    statements_further maxima statement_temporaries statements_temporaries refl (λ s rest. refl) c.args.list.now c.loop-s.s-index c.s-item.result c.s-item.is c.loop-s-test.true c.loop-s.invariant
-    (omega (arith, c.max-most.ensures, c.in_ok-count.ensures))
+    let further = statements_further maxima statement_temporaries statements_temporaries refl (λ s rest. refl)
+    c.args.list.now c.loop-s.s-index c.s-item.result c.s-item.is c.loop-s-test.true refl refl
+    in omega (arith, c.max-most.ensures, c.statement.ensures, c.loop-s.invariant, further)
 
 pub statement-returns-in-While : goal.statement-returns-in-While
 statement-returns-in-While t c =

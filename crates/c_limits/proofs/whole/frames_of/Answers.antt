@@ -5,7 +5,7 @@ use Rattle.c_rules.specs.Programs.{frame, has_main}
 use Rattle.c_limits.specs.FunctionView.{typed_function_of}
 use Rattle.c_rules.specs.Whole.{missing_body}
 use Rattle.c_limits.proofs.WholeLemmas.{fault_says}
-use Rattle.c_limits.proofs.WholeLemmas.{missing_is, none_missing, cases_is, over_same, recursion_is, says_functions, says_parameters, says_scalars, says_cases, all_whole, map_trees}
+use Rattle.c_limits.proofs.WholeLemmas.{missing_is, none_missing, cases_is, over_same, recursion_is, says_functions, says_parameters, says_scalars, says_cases, all_whole, map_trees, cases_counted}
 use Rattle.c_rules.proofs.MissingBodies.{bodies_met}
 use Rattle.c_limits.proofs.whole.frames_of.Goals as goal
 
@@ -87,3 +87,6 @@ returns-clause-whole c =
 
 pub returns-clause-frames : goal.returns-clause-frames
 returns-clause-frames c = c.in_ok-frames.ensures.frames ∙ sym (map_trees frame c.args.functions.now)
+
+pub few_cases-requires : goal.few_cases-requires
+few_cases-requires c = cases_counted c.args.functions.now c.in_ok-uses.uses.items c.deref-4.ensures.value c.in_ok-uses.ensures c.requires

@@ -2,6 +2,7 @@ use Rattle.std.proofs.Common.{◌≡◌, length, map, rules, arith}
 use Rattle.c_syntax.specs.Derives.{DerivesUnit, LastExternal}
 use Rattle.c_syntax.specs.Measures.{external_height}
 use Rattle.c_syntax.specs.SyntaxView.{external_of, unit_of}
+use Rattle.c_syntax.proofs.SpelledUnits.{spelled_unit}
 use Rattle.c_syntax.proofs.Weights.Statements.{within_limits}
 use Rattle.c_declarations.proofs.FrontLemmas.{first_fails, fails_as, fails_on, leads_from, leads_further}
 use Rattle.c_cursor.proofs.Refusals.{passed_on}
@@ -45,7 +46,8 @@ pub new-requires : goal.new-requires
 new-requires c =
     let none : length c.loop-parser.parser.cursor ≡ 0 = search rules in
     let s = units_taken (map external_of c.loop-parser.externals.items) c.loop-parser.invariant.tree none c.loop-parser.invariant.height c.loop-parser.invariant.room in
-    within_limits c.args.tokens.now (unit_of c.loop-parser.externals.items) c.requires.few s.derives s.low
+    spelled_unit c.args.tokens.now (unit_of c.loop-parser.externals.items) c.requires.spelled s.derives
+    (within_limits c.args.tokens.now (unit_of c.loop-parser.externals.items) c.requires.few s.derives s.low)
 
 pub returns-clause-tree : goal.returns-clause-tree
 returns-clause-tree c =

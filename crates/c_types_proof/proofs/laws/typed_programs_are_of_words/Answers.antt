@@ -1,6 +1,6 @@
 -- A text says words, and so its tree is typed as a program of words.
 use Rattle.c_types_proof.proofs.CharacterTokens.{tokens_few}
-use Rattle.c_types_proof.proofs.Spoken.{unit_says}
+use Rattle.c_syntax.proofs.Spoken.{unit_says}
 use Rattle.c_types_proof.proofs.UnitWords.{program_words}
 use Rattle.c_types_proof.proofs.laws.typed_programs_are_of_words.Goals as goal
 

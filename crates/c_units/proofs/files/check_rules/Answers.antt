@@ -1,16 +1,7 @@
 use Rattle.std.proofs.Common.{sym, ◌∙◌}
 use Rattle.c_units.specs.Views.{file_of}
-use Rattle.c_units.proofs.FileLemmas.{tree_of_text, types_refused}
+use Rattle.c_units.proofs.FileLemmas.{types_refused}
 use Rattle.c_units.proofs.files.check_rules.Goals as goal
-
-pub check-requires-clause-names : goal.check-requires-clause-names
-check-requires-clause-names c = (tree_of_text c.args.source.now (file_of c.args.file.now) c.requires.tree).names
-
-pub check-requires-clause-values : goal.check-requires-clause-values
-check-requires-clause-values c = (tree_of_text c.args.source.now (file_of c.args.file.now) c.requires.tree).values
-
-pub check-requires-clause-words : goal.check-requires-clause-words
-check-requires-clause-words c = (tree_of_text c.args.source.now (file_of c.args.file.now) c.requires.tree).words
 
 pub returns-in-Some-clause-fault : goal.returns-in-Some-clause-fault
 returns-in-Some-clause-fault c = λ some.

@@ -1,11 +1,11 @@
-use Rattle.std.proofs.Common.{subst}
-use Rattle.c_syntax.specs.Source.{IsSource}
-use Rattle.c_syntax.specs.SyntaxView.{unit_of}
-use Rattle.c_types_proof.proofs.Texts.{of_text}
+use Rattle.std.proofs.Common.{List, sym, subst}
+use Rattle.std.specs.Prelude.{All}
+use Rattle.c_syntax.specs.declared.token.Token.{Token}
+use Rattle.c_syntax.specs.TokenSpellings.{HasSpelling}
+use Rattle.c_lexer.proofs.SpelledTokens.{lexed_spelled}
 use Rattle.cc_compile.proofs.front.typed_program.Goals as goal
 
-pub check-requires : goal.check-requires
-check-requires c =
-    let source = subst (λ tokens. IsSource tokens (unit_of c.in_ok-unit.unit)) c.deref.ensures.value c.in_ok-unit.ensures.tree in
-    let text = of_text c.args.source.now c.in_ok-tokens.tokens.items (unit_of c.in_ok-unit.unit) c.in_ok-tokens.ensures.tokens source
-    in record { names = text.names; values = text.values; words = text.words }
+pub parse-requires-clause-spelled : goal.parse-requires-clause-spelled
+parse-requires-clause-spelled c =
+    subst (λ (tokens : List Token). All (λ t. HasSpelling t.kind) tokens) (sym c.deref.ensures.value)
+    (lexed_spelled c.args.source.now c.in_ok-tokens.tokens.items c.in_ok-tokens.ensures.tokens)

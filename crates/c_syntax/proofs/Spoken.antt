@@ -1,6 +1,9 @@
 -- Trees of tokens whose character constants are words say words.
 use Rattle.std.proofs.Common.{◌≡◌, List, [], ◌∷◌, ◌++◌, Option, Some, None, subst}
+use Rattle.std.specs.Prelude.{⊤, ◌<◌}
 use Rattle.std.specs.List.{AllByRecursion}
+use Rattle.c_syntax.specs.declared.token.TokenKind.{TokenKind}
+use Rattle.c_syntax.specs.declared.token.TokenKind.TheVariants as token
 use Rattle.c_syntax.specs.declared.token.Token.{Token}
 use Rattle.c_syntax.specs.Grammar.{Row, Derives, Passes, CommaRule, AssignRule, AssignOpRule, ConditionalRule, OrRule, AndRule, BinaryRule, CastRule}
 use Rattle.c_syntax.specs.Grammar.{StepBeforeRule, PrefixRule, SizeofValueRule, SizeofTypeRule, IndexRule, StepAfterRule, CallRule, NameRule, NumberRule}
@@ -16,7 +19,17 @@ use Rattle.c_syntax.specs.SyntaxTree.{Expression, Expressions, InitialTree, Item
 use Rattle.c_syntax.specs.SyntaxTree.{Defined, Declared, UnitTree}
 use Rattle.c_syntax.specs.Characters.{SaysWords, AllSayWords, OptionSaysWords, InitialSaysWords, ItemsSayWords, DeclarationsSayWords}
 use Rattle.c_syntax.specs.Characters.{StatementSaysWords, StatementsSayWords, ChoicesSayWords, ExternalSaysWords, UnitSaysWords}
-use Rattle.c_types_proof.proofs.CharacterTokens.{KindIsWord, AreWords}
+
+-- a character constant among tokens is a word
+abbrev pub KindIsWord : TokenKind → Type 0
+KindIsWord (token.Word keyword) = ⊤
+KindIsWord (token.Name name) = ⊤
+KindIsWord (token.Number value marked decimal) = ⊤
+KindIsWord (token.Char value) = value < 65536
+KindIsWord (token.Mark mark) = ⊤
+
+abbrev pub AreWords : List Token → Type 0
+AreWords tokens = AllByRecursion (λ t. KindIsWord t.kind) tokens
 
 -- parts of tokens
 front_of : (a b : List Token) → AreWords (a ++ b) → AreWords a
