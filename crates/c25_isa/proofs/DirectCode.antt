@@ -1,10 +1,9 @@
 -- The direct accesses of runs along the stretches of a range, and the lists of its walk.
-use Rattle.std.proofs.Common.{◌≡◌, ℕ, ◌+◌, ◌-◌, ◌<◌, ◌≤◌, ◌^◌, Bool, true, List, [], ◌∷◌, length, is_none, Option, Some, None, refl}
-use Rattle.std.specs.Prelude.{slice_range, map, filter, All}
+use Rattle.std.proofs.Common.{◌≡◌, ℕ, Bool, true, List, [], ◌∷◌, is_none, Option, Some, None, refl}
+use Rattle.std.specs.Prelude.{map, filter}
 use Rattle.std.specs.List.{list_all, AllByRecursion, IsAmong}
 use Rattle.std.proofs.lemmas.Bool.{and_parts}
 use Rattle.c25_isa.specs.State.{State, Memory}
-use Rattle.c25_isa.specs.CodeAt.{WordsAt}
 use Rattle.c25_isa.specs.Walk.{Placed, code_of, stretches, Blocks, has_some, walked, walk}
 use Rattle.c25_isa.specs.Direct.{Words, Direct, nothing_done, is_direct_from}
 use Rattle.c25_isa.specs.StretchRuns.{way, accesses_of, listed_in, HoldsRange, MayName}

@@ -1,5 +1,5 @@
 -- The stretches of a range's words stand in program memory, and a walk's blocks are of them all: what a walk tells of runs.
-use Rattle.std.proofs.Common.{◌≡◌, ◌⊎◌, ℕ, zero, suc, ◌+◌, ◌-◌, ◌<◌, ◌≤◌, ◌^◌, Bool, true, false, List, [], ◌∷◌, length, take, drop, Option, Some, None, inl, inr, refl, sym, ap, ◌∙◌, subst, eqb-true, ltb-false, arith, length-drop}
+use Rattle.std.proofs.Common.{◌≡◌, ◌⊎◌, ℕ, zero, suc, ◌+◌, ◌-◌, ◌<◌, ◌≤◌, Bool, true, false, List, [], ◌∷◌, length, take, drop, Option, Some, None, inl, inr, refl, sym, ap, ◌∙◌, subst, eqb-true, ltb-false, arith, length-drop}
 use Rattle.std.specs.Prelude.{◌||◌, nat_lt, if◌then◌else◌, slice_index, slice_range, map, filter_map, All, IfSome}
 use Rattle.std.specs.List.{flat_map, AllByRecursion, IsAmong}
 use Rattle.std.proofs.lemmas.Bool.{false≢true}

@@ -1,6 +1,6 @@
 -- Runs of the machine along the stretches of a range, and what walks tell of them: docs/MACHINE.md, "Walks".
 use Rattle.std.specs.Prelude.{◌≡◌, ℕ, zero, suc, ◌+◌, ◌^◌, ◌<◌, ◌≤◌, Bool, true, false, ◌==◌, nat_lt, if◌then◌else◌, List, [], ◌∷◌, ◌++◌, filter_map, Option, Some, None, option_map, option_and_then, option_to_list, IfSome, IsTrue, All, length, slice_get, slice_range}
-use Rattle.std.specs.List.{list_any}
+use Rattle.std.specs.List.{list_any, AllByRecursion}
 use Rattle.c25_isa.specs.declared.operand.Operand.{Operand}
 use Rattle.c25_isa.specs.declared.operand.Operand.TheVariants as operand
 use Rattle.c25_isa.specs.declared.instruction.Instr.{Instr}
@@ -10,7 +10,7 @@ use Rattle.c25_isa.specs.CodeAt.{WordsAt}
 use Rattle.c25_isa.specs.Decode.{decode}
 use Rattle.c25_isa.specs.Step.{Event, Ran, Put, Over, Trapped, wrap16, address, data_operand, step}
 use Rattle.c25_isa.specs.Walk.{Placed, Code, stretches, along, nothing_known, goes_over_scalars, access, listed}
-use Rattle.c25_isa.specs.Direct.{Words, is_store, may_name}
+use Rattle.c25_isa.specs.Direct.{Words, is_among, is_store, may_name}
 
 -- an access of data memory: its address, the address register that it goes through, or none where its operand is direct, and whether it stores
 pub record DataAccess : Type 0 where
@@ -141,3 +141,12 @@ event_with a word (Trapped kind at) = Trapped kind at
 abbrev pub IsElsewhere : Option DataAccess → ℕ → Type 0
 IsElsewhere None a = Unit {0}
 IsElsewhere (Some x) a = x.address ≡ a → ⊥
+
+-- an access is through AR2 to AR5 at one of these addresses, or through another address register
+abbrev pub IsListedOrBeside : List ℕ → ℕ → Option ℕ → Type 0
+IsListedOrBeside addresses a None = ⊥
+IsListedOrBeside addresses a (Some register) = (goes_over_scalars register ≡ true → is_among a addresses ≡ true)
+
+-- so is each access to one of these words
+abbrev pub AreListedOrBeside : List ℕ → List ℕ → List DataAccess → Type 0
+AreListedOrBeside own addresses made = AllByRecursion (λ x. is_among x.address own ≡ true → IsListedOrBeside addresses x.address x.through) made

@@ -4,7 +4,7 @@ ghost use Rattle.std.specs.List.{IsAmong};
 ghost use Rattle.c25_isa.specs.Direct.{Direct};
 ghost use Rattle.c25_isa.specs.State.{State};
 ghost use Rattle.c25_isa.specs.Step.{step};
-ghost use Rattle.c25_isa.specs.StretchRuns.{accessed, accesses_of, begins, event_with, listed_in, way, with_word, HoldsRange, IsElsewhere, IsEntry, MayName, Tells};
+ghost use Rattle.c25_isa.specs.StretchRuns.{accessed, accesses_of, begins, event_with, listed_in, way, with_word, AreListedOrBeside, HoldsRange, IsElsewhere, IsEntry, MayName, Tells};
 ghost use Rattle.c25_isa.specs.Walk.{Blocks, Placed, code_of, has_some, stretches, walk};
 
 /// Walks tell how the machine runs along the stretches of a range, whatever a state holds but the words of the range and PC at a stretch: registers,
@@ -24,6 +24,10 @@ pub fn walks_tell_runs()
     ensures direct { (words : List ℕ) (first last : ℕ) (own places given : List ℕ) (stretch : List Placed) (s : State) (steps : ℕ)
         → Direct words first last own places given → HoldsRange words first last s → IsAmong (stretches (code_of words first last)) stretch
         → MayName (record { own = own; places = places; given = given }) [] (accesses_of (way steps s stretch [])) }
+    // So each access to a word of the own frame is at an address that is listed, or through another register than AR2 to AR5.
+    ensures frame { (words : List ℕ) (first last : ℕ) (blocks : List (List ℕ)) (own places given : List ℕ) (stretch : List Placed) (s : State) (steps : ℕ)
+        → walk words first last ≡ Blocks blocks → Direct words first last own places given → HoldsRange words first last s → IsAmong (stretches (code_of words first last)) stretch
+        → begins s.pc stretch ≡ true → AreListedOrBeside own (listed_in stretch) (accesses_of (way steps s stretch [])) }
 {}
 
 /// A step neither reads nor writes a word of data memory but that of its access: with another word elsewhere it does the same, and leaves that
