@@ -25,7 +25,7 @@ use Rattle.c_rules.specs.Operands.{Operand, typed_number, unary, negated, binary
 use Rattle.c_rules.specs.Constants.{constant}
 use Rattle.c_rules.specs.Scopes.{Scope, is_in, is_out, length_of_array}
 
--- how often a word stands among the words of a type
+-- whether two words of a type are the same
 abbrev pub same_word : SpecWord → SpecWord → Bool
 same_word words.Static words.Static = true
 same_word words.Void words.Void = true
@@ -36,10 +36,12 @@ same_word words.Signed words.Signed = true
 same_word words.Unsigned words.Unsigned = true
 same_word a b = false
 
+-- whether a word is among the words of a type
 abbrev pub has : SpecWord → List SpecWord → Bool
 has word [] = false
 has word (w ∷ ws) = same_word word w || has word ws
 
+-- whether one is there twice
 abbrev pub repeats : List SpecWord → Bool
 repeats [] = false
 repeats (w ∷ ws) = has w ws || repeats ws
