@@ -11,4 +11,3 @@ returns c = (
   c.in_ok-references.ensures ∙ numbers_by_marks c.args.uses.now _ c.args.locals.now c.in_ok-pointed.ensures c.deref-2.ensures.value,
   omega (arith, c.count_scalars-scalars.ensures, scalars_by_marks c.args.uses.now _ c.args.locals.now c.in_ok-pointed.ensures c.deref.ensures.value),
 )
-
