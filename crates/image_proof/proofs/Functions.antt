@@ -31,7 +31,7 @@ address_behind : (at : ℕ) (p : Piece) (ps : List Piece) (name : List ℕ) → 
 address_behind at p ps name differs = ap (λ b. if b then at else piece_address (at + items_size p.items) ps name) (other_name p.name name differs)
 
 -- the first piece of a name ends before all pieces do
-ends_within : (at : ℕ) (ps : List Piece) (name : List ℕ) (p : Piece) → first_piece ps name ≡ Some p → piece_address at ps name + items_size p.items ≤ at + pieces_size ps
+pub ends_within : (at : ℕ) (ps : List Piece) (name : List ℕ) (p : Piece) → first_piece ps name ≡ Some p → piece_address at ps name + items_size p.items ≤ at + pieces_size ps
 ends_within at [] name p is = absurd cc
 ends_within at (q ∷ qs) name p is = by (bytes_eq q.name name) is (ends_within (at + items_size q.items) qs name p)
   where

@@ -41,6 +41,7 @@ use Rattle.emit_blocks.specs.Places.{Places}
 use Rattle.emit_proof.specs.Calls.{StandsIn}
 use Rattle.image_proof.specs.Emissions.{Emission, IsEmission}
 use Rattle.image_proof.specs.ActiveSites.{parameters_of, site_of}
+use Rattle.image_proof.specs.FunctionWalks.{IsFunctionOf}
 use Rattle.image_proof.proofs.Frames.{FrameAt, frame_at}
 use Rattle.image_proof.proofs.Placed.{places_long}
 use Rattle.image_proof.proofs.Sites.{setting_places}
@@ -108,7 +109,7 @@ item_names [] (g ∷ gs) count each = absurd (omega (arith, count))
 item_names (f ∷ fs) [] count each = absurd (omega (arith, count))
 item_names (f ∷ fs) (g ∷ gs) count each = ap₂ (λ n ns. n ∷ ns) (sym (each 0 f g refl refl)) (item_names fs gs (omega (arith, count)) (λ k. each (suc k)))
 
-there_by : {A : Type 0} (xs : List A) (k : ℕ) → k < length xs → (x : A) × (slice_get xs k ≡ Some x)
+pub there_by : {A : Type 0} (xs : List A) (k : ℕ) → k < length xs → (x : A) × (slice_get xs k ≡ Some x)
 there_by [] k less = absurd (omega (arith, less))
 there_by (x ∷ xs) zero less = (x, refl)
 there_by (x ∷ xs) (suc k) less = there_by xs k (omega (arith, less))
@@ -159,6 +160,17 @@ module _ (e : Emission) (is : IsEmission e) where
       (startup_fits e.plan.statics e.code.statics, functions_fit e.plan e.step (parameters_of e) (names_in e) e.code.functions e.items e.plan.frames e.arrangements placed)
       (chosen_fit (λ (x : Piece). pieces_call x.name (own_pieces e)) helper_pieces routines_fit)
 
+  -- a routine that a function names
+  pub routine_found : (g : ℕ) (code : FunctionCode) (items : FunctionItems) (frame : FramePlan) (lists : List (List ℕ)) → IsFunctionOf e g code items frame lists → (h : HelperName) → StandsIn (Helper h) items.body
+      → first_piece (all_pieces e) (helper_name h) ≡ Some (routine_piece (routine_of h))
+  routine_found g code items frame lists f h stands =
+      found_behind (startup_piece e.plan.statics e.code.statics) (functions ++ called_helper_pieces (own_pieces e)) (helper_name h) (startup_other h)
+      ∙ found_later functions (called_helper_pieces (own_pieces e)) (helper_name h)
+      (piece_names e.plan e.step (parameters_of e) (names_in e) (λ n. n ≢ helper_name h) e.code.functions e.items e.plan.frames e.arrangements (λ k d within same. dotted (helper_name h) (helper_dot h) (subst IsName same (are_names k d within))))
+      ∙ called_routine (own_pieces e) h
+      (some_piece h (startup_piece e.plan.statics e.code.statics) functions
+      (functions_call h e.plan e.step (parameters_of e) (names_in e) e.code.functions e.items e.plan.frames e.arrangements g code items frame lists f.code_at f.items_at f.frame_at f.lists_at stands))
+
   module _ (usable : AreUsable e) (start : machine.State) (program : Memory) (stand : AllStand program (all_pieces e)) where
     module _ (g : ℕ) (less : g < length e.code.functions) where
       at_frame : FrameAt e g
@@ -180,16 +192,6 @@ module _ (e : Emission) (is : IsEmission e) where
       found =
           found_behind (startup_piece e.plan.statics e.code.statics) (functions ++ called_helper_pieces (own_pieces e)) (at_items.0).name (λ same. dotted startup_name refl (subst IsName (sym same) is_name))
           ∙ function_found e.plan e.step (parameters_of e) (names_in e) e.code.functions e.items e.plan.frames e.arrangements (called_helper_pieces (own_pieces e)) g at_frame.code at_items.0 frame at_frame.lists names_differ at_frame.there at_items.1 at_frame.framed at_frame.arranged
-
-      -- a routine that it names
-      routine_found : (h : HelperName) → StandsIn (Helper h) (at_items.0).body → first_piece (all_pieces e) (helper_name h) ≡ Some (routine_piece (routine_of h))
-      routine_found h stands =
-          found_behind (startup_piece e.plan.statics e.code.statics) (functions ++ called_helper_pieces (own_pieces e)) (helper_name h) (startup_other h)
-          ∙ found_later functions (called_helper_pieces (own_pieces e)) (helper_name h)
-          (piece_names e.plan e.step (parameters_of e) (names_in e) (λ n. n ≢ helper_name h) e.code.functions e.items e.plan.frames e.arrangements (λ k d within same. dotted (helper_name h) (helper_dot h) (subst IsName same (are_names k d within))))
-          ∙ called_routine (own_pieces e) h
-          (some_piece h (startup_piece e.plan.statics e.code.statics) functions
-          (functions_call h e.plan e.step (parameters_of e) (names_in e) e.code.functions e.items e.plan.frames e.arrangements g at_frame.code at_items.0 frame at_frame.lists at_frame.there at_items.1 at_frame.framed at_frame.arranged stands))
 
       pub function_at : FunctionAt e start program names_all g
       function_at =
@@ -213,6 +215,6 @@ module _ (e : Emission) (is : IsEmission e) where
                 emittable.scalars ∙ sym (places_long at_frame.lists frame.bases 0 (at_frame.code).scalars)
                 ∙ ap (λ (p : Places). length p.scalars) (setting_places e g active at_frame.code frame at_frame.lists (names_in e) at_frame.there at_frame.framed at_frame.arranged);
             helpers = λ m k h stands.
-                let at = stand (helper_name h) (routine_piece (routine_of h)) (routine_found h stands) in
+                let at = stand (helper_name h) (routine_piece (routine_of h)) (routine_found g at_frame.code at_items.0 frame at_frame.lists (record { code_at = at_frame.there; items_at = at_items.1; frame_at = at_frame.framed; lists_at = at_frame.arranged }) h stands) in
                 record { items = routine_items (routine_of h); marks = marks_of 0 (all_pieces e) (helper_name h); at = at.0; result = each_answers (routine_of h) };
           }

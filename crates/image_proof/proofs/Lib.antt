@@ -97,3 +97,6 @@ pub mod Runs
 pub mod Functions
 pub mod Among
 pub mod Directs
+pub mod JumpsWithin
+pub mod NamedCalls
+pub mod LeadsRight

@@ -28,3 +28,4 @@ pub mod DirectRuns
 pub mod FrameWords
 pub mod FunctionWalks
 pub mod Directs
+pub mod Leading

@@ -11,6 +11,7 @@ mod image_walks_laws;
 mod piece_walks_laws;
 mod run_laws;
 mod site_laws;
+mod target_laws;
 mod usable_laws;
 
 pub use acc_select::{AccFunction, AccProgram, select};
@@ -24,5 +25,6 @@ pub use image_walks_laws::{images_walk, programs_walk};
 pub use piece_walks_laws::{pieces_walk, runs_are_direct};
 pub use run_laws::translation_keeps_runs;
 pub use site_laws::calls_stand;
+pub use target_laws::{images_lead_right, programs_lead_right};
 pub use tree_code_proof::lowering_keeps_runs;
 pub use usable_laws::selected_is_usable;

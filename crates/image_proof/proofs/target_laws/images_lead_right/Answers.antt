@@ -1,0 +1,10 @@
+use Rattle.image_proof.proofs.ImageCalls.{setting_in}
+use Rattle.image_proof.proofs.LeadsRight.{has_targets}
+use Rattle.image_proof.proofs.target_laws.images_lead_right.Goals as goal
+
+pub returns : goal.returns
+returns c = record {
+  targets = λ e image k code g frame lists h linked fit size f.
+      has_targets e image h linked fit size k code g frame lists f
+      (c.marks_are_right.ensures.calls (setting_in e code frame lists) g.body (h.emittable.each k code g f.code_at f.items_at).body.placed);
+}
