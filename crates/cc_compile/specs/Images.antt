@@ -18,6 +18,7 @@ use Rattle.image_proof.specs.ir_semantics.SourceWork.{worked_run}
 use Rattle.image_proof.specs.PlanPlaces.{places_of}
 use Rattle.image_proof.specs.Agreeing.{emission_of}
 use Rattle.image_proof.specs.Directs.{AreDirect}
+use Rattle.image_proof.specs.Leading.{AllHaveTargets}
 use Rattle.frame_layouts.specs.lay_cert.Frames.{Frame}
 use Rattle.frame_layouts.specs.declared.options.Options.{Options}
 use Rattle.frame_layouts.specs.Frames.{IsJob, job_with, layout_of, frames_of}
@@ -93,6 +94,10 @@ TreeKeepsRuns o t = (plan : DataPlan) → IsPlanOf o t plan → (input : Input) 
 -- the direct operands of each function name no word of its scalars
 abbrev pub IsDirect : FrameJobs → ProgramTree → Contents → Type 0
 IsDirect o t image = (plan : DataPlan) → IsPlanOf o t plan → AreDirect (emission_of t plan (layouts o) o.step) image
+
+-- the jumps of each function lead to first words of instructions of its range, and its calls to first words of ranges or of routines
+abbrev pub LeadsRight : FrameJobs → ProgramTree → Contents → Type 0
+LeadsRight o t image = (plan : DataPlan) → IsPlanOf o t plan → AllHaveTargets (emission_of t plan (layouts o) o.step) image
 
 -- its data need so many words, which are too many
 abbrev pub HasTooMuchData : ProgramTree → ℕ → Type 0

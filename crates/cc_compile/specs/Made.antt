@@ -4,7 +4,7 @@ use Rattle.c_tree.specs.TypedTree.{ProgramTree}
 use Rattle.c25_isa.specs.Image.{Contents}
 use Rattle.frame_layouts.specs.lay_cert.Frames.{Frame}
 use Rattle.frame_layouts.specs.declared.options.Options.{Options}
-use Rattle.cc_compile.specs.Images.{HasFrames, HasImage, KeepsRuns, TreeKeepsRuns, source_jobs}
+use Rattle.cc_compile.specs.Images.{HasFrames, HasImage, KeepsRuns, LeadsRight, TreeKeepsRuns, source_jobs}
 use Rattle.cc_compile.specs.SourceFaults.{HasProgram}
 
 pub record IsMade (o : Options) (bytes : List ℕ) (image : Contents) (frames : List Frame) : Type 0 where
@@ -17,3 +17,5 @@ pub record IsMade (o : Options) (bytes : List ℕ) (image : Contents) (frames : 
   pub tree : ∥ TreeKeepsRuns (source_jobs o program) program ∥₁
   -- and so is what its accumulator code does
   pub keeps : ∥ KeepsRuns (source_jobs o program) program ∥₁
+  -- jumps lead to first words of instructions of their ranges, and calls to those of ranges and of routines
+  pub leads : ∥ LeadsRight (source_jobs o program) program image ∥₁

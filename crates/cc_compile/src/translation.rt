@@ -12,7 +12,7 @@ ghost use Rattle.frame_layouts.specs.Frames.{AreOptions, AreLayouts, ClaimsHold,
 ghost use Rattle.image_proof.specs.Agreeing.{EndsInTime};
 ghost use Rattle.image_proof.specs.acc_select_proof.SourceSequences.{source_sequence};
 ghost use Rattle.cc_compile.specs.TranslationFaults.{Says, SaysOfPieces, SaysOfTree};
-ghost use Rattle.cc_compile.specs.Images.{AreJobs, HasFrames, HasImage, IsDirect, KeepsRuns, TreeKeepsRuns, all_pieces, jobs_at, source_jobs, with_helpers as with_called};
+ghost use Rattle.cc_compile.specs.Images.{AreJobs, HasFrames, HasImage, IsDirect, KeepsRuns, LeadsRight, TreeKeepsRuns, all_pieces, jobs_at, source_jobs, with_helpers as with_called};
 ghost use Rattle.cc_compile.specs.Walked.{AccessAs, AreWalked, AreWalkedAs};
 ghost use Rattle.cc_compile.specs.Selections.{IsSelection, IsSelectionOf, IsPlanned};
 ghost use Rattle.frame_layouts.specs.lay_cert.Frames.{Frame};
@@ -229,6 +229,8 @@ pub fn translate_by_jobs<R: Threads + Sync, G: Gate + Sync>(
     ensures walked { (t : ProgramTree) → IsSelectionOf selection.now t → IfOk result (λ made. ∥ AreWalkedAs made.image (map (source_sequence step) t.functions) made.certificate ∥₁) }
     // No direct operand of them names a word of its scalars.
     ensures direct { (t : ProgramTree) → IsSelectionOf selection.now t → IfOk result (λ made. ∥ IsDirect (jobs_at step jobs.items) t made.image ∥₁) }
+    // Jumps lead to first words of instructions of their ranges, and calls to those of ranges and of routines.
+    ensures leads { (t : ProgramTree) → IsSelectionOf selection.now t → IfOk result (λ made. ∥ LeadsRight (jobs_at step jobs.items) t made.image ∥₁) }
     // Each frame is laid out for what its job searches.
     ensures sequences { IfOk result (λ made. map (λ (f : Frame). f.seq) made.certificate ≡ map (λ job. job.sequence) jobs.items) }
     // A frame costs what it says, and where it is claimed to be optimal no layout costs less.
@@ -241,6 +243,7 @@ pub fn translate_by_jobs<R: Threads + Sync, G: Gate + Sync>(
     image_proof::images_agree();
     image_proof::programs_walk();
     image_proof::programs_are_direct();
+    image_proof::programs_lead_right();
     finished(rt, alloc, gate, step, selection, jobs)
 }
 
@@ -268,6 +271,8 @@ pub fn translate<R: Threads + Sync, G: Gate + Sync>(
     ensures walked { IfOk result (λ made. ∥ AreWalked made.image made.certificate ∥₁) }
     // No direct operand of them names a word of its scalars.
     ensures direct { IfOk result (λ made. ∥ IsDirect (source_jobs options (program_of program.now)) (program_of program.now) made.image ∥₁) }
+    // Jumps lead to first words of instructions of their ranges, and calls to those of ranges and of routines.
+    ensures leads { IfOk result (λ made. ∥ LeadsRight (source_jobs options (program_of program.now)) (program_of program.now) made.image ∥₁) }
     // Each frame is laid out for the accesses of its function in the source.
     ensures accesses { IfOk result (λ made. AccessAs options.step (program_of program.now) made.certificate) }
     // A frame costs what it says, and where it is claimed to be optimal no layout costs less.

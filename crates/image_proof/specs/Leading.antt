@@ -1,5 +1,5 @@
 -- Where the jumps and the calls of a function's range lead.
-use Rattle.std.specs.Prelude.{◌≡◌, ◌⊎◌, ℕ, ◌==◌, slice_get, Option, Some, None, IfSome, IsTrue}
+use Rattle.std.specs.Prelude.{◌≡◌, ◌⊎◌, ℕ, ◌==◌, List, slice_get, Option, Some, None, IfSome, IsTrue}
 use Rattle.std.specs.List.{list_any, AllByRecursion}
 use Rattle.acc_code.specs.declared.operand.HelperName.{HelperName}
 use Rattle.c25_isa.specs.declared.image.FunctionRange.{FunctionRange}
@@ -12,6 +12,10 @@ use Rattle.c25_code.specs.Links.{first_piece}
 use Rattle.image_proof.specs.c25_helper.Routines.{routine_piece}
 use Rattle.image_proof.specs.emit_control.Settings.{helper_name, routine_of}
 use Rattle.image_proof.specs.Emissions.{Emission}
+use Rattle.tree_code.specs.WordTree.{FunctionCode}
+use Rattle.acc_code.specs.AccTree.{FunctionItems}
+use Rattle.mem_plan.specs.declared.data_plan.FramePlan.{FramePlan}
+use Rattle.image_proof.specs.FunctionWalks.{IsFunctionOf}
 use Rattle.image_proof.specs.Keeping.{all_pieces}
 
 -- each jump of code leads to the first word of one of its instructions
@@ -46,3 +50,7 @@ pub record HasTargets (e : Emission) (image : Contents) (k : ℕ) : Type 0 where
   pub there : slice_get image.functions k ≡ Some range
   pub jumps : JumpsWithin (code_of image.words range.first range.last)
   pub calls : CallsRight e image (code_of image.words range.first range.last)
+
+-- so it is of each function
+abbrev pub AllHaveTargets : Emission → Contents → Type 0
+AllHaveTargets e image = (k : ℕ) (code : FunctionCode) (g : FunctionItems) (frame : FramePlan) (lists : List (List ℕ)) → IsFunctionOf e k code g frame lists → HasTargets e image k

@@ -4,37 +4,31 @@ ghost use Rattle.c_tree.specs.TypedTree.{ProgramTree};
 ghost use Rattle.c_tree.specs.WellFormedProgram.{IsProgram};
 ghost use Rattle.tree_code.specs.Lowered.{lowered_program};
 ghost use Rattle.c_tree.specs.TypedOfWords.{ProgramHasWords};
-ghost use Rattle.tree_code.specs.WordTree.{FunctionCode};
 ghost use Rattle.image_proof.specs.acc_select.IsSelected.{IsEmittable};
 ghost use Rattle.image_proof.specs.acc_select.Selected.{selected};
 ghost use Rattle.mem_plan.specs.declared.data_plan.DataPlan.{DataPlan};
-ghost use Rattle.mem_plan.specs.declared.data_plan.FramePlan.{FramePlan};
 ghost use Rattle.mem_plan.specs.Plan.{AreArranged, IsPlan};
-ghost use Rattle.acc_code.specs.AccTree.{FunctionItems};
 ghost use Rattle.c25_isa.specs.Image.{Contents};
 ghost use Rattle.c25_isa.specs.Pieces.{Linked, PiecesFit};
 ghost use Rattle.c25_code.specs.Links.{pieces_size};
 ghost use Rattle.image_proof.specs.Emissions.{Emission, IsEmission};
 ghost use Rattle.image_proof.specs.Agreeing.{emission_of};
-ghost use Rattle.image_proof.specs.FunctionWalks.{IsFunctionOf};
 ghost use Rattle.image_proof.specs.Keeping.{all_pieces};
-ghost use Rattle.image_proof.specs.Leading.{HasTargets};
+ghost use Rattle.image_proof.specs.Leading.{AllHaveTargets};
 
 /// In an image that is linked from the pieces of accumulator code, and from the routines that they call, each jump of a function leads to the first
 /// word of an instruction of its range, and each call to the first word of a function's range or of a routine.
 pub fn images_lead_right()
-    ensures targets { (e : Emission) (image : Contents) (k : ℕ) (code : FunctionCode) (g : FunctionItems) (frame : FramePlan) (lists : List (List ℕ)) → IsEmission e
-        → Linked (all_pieces e) image → PiecesFit (all_pieces e) → pieces_size (all_pieces e) ≤ 65536 → IsFunctionOf e k code g frame lists → HasTargets e image k }
+    ensures targets { (e : Emission) (image : Contents) → IsEmission e → Linked (all_pieces e) image → PiecesFit (all_pieces e) → pieces_size (all_pieces e) ≤ 65536 → AllHaveTargets e image }
 {
     emit_proof::marks_are_right();
 }
 
 /// So it is of a typed program of words.
 pub fn programs_lead_right()
-    ensures targets { (t : ProgramTree) (plan : DataPlan) (arrangements : List (List (List ℕ))) (step : ℕ) (image : Contents) (k : ℕ) (code : FunctionCode) (g : FunctionItems) (frame : FramePlan) (lists : List (List ℕ))
-        → IsProgram t → ProgramHasWords t → AreArranged (lowered_program t).functions arrangements → IsPlan (lowered_program t) arrangements plan → IsEmittable (lowered_program t) (selected (lowered_program t)) → step < 256
-        → Linked (all_pieces (emission_of t plan arrangements step)) image → PiecesFit (all_pieces (emission_of t plan arrangements step)) → pieces_size (all_pieces (emission_of t plan arrangements step)) ≤ 65536
-        → IsFunctionOf (emission_of t plan arrangements step) k code g frame lists → HasTargets (emission_of t plan arrangements step) image k }
+    ensures targets { (t : ProgramTree) (plan : DataPlan) (arrangements : List (List (List ℕ))) (step : ℕ) (image : Contents) → IsProgram t → ProgramHasWords t → AreArranged (lowered_program t).functions arrangements → IsPlan (lowered_program t) arrangements plan
+        → IsEmittable (lowered_program t) (selected (lowered_program t)) → step < 256 → Linked (all_pieces (emission_of t plan arrangements step)) image → PiecesFit (all_pieces (emission_of t plan arrangements step))
+        → pieces_size (all_pieces (emission_of t plan arrangements step)) ≤ 65536 → AllHaveTargets (emission_of t plan arrangements step) image }
 {
     images_lead_right();
     crate::translation_keeps_runs();

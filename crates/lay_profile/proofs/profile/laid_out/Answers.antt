@@ -2,7 +2,7 @@ use Rattle.std.proofs.Common.{◌≢◌, ◌∙◌, List, map, ap, sym, subst}
 use Rattle.acc_code.specs.AccView.{function_items_of, functions_of}
 use Rattle.acc_code.specs.declared.program.AccFunction.{AccFunction}
 use Rattle.lay_model.specs.Sequences.{Sequence}
-use Rattle.cc_compile.specs.Images.{FrameJobs, HasFrames, HasImage, IsDirect, KeepsRuns, TreeKeepsRuns}
+use Rattle.cc_compile.specs.Images.{FrameJobs, HasFrames, HasImage, IsDirect, KeepsRuns, LeadsRight, TreeKeepsRuns}
 use Rattle.cc_compile.specs.TranslationFaults.{Says}
 use Rattle.cc_compile.specs.frame_layouts.Frames.{job_with}
 use Rattle.cc_compile.specs.frame_layouts.lay_par.Jobs.{Job}
@@ -103,5 +103,6 @@ returns-clause-laid_out g c = λ t is.
       in_time = c.in_ok-translated.ensures.in_time t is;
       walked = c.in_ok-translated.ensures.walked t is;
       direct = subst (λ (x : FrameJobs). ∥ IsDirect x t made.image ∥₁) kept (c.in_ok-translated.ensures.direct t is);
+      leads = subst (λ (x : FrameJobs). ∥ LeadsRight x t made.image ∥₁) kept (c.in_ok-translated.ensures.leads t is);
       is_entered = c.in_ok-recorded.ensures.entered ∙ ap (entered_from r 0) (seqs ∙ alike);
     }
