@@ -15,13 +15,12 @@ use std::alloc::Global;
 use std::thread::{Threads, join};
 use word_base::{Gate, NoMemory};
 
-/// Pieces of a round, from the first up to before the end, each with the same number of marks that it may write, and how many of them may run at once.
+/// Pieces of a round, from the first up to before the end, each with the same number of marks that it may write.
 #[derive(Clone, Copy)]
 pub(crate) struct Pieces {
     pub(crate) quota: u32,
     pub(crate) first: u8,
     pub(crate) end: u8,
-    pub(crate) threads: u8,
 }
 
 /// The ends of the pieces, each with the same best arrangement at first. The first piece is one half of a join, and those behind it are the other one. The
@@ -43,7 +42,7 @@ pub(crate) fn run_pieces<R: Threads + Sync, G: Gate + Sync>(
     requires best { IsBest seq.now best.now }
     ensures { IfOk result (λ ends. Ran root.now.position.registers seq.now pieces.quota best.now.arrangement pieces.first (pieces.end - pieces.first) ends.items) }
 {
-    if pieces.threads < 2 || pieces.end - pieces.first < 2 {
+    if pieces.end - pieces.first < 2 {
         return run_in_turn(alloc, gate, seq, root, pieces, best);
     }
     let second = pieces.first + 1;
@@ -53,7 +52,6 @@ pub(crate) fn run_pieces<R: Threads + Sync, G: Gate + Sync>(
     };
     let upper = Pieces {
         first: second,
-        threads: pieces.threads - 1,
         ..pieces
     };
     let (first, others) = join(

@@ -12,9 +12,6 @@ use std::alloc::Global;
 use std::thread::Threads;
 use word_base::{Gate, NoMemory};
 
-/// With so few scalars the pieces of a round end sooner than a thread for each of them begins.
-const FEW_SCALARS: u8 = 6;
-
 /// What each job's search answers, in the order of the jobs. The pieces of a round run in threads of their own where those can be made,
 /// and the gate sees each piece begin and end. The answers, logs included, are those of `search`, whatever the threads do.
 pub fn search_all<R: Threads + Sync, G: Gate + Sync>(
@@ -97,7 +94,6 @@ fn search_pieces<R: Threads + Sync, G: Gate + Sync>(
 {
     let root = Root::new(alloc, seq, registers)?;
     let pieces = seq.scalars();
-    let threads = if pieces <= FEW_SCALARS { 2 } else { 4 };
     let mut best = start;
     let mut ends = Vec::new(alloc);
     for turn in 0..pieces.div_ceil(4) {
@@ -106,7 +102,6 @@ fn search_pieces<R: Threads + Sync, G: Gate + Sync>(
             quota,
             first,
             end: round_end(first, pieces),
-            threads,
         };
         let mut more = run_pieces(rt, alloc, gate, seq, &root, round, &best)?;
         best.take(alloc, &more)?;

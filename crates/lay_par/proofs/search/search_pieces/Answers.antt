@@ -1,5 +1,5 @@
 -- Each round is one of the definition's, and behind the last one no piece is left.
-use Rattle.std.proofs.Common.{◌≡◌, ◌≤◌, ◌+◌, ◌-◌, ◌*◌, min, ◌++◌, ◌∷◌, [], length, fold, ap, ap₂, sym, subst, ◌∙◌, arith, length-append}
+use Rattle.std.proofs.Common.{◌≡◌, ◌≤◌, ◌+◌, ◌-◌, ◌*◌, ◌++◌, ◌∷◌, [], length, fold, ap, ap₂, sym, subst, ◌∙◌, arith, length-append}
 use Rattle.lay_tree.specs.declared.answer.Mark.TheVariants.{Branched}
 use Rattle.lay_tree.specs.declared.answer.Answer.{Answer}
 use Rattle.lay_tree.specs.Tree.{root, children}
