@@ -1,5 +1,5 @@
 -- Pairs of neighbours, access by access.
-use Rattle.std.proofs.Common.{◌≡◌, ℕ, ◌+◌, ◌-◌, ◌*◌, ◌^◌, ◌<◌, ◌≤◌, Bool, true, false, cond, List, [], ◌∷◌, ◌++◌, length, take, drop, get_or, filter, sum_by, Option, Some, None, refl, ap, sym, ◌∙◌, arith, if◌then◌else◌, lit≤, zero-le, append-nil, true≢false, length-take, length-append, replicate, ⊎_elim}
+use Rattle.std.proofs.Common.{◌≡◌, ℕ, ◌+◌, ◌-◌, ◌*◌, ◌^◌, ◌<◌, ◌≤◌, Bool, true, false, cond, List, [], ◌∷◌, ◌++◌, length, take, drop, get_or, filter, sum_by, Option, Some, None, refl, ap, sym, ◌∙◌, arith, if◌then◌else◌, lit≤, zero-le, append-nil, true≢false, length-take, length-take-le, subst, length-append, replicate, ⊎_elim}
 use Rattle.std.specs.Prelude.{All}
 use Rattle.std.specs.List.{last_or, list_any}
 use Rattle.std.proofs.Math.Nat.{mul-le-mul_left}
@@ -7,13 +7,13 @@ use Rattle.std.proofs.Common.{ap₂, ne_eqb, ◌==◌}
 use Rattle.std.proofs.Math.Path.{fun_ext}
 use Rattle.std.proofs.lemmas.Bool.Decides.{nat_tests}
 use Rattle.std.proofs.lemmas.Bool.{cases_lt}
-use Rattle.std.proofs.lemmas.List.{get_or_append_left, get_or-append-add, get_or-drop, get_or-replicate, length-replicate, length-drop}
+use Rattle.std.proofs.lemmas.List.{get_or_append_left, get_or-append-add, get_or-drop, get_or-take, get_or-replicate, length-replicate, length-drop}
 use Rattle.std.proofs.lemmas.List.Elements.{filter_more, filter_passes, All-head, All-tail, All-weaker, All-filter, All-take}
 use Rattle.std.proofs.lemmas.List.Sums.{length-filter, count_by-le-length, sum_by_more, sum_by-le-sum_by, sum_by-cons}
 use Rattle.lay_model.specs.Sequences.{Sequence, Block, IsSequence, counted}
 use Rattle.lay_cost.specs.Weights.{is_pair, times_beside, weight_at, weight_between}
 use Rattle.lay_cost.proofs.Blocks.{get_or_same}
-use Rattle.lay_cost.specs.Memory.{pairs_with_last, HasNext, HasBlock, HasRows, AreSmall}
+use Rattle.lay_cost.specs.Memory.{pairs_with_last, HasNext, HasBlock, HasCorner, AreSmall}
 
 pub times_push : (x y : ℕ) (l : List ℕ) (c : ℕ) → times_beside x y (l ++ (c ∷ [])) ≡ times_beside x y l + pairs_with_last x y (last_or None l) c
 times_push x y [] c = refl
@@ -81,8 +81,8 @@ pub record AreSoFar (set : ℕ → Bool) (bs : List Block) (table : List ℕ) : 
   pub size : length table ≡ 4096
   pub weights : (x y : ℕ) → x < 64 → y < 64 → weight_at table x y ≡ sum_by (λ b. b.weight * times_beside x y (filter set b.accesses)) bs
 
-pub none_so_far : (set : ℕ → Bool) (table : List ℕ) → HasRows 0 table → AreSoFar set [] table
-none_so_far set table h = record { size = h.size; weights = λ x y a b. h.others x y a b zero-le }
+pub none_so_far : (set : ℕ → Bool) (table : List ℕ) → HasCorner 0 table → AreSoFar set [] table
+none_so_far set table h = record { size = h.size; weights = λ x y a b. h.below x y a b zero-le }
 
 pub more_blocks : (set : ℕ → Bool) (bs : List Block) (i : ℕ) (d : Block) (old new : List ℕ) → i < length bs → AreSoFar set (take i bs) old → length new ≡ length old → HasBlock old new (filter set (get_or bs i d).accesses) (get_or bs i d).weight → AreSoFar set (take (i + 1) bs) new
 more_blocks set bs i d old new lt h same block = record {
@@ -154,34 +154,113 @@ unknown_weight set x y n (b ∷ bs) le all =
     let kept = All-filter set (λ a. (a == x) ≡ false) b.accesses (unknown x n b.accesses le (All-head Below b bs all)) in
     omega (arith, sum_by-cons (λ c. c.weight * times_beside x y (filter set c.accesses)) b bs, ap (λ t. b.weight * t) (times_absent x y (filter set b.accesses) kept), unknown_weight set x y n bs le (All-tail Below b bs all))
 
-pub rows_so_far : (seq : Sequence) (set : ℕ → Bool) (i : ℕ) (table : List ℕ) → IsSequence seq → AreSoFar set (take i seq.blocks) table → HasRows seq.scalars table
-rows_so_far seq set i table is h = record {
-  size = h.size;
-  few = is.few;
-  others = λ x y a b le. h.weights x y a b ∙ unknown_weight set x y seq.scalars (take i seq.blocks) le (All-take (λ b. All (λ s. s < seq.scalars) b.accesses) i seq.blocks is.scalars);
+unknown_beside : (set : ℕ → Bool) (x y n : ℕ) (bs : List Block) → n ≤ y → All (λ b. All (λ s. s < n) b.accesses) bs → sum_by (λ b. b.weight * times_beside x y (filter set b.accesses)) bs ≡ 0
+unknown_beside set x y n bs le all =
+    weights_same (λ b. b.weight * times_beside x y (filter set b.accesses)) (λ b. b.weight * times_beside y x (filter set b.accesses)) bs (λ b. ap (λ t. b.weight * t) (times_turned x y (filter set b.accesses)))
+    ∙ unknown_weight set y x n bs le all
+
+pub corner_so_far : (seq : Sequence) (set : ℕ → Bool) (i : ℕ) (table : List ℕ) → IsSequence seq → AreSoFar set (take i seq.blocks) table → HasCorner seq.scalars table
+corner_so_far seq set i table is h =
+    let scalars = All-take (λ b. All (λ s. s < seq.scalars) b.accesses) i seq.blocks is.scalars in record {
+      size = h.size;
+      few = is.few;
+      below = λ x y a b le. h.weights x y a b ∙ unknown_weight set x y seq.scalars (take i seq.blocks) le scalars;
+      beside = λ x y a b le. h.weights x y a b ∙ unknown_beside set x y seq.scalars (take i seq.blocks) le scalars;
+    }
+
+no_weights : (table : List ℕ) → table ≡ replicate 4096 0 → (x y : ℕ) → weight_at table x y ≡ 0
+no_weights table is x y = ap (λ t. weight_at t x y) is ∙ get_or_same 0 4096 (x * 64 + y)
+
+pub zero_corner : (table : List ℕ) → table ≡ replicate 4096 0 → HasCorner 0 table
+zero_corner table is = record {
+  size = ap length is ∙ length-replicate {A = ℕ} 4096 0;
+  few = zero-le;
+  below = λ x y a b le. no_weights table is x y;
+  beside = λ x y a b le. no_weights table is x y;
 }
 
-pub zero_rows : (table : List ℕ) → table ≡ replicate 4096 0 → HasRows 0 table
-zero_rows table is = record { size = ap length is ∙ length-replicate {A = ℕ} 4096 0; few = zero-le; others = λ x y a b le. ap (λ t. weight_at t x y) is ∙ get_or_same 0 4096 (x * 64 + y) }
+-- the weights of so many rows are 0
+pub record AreClearTo (row scalars : ℕ) (table : List ℕ) : Type 0 where
+  pub corner : HasCorner scalars table
+  pub above : (x y : ℕ) → x < 64 → y < 64 → x < row → weight_at table x y ≡ 0
 
--- what stands in the first rows is replaced by 0
-pub cleared : (rows : ℕ) (table : List ℕ) → HasRows rows table → HasRows 0 (replicate (rows * 64) 0 ++ drop (rows * 64) table)
-cleared rows table h = record {
-  size = omega (arith, length-append (replicate (rows * 64) 0) (drop (rows * 64) table), length-replicate {A = ℕ} (rows * 64) 0, length-drop (rows * 64) table, h.size, h.few);
+-- so many numbers from a place on are replaced by 0
+module _ (first count : ℕ) (table : List ℕ) (fits : first + count ≤ length table) where
+  abbrev zeros : List ℕ
+  zeros = replicate count 0
+
+  abbrev rest : List ℕ
+  rest = drop count (drop first table)
+
+  abbrev cleared : List ℕ
+  cleared = take first table ++ (zeros ++ rest)
+
+  first_is : length (take first table) ≡ first
+  first_is = length-take-le first table (omega (arith, fits))
+
+  cleared_size : length cleared ≡ length table
+  cleared_size = omega (arith, fits, first_is, length-append (take first table) (zeros ++ rest), length-append zeros rest, length-replicate {A = ℕ} count 0, length-drop count (drop first table), length-drop first table)
+
+  before : (i : ℕ) → i < first → get_or cleared i 0 ≡ get_or table i 0
+  before i lt = get_or_append_left (take first table) (zeros ++ rest) 0 i (omega (arith, lt, first_is)) ∙ get_or-take first table i 0 lt
+
+  among : (j : ℕ) → j < count → get_or cleared (first + j) 0 ≡ 0
+  among j lt =
+      ap (λ n. get_or cleared (n + j) 0) (sym first_is)
+      ∙ get_or-append-add (take first table) (zeros ++ rest) j 0
+      ∙ get_or_append_left zeros rest 0 j (omega (arith, lt, length-replicate {A = ℕ} count 0))
+      ∙ get_or-replicate count j 0 0 lt
+
+  following : (j : ℕ) → get_or cleared (first + (count + j)) 0 ≡ get_or table (first + (count + j)) 0
+  following j =
+      ap (λ n. get_or cleared (n + (count + j)) 0) (sym first_is)
+      ∙ get_or-append-add (take first table) (zeros ++ rest) (count + j) 0
+      ∙ ap (λ n. get_or (zeros ++ rest) (n + j) 0) (sym (length-replicate {A = ℕ} count 0))
+      ∙ get_or-append-add zeros rest j 0
+      ∙ get_or-drop count (drop first table) j 0
+      ∙ get_or-drop first table (count + j) 0
+
+-- one more row is clear
+pub row_cleared : (row scalars first count : ℕ) (table fill : List ℕ) → AreClearTo row scalars table → row < scalars → first ≡ row * 64 → count ≡ scalars → fill ≡ replicate count 0
+    → AreClearTo (row + 1) scalars (take first table ++ (fill ++ drop count (drop first table)))
+row_cleared row scalars first count table fill h lt at all is =
+    subst (λ l. AreClearTo (row + 1) scalars (take first table ++ (l ++ drop count (drop first table)))) (sym is) (record {
+      corner = record {
+        size = cleared_size first count table fits ∙ h.corner.size;
+        few = h.corner.few;
+        below = λ x y a b le. kept x y a b (h.corner.below x y a b le);
+        beside = λ x y a b le. kept x y a b (h.corner.beside x y a b le);
+      };
+      above = λ x y a b le. ⊎_elim (λ l. kept x y a b (h.above x y a b l)) (λ e. in_row x y a b (omega (arith, e, le))) (cases_lt x row);
+    })
+  where
+    fits : first + count ≤ length table
+    fits = omega (arith, at, all, lt, h.corner.few, h.corner.size)
+
+    now : List ℕ
+    now = cleared first count table fits
+
+    kept : (x y : ℕ) → x < 64 → y < 64 → weight_at table x y ≡ 0 → weight_at now x y ≡ 0
+    kept x y a b zero = ⊎_elim (λ l. before first count table fits (x * 64 + y) l ∙ zero) (λ g. from g) (cases_lt (x * 64 + y) first)
+      where
+        from : first ≤ x * 64 + y → weight_at now x y ≡ 0
+        from g = ⊎_elim
+            (λ l. let i : x * 64 + y ≡ first + (x * 64 + y - first) = omega (arith, g) in ap (λ n. get_or now n 0) i ∙ among first count table fits (x * 64 + y - first) l)
+            (λ more. let i : x * 64 + y ≡ first + (count + (x * 64 + y - first - count)) = omega (arith, g, more) in ap (λ n. get_or now n 0) i ∙ following first count table fits (x * 64 + y - first - count) ∙ ap (λ n. get_or table n 0) (sym i) ∙ zero)
+            (cases_lt (x * 64 + y - first) count)
+
+    in_row : (x y : ℕ) → x < 64 → y < 64 → x ≡ row → weight_at now x y ≡ 0
+    in_row x y a b e = ⊎_elim (λ l. ap (λ i. get_or now i 0) (let i : x * 64 + y ≡ first + y = omega (arith, e, at) in i) ∙ among first count table fits y (omega (arith, l, all)))
+        (λ g. kept x y a b (h.corner.beside x y a b g)) (cases_lt y scalars)
+
+-- with all rows of the corner no weight is above 0
+pub all_cleared : (scalars : ℕ) (table : List ℕ) → AreClearTo scalars scalars table → HasCorner 0 table
+all_cleared scalars table h = record {
+  size = h.corner.size;
   few = zero-le;
-  others = λ x y a b le. ⊎_elim (front x y b) (back x y a b) (cases_lt x rows);
+  below = λ x y a b le. none x y a b;
+  beside = λ x y a b le. none x y a b;
 }
   where
-    now : List ℕ
-    now = replicate (rows * 64) 0 ++ drop (rows * 64) table
-
-    front : (x y : ℕ) → y < 64 → x < rows → weight_at now x y ≡ 0
-    front x y b lt =
-        let within : x * 64 + y < rows * 64 = omega (arith, b, lt) in
-        get_or_append_left (replicate (rows * 64) 0) (drop (rows * 64) table) 0 (x * 64 + y) (omega (arith, within, length-replicate {A = ℕ} (rows * 64) 0)) ∙ get_or-replicate (rows * 64) (x * 64 + y) 0 0 within
-
-    back : (x y : ℕ) → x < 64 → y < 64 → rows ≤ x → weight_at now x y ≡ 0
-    back x y a b le =
-        let behind : x * 64 + y ≡ length (replicate {A = ℕ} (rows * 64) 0) + ((x - rows) * 64 + y) = omega (arith, le, length-replicate {A = ℕ} (rows * 64) 0) in
-        let there : rows * 64 + ((x - rows) * 64 + y) ≡ x * 64 + y = omega (arith, le) in
-        ap (λ i. get_or now i 0) behind ∙ get_or-append-add (replicate (rows * 64) 0) (drop (rows * 64) table) ((x - rows) * 64 + y) 0 ∙ get_or-drop (rows * 64) table ((x - rows) * 64 + y) 0 ∙ ap (λ i. get_or table i 0) there ∙ h.others x y a b le
+    none : (x y : ℕ) → x < 64 → y < 64 → weight_at table x y ≡ 0
+    none x y a b = ⊎_elim (λ l. h.above x y a b l) (λ g. h.corner.below x y a b g) (cases_lt x scalars)

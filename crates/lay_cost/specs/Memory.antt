@@ -93,11 +93,12 @@ pub record ArePlaces (closed : List (List ℕ)) (open_list : List ℕ) (p : Plac
   pub register : p.register ≡ length closed
   pub length : p.length ≡ length open_list
 
--- a table of weights, of which only so many rows may have numbers above 0
-pub record HasRows (rows : ℕ) (table : List ℕ) : Type 0 where
+-- a table of weights, of which only those of so many scalars may be above 0
+pub record HasCorner (scalars : ℕ) (table : List ℕ) : Type 0 where
   pub size : length table ≡ 4096
-  pub few : rows ≤ 64
-  pub others : (x y : ℕ) → x < 64 → y < 64 → rows ≤ x → weight_at table x y ≡ 0
+  pub few : scalars ≤ 64
+  pub below : (x y : ℕ) → x < 64 → y < 64 → scalars ≤ x → weight_at table x y ≡ 0
+  pub beside : (x y : ℕ) → x < 64 → y < 64 → scalars ≤ y → weight_at table x y ≡ 0
 
 -- a table of weights with more for one pair
 abbrev pub HasPair : List ℕ → List ℕ → ℕ → ℕ → ℕ → Type 0

@@ -4,7 +4,7 @@ ghost use Rattle.std.specs.List.{list_any};
 ghost use Rattle.lay_cost.specs.Restricted as sets;
 ghost use Rattle.lay_cost.specs.Restricted.{in_bits};
 ghost use Rattle.lay_cost.specs.Weights.{AreWeights, weight_at};
-ghost use Rattle.lay_cost.specs.Memory.{HasPair, HasNext, HasBlock, HasRows, AreSmall};
+ghost use Rattle.lay_cost.specs.Memory.{HasPair, HasNext, HasBlock, HasCorner, AreSmall};
 
 use lay_model::{MOST_SCALARS, Sequence};
 use std::alloc::Global;
@@ -17,19 +17,19 @@ const TABLE: usize = 4096;
 #[derive(Drop)]
 pub struct WeightTable {
     weights: Vec<u64>,
-    /// How many rows may have numbers above 0. The others needn't be cleared.
-    rows: u8,
+    /// Of how many scalars weights may be above 0. The others needn't be cleared.
+    scalars: u8,
 }
 
 impl Model for WeightTable {
     ghost use Rattle.std.specs.Prelude.{List, ℕ};
-    ghost use Rattle.lay_cost.specs.Memory.{HasRows};
+    ghost use Rattle.lay_cost.specs.Memory.{HasCorner};
 
     ghost Value = { List ℕ };
 
     ghost view = { λ t. t.weights.items };
 
-    ghost invariant = { λ t. HasRows t.rows t.weights.items };
+    ghost invariant = { λ t. HasCorner t.scalars t.weights.items };
 }
 
 /// The table of a sequence and of a set of its scalars, given by their bits.
@@ -48,7 +48,7 @@ impl WeightTable {
     {
         Ok(WeightTable {
             weights: vec![in alloc; 0; TABLE]?,
-            rows: 0,
+            scalars: 0,
         })
     }
 
@@ -67,7 +67,7 @@ impl WeightTable {
     {
         Ok(WeightTable {
             weights: self.weights.to_vec(alloc)?,
-            rows: self.rows,
+            scalars: self.scalars,
         })
     }
 
@@ -75,9 +75,9 @@ impl WeightTable {
     pub fn refill(&mut self, seq: &Sequence, set: u64)
         ensures { AreWeights seq.now (in_bits set) self.new }
     {
-        clear(&mut self.weights, self.rows);
+        clear(&mut self.weights, self.scalars);
         add_blocks(&mut self.weights, seq, set);
-        self.rows = seq.scalars();
+        self.scalars = seq.scalars();
     }
 }
 
@@ -129,19 +129,21 @@ fn place(a: u8, b: u8) -> usize
     usize::from(a) * 64 + usize::from(b)
 }
 
-// No row has a number above 0 then, of which so many may have had some.
-fn clear(weights: &mut [u64], rows: u8)
-    requires { HasRows rows weights.old }
-    ensures { HasRows 0 weights.new }
+// No weight is above 0 then, where only those of so many scalars were.
+fn clear(weights: &mut [u64], scalars: u8)
+    requires { HasCorner scalars weights.old }
+    ensures { HasCorner 0 weights.new }
 {
-    weights[..place(rows, 0)].fill(0);
+    for row in 0..scalars {
+        weights[place(row, 0)..place(row, scalars)].fill(0);
+    }
 }
 
 // The neighbours of all blocks.
 fn add_blocks(weights: &mut [u64], seq: &Sequence, set: u64)
-    requires { HasRows 0 weights.old }
+    requires { HasCorner 0 weights.old }
     ensures weights { AreWeights seq.now (in_bits set) weights.new }
-    ensures rows { HasRows seq.now.scalars weights.new }
+    ensures corner { HasCorner seq.now.scalars weights.new }
 {
     let few = seq.scalars() <= MOST_SCALARS;
     prove!(few);
