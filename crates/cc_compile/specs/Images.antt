@@ -95,9 +95,11 @@ TreeKeepsRuns o t = (plan : DataPlan) → IsPlanOf o t plan → (input : Input) 
 abbrev pub IsDirect : FrameJobs → ProgramTree → Contents → Type 0
 IsDirect o t image = (plan : DataPlan) → IsPlanOf o t plan → AreDirect (emission_of t plan (layouts o) o.step) image
 
--- the jumps of each function lead to first words of instructions of its range, and its calls to first words of ranges or of routines
+-- the jumps of each function lead to first words of instructions of its range, and its calls to first words of ranges or of routines, by whatever
+-- places its pieces are linked
 abbrev pub LeadsRight : FrameJobs → ProgramTree → Contents → Type 0
-LeadsRight o t image = (plan : DataPlan) → IsPlanOf o t plan → AllHaveTargets (emission_of t plan (layouts o) o.step) image
+LeadsRight o t image = (plan : DataPlan) → IsPlanOf o t plan → (linked : Linked (all_pieces o (lowered_program t) plan) image)
+    → AllHaveTargets (emission_of t plan (layouts o) o.step) (called_helper_pieces (own_pieces o (lowered_program t) plan)) linked.place image
 
 -- its data need so many words, which are too many
 abbrev pub HasTooMuchData : ProgramTree → ℕ → Type 0

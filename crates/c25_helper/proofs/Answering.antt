@@ -1,31 +1,19 @@
--- The marks of each piece are fit: they differ, and a word stands behind each.
-use Rattle.std.proofs.Common.{◌≡◌, ℕ, zero, suc, ◌+◌, ◌≤◌, Bool, true, false, ◌||◌, ◌&&◌, ◌⊎◌, inl, inr, ⊎_elim, List, [], ◌∷◌, ◌++◌, length, map, Some, refl, ap, arith}
-use Rattle.std.specs.Prelude.{◌==◌, nat_le, not, filter, slice_get, if◌then◌else◌}
-use Rattle.std.specs.List.{AllByRecursion}
-use Rattle.std.proofs.lemmas.Bool.{eq-eqb, leb-true, and_left, and_right}
-use Rattle.c_tree.specs.SourceRun.{main_name}
-use Rattle.c_tree.specs.TypedTree.{ObjectTree}
-use Rattle.tree_code.specs.WordTree.{FunctionCode}
-use Rattle.acc_code.specs.AccTree.{FunctionItems}
-use Rattle.acc_code.specs.Emittable.{IsPlaced}
-use Rattle.mem_plan.specs.declared.data_plan.DataPlan.{DataPlan}
-use Rattle.mem_plan.specs.declared.data_plan.FramePlan.{FramePlan}
+-- Our own routines answer the calls of whatever pieces call them.
+use Rattle.std.proofs.Common.{◌≡◌, inl, inr, ℕ, ◌≤◌, Bool, true, false, not, ◌&&◌, ◌||◌, List, [], ◌∷◌, Some, refl, sym, ap, ◌∙◌, subst, arith}
+use Rattle.std.specs.Prelude.{◌==◌, nat_le, filter, if◌then◌else◌}
+use Rattle.std.specs.Str.{bytes_eq}
+use Rattle.std.proofs.lemmas.Bool.{eq-eqb, leb-true}
+use Rattle.std.proofs.lemmas.Option.{same_Some}
 use Rattle.c25_isa.specs.declared.piece.PieceItem.{PieceItem}
 use Rattle.c25_isa.specs.declared.piece.PieceItem.TheVariants.{Do, Mark, Jump, CallTo}
-use Rattle.c25_isa.specs.declared.instruction.Instr.{Instr}
-use Rattle.c25_isa.specs.declared.instruction.Instr.TheVariants.{Ssxm}
 use Rattle.c25_isa.specs.Pieces.{Piece, items_size}
-use Rattle.c25_code.specs.Items.{plain_items}
-use Rattle.c25_code.specs.Links.{IsMarkOf, MarksDiffer, MarksAtWords, MarksAreFit, PieceIsFit}
-use Rattle.c25_code.specs.Startups.{startup_items}
-use Rattle.c25_helper.specs.Routines.{routine_items, routine_piece, helper_pieces}
+use Rattle.c25_code.specs.Links.{IsMarkOf, MarksDiffer, MarksAtWords, MarksAreFit, PieceIsFit, first_piece}
 use Rattle.c25_helper.specs.declared.routine.Routine.{Routine}
 use Rattle.c25_helper.specs.declared.routine.Routine.TheVariants.{DivInt, DivUnsigned, RemInt, RemUnsigned, ShrInt, ShrUnsigned}
-use Rattle.frame_emit.specs.Emitted.{setting_of, function_piece, function_pieces}
-use Rattle.frame_emit.specs.Startup.{startup_piece, statics_items, fillings_code, static_words}
-use Rattle.emit_proof.proofs.Entries.{split_mark, plain_mark}
-use Rattle.emit_proof.proofs.Pieces.{piece_once, piece_words}
-use Rattle.emit_proof.proofs.Words.{piece_has_word}
+use Rattle.c25_helper.specs.Routines.{routine_name, routine_items, routine_piece, helper_pieces}
+use Rattle.c25_helper.specs.Calls.{pieces_call, called_helper_pieces}
+use Rattle.c25_helper.specs.Answering.{AnswerFor, AnswersCalls, AllAnswer}
+use Rattle.c25_helper.proofs.HelperPieces.{each_answers}
 
 -- the same as tests, by which constant items are told at once
 abbrev has_mark : ℕ → List PieceItem → Bool
@@ -94,29 +82,38 @@ routine_fits RemUnsigned = told (routine_items RemUnsigned) refl (omega arith)
 routine_fits ShrInt = told (routine_items ShrInt) refl (omega arith)
 routine_fits ShrUnsigned = told (routine_items ShrUnsigned) refl (omega arith)
 
-pub routines_fit : AllByRecursion PieceIsFit helper_pieces
-routines_fit = (routine_fits DivInt, (routine_fits DivUnsigned, (routine_fits RemInt, (routine_fits RemUnsigned, (routine_fits ShrInt, (routine_fits ShrUnsigned, tt))))))
-
--- lists of pieces
-pub both_fit : (ps qs : List Piece) → AllByRecursion PieceIsFit ps → AllByRecursion PieceIsFit qs → AllByRecursion PieceIsFit (ps ++ qs)
-both_fit [] qs h k = k
-both_fit (p ∷ ps) qs h k = (h.0, both_fit ps qs h.1 k)
-
-pub chosen_fit : (test : Piece → Bool) (ps : List Piece) → AllByRecursion PieceIsFit ps → AllByRecursion PieceIsFit (filter test ps)
-chosen_fit test [] h = tt
-chosen_fit test (p ∷ ps) h = by (test p) (chosen_fit test ps h.1)
+-- a piece that is kept by a choice of pieces is the first of its name there too
+found_chosen : (test : Piece → Bool) (ps : List Piece) (name : List ℕ) (p : Piece) → first_piece ps name ≡ Some p → test p ≡ true → first_piece (filter test ps) name ≡ Some p
+found_chosen test [] name p is chosen = absurd cc
+found_chosen test (x ∷ xs) name p is chosen = by (bytes_eq x.name name) refl is (test x) refl (found_chosen test xs name p)
   where
-    by : (b : Bool) → AllByRecursion PieceIsFit (filter test ps) → AllByRecursion PieceIsFit (if b then p ∷ filter test ps else filter test ps)
-    by true rest = (h.0, rest)
-    by false rest = rest
+    by : (b : Bool) → bytes_eq x.name name ≡ b → (if b then Some x else first_piece xs name) ≡ Some p → (t : Bool) → test x ≡ t → (first_piece xs name ≡ Some p → test p ≡ true → first_piece (filter test xs) name ≡ Some p)
+        → first_piece (if t then x ∷ filter test xs else filter test xs) name ≡ Some p
+    by true e at true f rest = ap (λ b. if b then Some x else first_piece (filter test xs) name) e ∙ at
+    by true e at false f rest = absurd (not_both (sym f ∙ ap test (same_Some x p at) ∙ chosen))
+      where
+        not_both : false ≡ true → ⊥
+        not_both q = cc
+    by false e at true f rest = ap (λ b. if b then Some x else first_piece (filter test xs) name) e ∙ rest at chosen
+    by false e at false f rest = rest at chosen
 
--- a function's piece
-pub functions_fit : (plan : DataPlan) (step : ℕ) (parameters names : List (List ℕ)) (fs : List FunctionCode) (gs : List FunctionItems) (frames : List FramePlan) (arrangements : List (List (List ℕ)))
-    → ((k : ℕ) (g : FunctionItems) → slice_get gs k ≡ Some g → IsPlaced false false false g.body) → AllByRecursion PieceIsFit (function_pieces plan step parameters names fs gs frames arrangements)
-functions_fit plan step parameters names [] gs frames arrangements placed = tt
-functions_fit plan step parameters names (f ∷ fs) [] frames arrangements placed = tt
-functions_fit plan step parameters names (f ∷ fs) (g ∷ gs) [] arrangements placed = tt
-functions_fit plan step parameters names (f ∷ fs) (g ∷ gs) (frame ∷ frames) [] placed = tt
-functions_fit plan step parameters names (f ∷ fs) (g ∷ gs) (frame ∷ frames) (lists ∷ rest) placed =
-    let m = setting_of plan step parameters names f frame lists in
-    ((piece_once m g.body (placed 0 g refl), piece_words m g.body, piece_has_word m g.body), functions_fit plan step parameters names fs gs frames rest (λ k. placed (suc k)))
+-- routines
+routine_first : (r : Routine) → first_piece helper_pieces (routine_name r) ≡ Some (routine_piece r)
+routine_first DivInt = refl
+routine_first DivUnsigned = refl
+routine_first RemInt = refl
+routine_first RemUnsigned = refl
+routine_first ShrInt = refl
+routine_first ShrUnsigned = refl
+
+answer : (r : Routine) (pieces : List Piece) → first_piece pieces (routine_name r) ≡ Some (routine_piece r) → AnswerFor r pieces
+answer r pieces there = record { piece = routine_piece r; there = there; fit = routine_fits r; result = each_answers r }
+
+pub all_answer : (pieces : List Piece) → pieces ≡ helper_pieces → AllAnswer pieces
+all_answer pieces are = subst AllAnswer (sym are) (λ r. answer r helper_pieces (routine_first r))
+
+pub called_answer : (pieces : List Piece) → AnswersCalls pieces (called_helper_pieces pieces)
+called_answer pieces r called = answer r (called_helper_pieces pieces) (found_chosen (λ helper. pieces_call helper.name pieces) helper_pieces (routine_name r) (routine_piece r) (routine_first r) called)
+
+pub same_answer : (pieces routines : List Piece) → routines ≡ called_helper_pieces pieces → AnswersCalls pieces routines
+same_answer pieces routines are = subst (AnswersCalls pieces) (sym are) (called_answer pieces)
