@@ -1,6 +1,7 @@
 -- The code of assignments: to a name, to what a pointer points to at once, and through a temporary where the value has to be computed first.
 use Rattle.std.proofs.Common.{◌≡◌, ℕ, suc, ◌+◌, ◌<◌, ◌≤◌, true, List, ◌∷◌, length, Option, Some, refl, sym, ap, ◌∙◌, subst, arith}
 use Rattle.c_tree.specs.declared.program.VarRef.{VarRef}
+use Rattle.c_tree.specs.declared.program.VarRef.TheVariants as name
 use Rattle.acc_code.specs.declared.operand.AccOperand.{AccOperand}
 use Rattle.acc_code.specs.declared.operand.AccOperand.TheVariants as operand
 use Rattle.acc_code.specs.AccTree.{ItemList, end, ◌▸◌, ◌⧺◌}
@@ -24,10 +25,15 @@ use Rattle.acc_select_proof.proofs.Sides.{Side, on, straight, went, paid, spared
 use Rattle.acc_select_proof.proofs.Words.{has_low}
 use Rattle.acc_select_proof.proofs.Loading.{LoadedFrom, word_loaded}
 use Rattle.acc_select_proof.proofs.Following.{wide_sign, InAcc, Becomes, Saves, brought, saves, in_turn, so_that}
-use Rattle.acc_select_proof.proofs.Valuing.{after_after, after_give, same_meaning, Val, FoundVal, WordKeeps, EffectKeeps, IntoKeeps, PointedAt, PointKeeps, CodeKeeps, loaded_keeps, loaded_val}
+use Rattle.acc_select_proof.proofs.Valuing.{after_after, after_give, same_meaning, Val, FoundVal, WordKeeps, EffectKeeps, IsSure, IntoKeeps, PointedAt, PointKeeps, CodeKeeps, loaded_keeps, loaded_val}
 use Rattle.acc_select_proof.proofs.Coding.{IsInside, word_code}
 use Rattle.acc_select_proof.proofs.SelectForming.{found_wide}
 use Rattle.acc_select_proof.proofs.Places.{name_writes, pointed_writes, name_light, stored_val, writes_take, Still, on_still, ShapeKeeps, waits}
+
+name_sure : (v : VarRef) → IsSure (place_of v)
+name_sure (name.Scalar k) = λ port. refl
+name_sure (name.Local k) = λ port. refl
+name_sure (name.Static k) = λ port. refl
 
 module _ (n : Ground) (base : ℕ) where
   -- a word in the accumulator is found there
@@ -58,7 +64,7 @@ module _ (n : Ground) (base : ℕ) where
         by = λ u m p.
             let light = name_light n base v in
             (same_meaning n base (λ w. after_after (e w) (write_name n.context.at v) (λ _. give tt))
-            (ki.by (place_of v) ts s (λ x. write_name n.context.at v x >>= λ _. give tt) (AtEnd (λ _ w v. Side base ts s w v))
+            (ki.by (place_of v) ts s (λ x. write_name n.context.at v x >>= λ _. give tt) (AtEnd (λ _ w v. Side base ts s w v)) (name_sure v)
             (λ x w r lt h. writes_take n base r.registers.pointed (place_of v) (write_name n.context.at v) ts s x w r (name_writes n base r.registers.pointed v inside) refl lt h))).by
             (record u { work = u.work + 19 }) m (spared base ts (19 + s) (operand_weight (place_of v) + s) (record u { work = u.work + 19 }) m (paid base ts s 19 u m p) (omega (arith, light)));
       };

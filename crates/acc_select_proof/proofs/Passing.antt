@@ -73,7 +73,7 @@ module _ (n : Ground) (base : ℕ) where
 
   pub into_temporary : (f : Does Tree ℕ) (c : ℕ → AccOperand → ItemList) → IntoKeeps n base f c → (ts : List ℕ) (s : ℕ) → Keeps n (Side base ts (5 + s)) f (c (base + length ts) (temporary (base + length ts))) (AtEnd (Waits ts s))
   into_temporary f c k ts s =
-      same_meaning n base (λ w. after_give (f w)) (k.by (temporary (base + length ts)) ts s give (AtEnd (Waits ts s)) (λ x w v lt h. record { side = pushed base ts s x w v h; word = lt }))
+      same_meaning n base (λ w. after_give (f w)) (k.by (temporary (base + length ts)) ts s give (AtEnd (Waits ts s)) (λ port. refl) (λ x w v lt h. record { side = pushed base ts s x w v h; word = lt }))
 
   -- the last one goes to its parameter
   pub record IsGiven (f i : ℕ) (ts : List ℕ) (s x : ℕ) (w : Tree) (v : Machine) : Type 0 where
@@ -83,7 +83,7 @@ module _ (n : Ground) (base : ℕ) where
 
   pub into_parameter : (e : Does Tree ℕ) (c : ℕ → AccOperand → ItemList) → IntoKeeps n base e c → (f i : ℕ) (ts : List ℕ) (s : ℕ) → Keeps n (Side base ts (2 + s)) e (c (base + length ts) (operand.Param f i)) (AtEnd (IsGiven f i ts s))
   into_parameter e c k f i ts s =
-      same_meaning n base (λ w. after_give (e w)) (k.by (operand.Param f i) ts s give (AtEnd (IsGiven f i ts s)) (λ x w v lt h. record {
+      same_meaning n base (λ w. after_give (e w)) (k.by (operand.Param f i) ts s give (AtEnd (IsGiven f i ts s)) (λ port. refl) (λ x w v lt h. record {
         side = went base ts s s 0 w v _ h refl refl h.sxm (omega arith) (omega arith);
         given = given_put f v (with_scalar i x (given_for f v)) i ∙ put_here (given_for f v) i x;
         word = lt;

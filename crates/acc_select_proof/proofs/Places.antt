@@ -157,4 +157,4 @@ module _ (n : Ground) (base : ℕ) where
   pub waits : (f : Does Tree ℕ) (c : ℕ → AccOperand → ItemList) → IntoKeeps n base f c → (ts : List ℕ) (s : ℕ) → Keeps n (Side base ts (5 + s)) f (c (base + length ts) (temporary (base + length ts))) (AtEnd (λ x w v. Side base (x ∷ ts) s w v × (x < 65536)))
   waits f c k ts s =
       same_meaning n base (λ w. after_give (f w))
-      (k.by (temporary (base + length ts)) ts s give (AtEnd (λ x w v. Side base (x ∷ ts) s w v × (x < 65536))) (λ x w v lt h. (pushed base ts s x w v h, lt)))
+      (k.by (temporary (base + length ts)) ts s give (AtEnd (λ x w v. Side base (x ∷ ts) s w v × (x < 65536))) (λ port. refl) (λ x w v lt h. (pushed base ts s x w v h, lt)))

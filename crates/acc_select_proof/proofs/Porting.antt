@@ -10,7 +10,7 @@ use Rattle.acc_select.specs.acc_operations.declared.found.Found.{Found}
 use Rattle.acc_select.specs.acc_operations.declared.found.Found.TheVariants.{Fixed, Held, Loaded}
 use Rattle.acc_select.specs.acc_operations.declared.high_half.HighHalf.TheVariants.{Any}
 use Rattle.acc_select.specs.Forms.{Code, in_code, out_code, out_items}
-use Rattle.ir_semantics.specs.Parts.{Does, after, ◌>>=◌, give, Next, in_order}
+use Rattle.ir_semantics.specs.Parts.{Does, after, ◌>>=◌, give, Flow, Next, in_order}
 use Rattle.ir_semantics.specs.Outside.{Outside, with_input, with_output, with_scalar}
 use Rattle.ir_semantics.specs.TreeRun as tree
 use Rattle.ir_semantics.specs.TreeRun.{Tree, fail, in_does, out_does, as_truth, as_nothing}
@@ -21,7 +21,7 @@ use Rattle.acc_select_proof.proofs.Straights.{found_weight, held_by_now}
 use Rattle.acc_select_proof.proofs.Rules.{Ground, Post, Rel, AtEnd, Keeps, seq, followed}
 use Rattle.acc_select_proof.proofs.Sides.{Side, on, straight, went, paid, spared, put_here}
 use Rattle.acc_select_proof.proofs.Following.{kept}
-use Rattle.acc_select_proof.proofs.Valuing.{after_give, FoundVal, WordKeeps, EffectKeeps, IntoKeeps, Takes, CodeKeeps}
+use Rattle.acc_select_proof.proofs.Valuing.{after_give, FoundVal, WordKeeps, EffectKeeps, IntoKeeps, IsSure, Takes, CodeKeeps}
 use Rattle.acc_select_proof.proofs.Coding.{word_code}
 
 -- the words that are left of an input are words
@@ -48,18 +48,19 @@ module _ (n : Ground) (base : ℕ) where
     work = h.work;
   }
 
-  taken_by : {B : Type 0} (port : ℕ) (m : AccOperand) (ts : List ℕ) (s : ℕ) (g : ℕ → Does Tree B) (q : Post B) (xs : List ℕ) (w : Tree) (v : Machine) → w.outside.input port ≡ xs → Takes n base m g q ts s → Side base ts s w v
+  taken_by : {B : Type 0} (port : ℕ) (m : AccOperand) (ts : List ℕ) (s : ℕ) (g : ℕ → Does Tree B) (q : Post B) (xs : List ℕ) (w : Tree) (v : Machine) → w.outside.input port ≡ xs → IsSure m → Takes n base m g q ts s → Side base ts s w v
       → Rel q (after (tree.taken xs port w) g) (after (machine.taken n.context.at xs port m v) (λ flow. in_order flow (give Next)))
-  taken_by port m ts s g q [] w v is takes h = (refl, sym (ap (λ (o : Outside). o.outs) h.outside), omega (arith, h.work))
-  taken_by port m ts s g q (x ∷ xs) w v is takes h = takes x (record w { outside = with_input port xs w.outside }) (record v { outside = with_input port xs v.outside }) (first_word w.outside.input port x xs h.words.input is) (input_taken port x xs ts s w v is h)
+  taken_by port m ts s g q [] w v is sure takes h =
+      subst (λ (d : Does Machine Flow). Rel q (after (tree.taken [] port w) g) (after (d v) (λ flow. in_order flow (give Next)))) (sym (sure port)) (refl, sym (ap (λ (o : Outside). o.outs) h.outside), omega (arith, h.work))
+  taken_by port m ts s g q (x ∷ xs) w v is sure takes h = takes x (record w { outside = with_input port xs w.outside }) (record v { outside = with_input port xs v.outside }) (first_word w.outside.input port x xs h.words.input is) (input_taken port x xs ts s w v is h)
 
   -- a word is taken to a place
-  take_rel : {B : Type 0} (port : ℕ) (m : AccOperand) (ts : List ℕ) (s : ℕ) (g : ℕ → Does Tree B) (q : Post B) → Takes n base m g q ts s → (w : Tree) (v : Machine) → Side base ts (operand_weight m + s) w v
+  take_rel : {B : Type 0} (port : ℕ) (m : AccOperand) (ts : List ℕ) (s : ℕ) (g : ℕ → Does Tree B) (q : Post B) → IsSure m → Takes n base m g q ts s → (w : Tree) (v : Machine) → Side base ts (operand_weight m + s) w v
       → Rel q (after (tree.take port w) g) (run n.context (Op (row.In port) m ▸ end) v)
-  take_rel port m ts s g q takes w v h =
+  take_rel port m ts s g q sure takes w v h =
       let u : Machine = record v { work = v.work + operand_weight m } in
       subst (λ xs. Rel q (after (tree.take port w) g) (after (machine.taken n.context.at xs port m u) (λ flow. in_order flow (give Next)))) (sym (ap (λ (o : Outside). o.input port) h.outside))
-      (taken_by port m ts s g q (w.outside.input port) w u refl takes (went base ts (operand_weight m + s) s (operand_weight m) w v u h refl refl h.sxm (omega arith) (omega arith)))
+      (taken_by port m ts s g q (w.outside.input port) w u refl sure takes (went base ts (operand_weight m + s) s (operand_weight m) w v u h refl refl h.sxm (omega arith) (omega arith)))
 
   module _ (port : ℕ) where
     in_word : WordKeeps n base (in_does port) (λ t. (in_code port).word)
@@ -67,7 +68,7 @@ module _ (n : Ground) (base : ℕ) where
       by = λ ts s. record {
         by = λ u v h.
             subst (λ r. Rel (AtEnd (FoundVal n base (Held (scratch 0)) ts s)) r (run n.context (Op (row.In port) (scratch 0) ▸ end) v)) (after_give (tree.take port (record u { work = u.work + 4 })))
-            (take_rel port (scratch 0) ts (2 + s) give (AtEnd (FoundVal n base (Held (scratch 0)) ts s))
+            (take_rel port (scratch 0) ts (2 + s) give (AtEnd (FoundVal n base (Held (scratch 0)) ts s)) (λ port. refl)
             (λ x w m lt side. record { side = went base ts (2 + s) (2 + s) 0 w m (record m { scratch = with_scalar 0 x m.scratch }) side refl refl side.sxm (omega arith) (omega arith); found = put_here m.scratch 0 x; wide = tt; word = lt })
             (record u { work = u.work + 4 }) v (spared base ts (4 + s) (2 + (2 + s)) (record u { work = u.work + 4 }) v (paid base ts s 4 u v h) (omega arith)));
       };
@@ -77,7 +78,7 @@ module _ (n : Ground) (base : ℕ) where
     in_effect = record {
       by = λ ts s. record {
         by = λ u v h.
-            take_rel port (scratch 0) ts s (λ _. give tt) (AtEnd (λ _ w v. Side base ts s w v))
+            take_rel port (scratch 0) ts s (λ _. give tt) (AtEnd (λ _ w v. Side base ts s w v)) (λ port. refl)
             (λ x w m lt side. went base ts s s 0 w m (record m { scratch = with_scalar 0 x m.scratch }) side refl refl side.sxm (omega arith) (omega arith))
             (record u { work = u.work + 4 }) v (spared base ts (4 + s) (2 + s) (record u { work = u.work + 4 }) v (paid base ts s 4 u v h) (omega arith));
       };
@@ -85,8 +86,8 @@ module _ (n : Ground) (base : ℕ) where
 
     in_into : IntoKeeps n base (in_does port) (λ t m. (in_code port).into m)
     in_into = record {
-      by = λ m ts s g q takes. record {
-        by = λ u v h. take_rel port m ts s g q takes (record u { work = u.work + 4 }) v (spared base ts (4 + (operand_weight m + s)) (operand_weight m + s) (record u { work = u.work + 4 }) v (paid base ts (operand_weight m + s) 4 u v h) (omega arith));
+      by = λ m ts s g q sure takes. record {
+        by = λ u v h. take_rel port m ts s g q sure takes (record u { work = u.work + 4 }) v (spared base ts (4 + (operand_weight m + s)) (operand_weight m + s) (record u { work = u.work + 4 }) v (paid base ts (operand_weight m + s) 4 u v h) (omega arith));
       };
     }
 

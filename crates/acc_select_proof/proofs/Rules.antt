@@ -16,7 +16,7 @@ use Rattle.ir_semantics.specs.Parts.{Res, Gives, Finished, TooMany, Fails, Does,
 use Rattle.ir_semantics.specs.Outside.{Cell, Nowhere, Unwritten, Holds, Frame, Places, address_of}
 use Rattle.ir_semantics.specs.TreeRun.{Tree, Addresses}
 use Rattle.ir_semantics.specs.AccRows.{Registers, acted, holds, low_half, low_stored, whole_of, high_stored}
-use Rattle.ir_semantics.specs.AccRun.{Machine, Context, tick, write_cell, write_word, store_to, store, put, taken, registers_become, act_on, act, held, without_scratch, without_acc, forgetting, between, tested, behind_part, behind_turn, turns, label_of, labels_weight, entered_at, switched, is_case, clear_cells, cleared, clear, cells_of, helped_with, helped, helper_value, run_item, run, run_from, too_many, entered, back, called, call_within, fail}
+use Rattle.ir_semantics.specs.AccRun.{Machine, Context, tick, write_cell, write_word, store_to, store, put, input_ends, missing, taken, registers_become, act_on, act, held, without_scratch, without_acc, forgetting, between, tested, behind_part, behind_turn, turns, label_of, labels_weight, entered_at, switched, is_case, clear_cells, cleared, clear, cells_of, helped_with, helped, helper_value, run_item, run, run_from, too_many, entered, back, called, call_within, fail}
 use Rattle.acc_select_proof.proofs.Straights.{run_append}
 
 -- outputs only grow
@@ -95,8 +95,21 @@ put_grows : (port : ℕ) (w : Option ℕ) → Grows (put port w)
 put_grows port None = fail_grows
 put_grows port (Some x) = record { by = λ v. record { rest = (port, x) ∷ []; is = refl } }
 
+input_ends_grows : (port : ℕ) → Grows (input_ends port)
+input_ends_grows port = record { by = λ v. prefix_refl v.outside.outs }
+
+missing_grows : (m : AccOperand) (port : ℕ) → Grows (missing m port)
+missing_grows operand.Nothing port = input_ends_grows port
+missing_grows (operand.Scalar n) port = input_ends_grows port
+missing_grows (operand.Direct o) port = input_ends_grows port
+missing_grows (operand.Param f i) port = input_ends_grows port
+missing_grows (operand.Scratch n) port = input_ends_grows port
+missing_grows (operand.Number w) port = input_ends_grows port
+missing_grows (operand.Address o i) port = input_ends_grows port
+missing_grows operand.Pointed port = record { by = λ v. (bind_grows (write_word v.registers.pointed 0) _ (write_word_grows v.registers.pointed 0) (λ flow. input_ends_grows port)).by v }
+
 taken_grows : (at : Addresses) (xs : List ℕ) (port : ℕ) (m : AccOperand) → Grows (taken at xs port m)
-taken_grows at [] port m = record { by = λ v. prefix_refl v.outside.outs }
+taken_grows at [] port m = missing_grows m port
 taken_grows at (x ∷ xs) port m = record { by = λ v. (store_to_grows at m x).by _ }
 
 act_grows : (at : Addresses) (o : AccOp) (m : AccOperand) → Grows (act at o m)
@@ -114,7 +127,7 @@ between_grows f g = record { by = λ v. behind v.outside.outs (f (without_scratc
 
 tested_grows : (t : Test) (z : Option ℕ) (f g : Does Machine Flow) → Grows f → Grows g → Grows (tested t z f g)
 tested_grows t None f g a b = fail_grows
-tested_grows t (Some z) f g a b = record { by = λ v. (choose_grows (holds t z) f g a b).by (without_acc v) }
+tested_grows t (Some z) f g a b = choose_grows (holds t z) f g a b
 
 pub in_order_grows : (flow : Flow) (f : Does Machine Flow) → Grows f → Grows (in_order flow f)
 in_order_grows Next f g = g

@@ -200,9 +200,9 @@ module _ (n : Ground) (base : ℕ) where
 
     comma_into : IntoKeeps n base (comma_does e b) (λ t m. (comma_code (ca t) (cb t)).into m)
     comma_into = record {
-      by = λ m ts s g q takes. record {
+      by = λ m ts s g q sure takes. record {
         by = λ u v p.
-            (seq_in n base {f = e} (λ _. b) g (ka.by ts (operand_weight m + s)) (λ _. kb.into.by m ts s g q takes)).by (record u { work = u.work + 1 }) v (spared base ts (1 + (operand_weight m + s)) (operand_weight m + s) (record u { work = u.work + 1 }) v (paid base ts (operand_weight m + s) 1 u v p) (omega arith));
+            (seq_in n base {f = e} (λ _. b) g (ka.by ts (operand_weight m + s)) (λ _. kb.into.by m ts s g q sure takes)).by (record u { work = u.work + 1 }) v (spared base ts (1 + (operand_weight m + s)) (operand_weight m + s) (record u { work = u.work + 1 }) v (paid base ts (operand_weight m + s) 1 u v p) (omega arith));
       };
     }
 

@@ -16,7 +16,7 @@ use Rattle.ir_semantics.specs.Parts.{Res, Gives, Finished, TooMany, Fails, Does,
 use Rattle.ir_semantics.specs.Outside.{Outside}
 use Rattle.ir_semantics.specs.TreeRun.{Tree}
 use Rattle.ir_semantics.specs.AccRows.{Registers, low_half, whole_of, low_stored, points_at, operand_weight}
-use Rattle.ir_semantics.specs.AccRun.{Machine, store, store_to, registers_become, without_scratch, without_acc, forgetting, tested, run_item, run}
+use Rattle.ir_semantics.specs.AccRun.{Machine, input_ends, missing, store, store_to, registers_become, without_scratch, forgetting, tested, run_item, run}
 use Rattle.acc_select_proof.proofs.Straights.{FoundHas, found_weight, Straight}
 use Rattle.acc_select_proof.proofs.Rules.{Ground, Post, Rel, AtEnd, Keeps, seq, outs_of, behind, prefix_refl, run_grows, last_item, Grows}
 use Rattle.acc_select_proof.proofs.Sides.{Side, went, straight}
@@ -64,6 +64,10 @@ rel_forget q (TooMany o) (Finished p o2 k) s e = absurd e
 rel_forget q (TooMany o) (TooMany o2) s e = e
 rel_forget q (TooMany o) (Fails o2) s e = absurd e
 rel_forget q (Fails o) y s e = behind o y forgetting e forget_grows
+
+-- a place where a missing input ends the run, whatever is known of pointers
+abbrev pub IsSure : AccOperand → Type 0
+IsSure m = (port : ℕ) → missing m port ≡ input_ends port
 
 module _ (n : Ground) (base : ℕ) where
   -- rules
@@ -113,7 +117,7 @@ module _ (n : Ground) (base : ℕ) where
   Takes m g q ts s = (x : ℕ) (w : Tree) (v : Machine) → x < 65536 → Side base ts s w v → Rel q (g x w) (after (store_to n.context.at m x v) (λ flow. in_order flow (give Next)))
 
   pub record IntoKeeps (f : Does Tree ℕ) (c : ℕ → AccOperand → ItemList) : Type 1 where
-    pub by : {B : Type 0} (m : AccOperand) (ts : List ℕ) (s : ℕ) (g : ℕ → Does Tree B) (q : Post B) → Takes m g q ts s → Keeps n (Side base ts (operand_weight m + s)) (f >>= g) (c (base + length ts) m) q
+    pub by : {B : Type 0} (m : AccOperand) (ts : List ℕ) (s : ℕ) (g : ℕ → Does Tree B) (q : Post B) → IsSure m → Takes m g q ts s → Keeps n (Side base ts (operand_weight m + s)) (f >>= g) (c (base + length ts) m) q
 
   pub record PointedAt (ts : List ℕ) (s x : ℕ) (w : Tree) (v : Machine) : Type 0 where
     pub side : Side base ts s w v
@@ -150,7 +154,7 @@ module _ (n : Ground) (base : ℕ) where
       (takes x w u p.word (went base ts (operand_weight m + s) s (operand_weight m) w v u p.side refl refl p.side.sxm (omega arith) (omega arith)))
 
   pub into_loaded : (f : Does Tree ℕ) (c : ℕ → Word) → WordKeeps f c → IntoKeeps f (λ t m. loaded (c t) ⧺ sacl m ▸ end)
-  into_loaded f c k = record { by = λ m ts s g q takes. seq n (loaded_keeps f c k ts (operand_weight m + s)) (λ x. record { by = λ w v p. sacl_takes (high (c (base + length ts)).found) m ts s x g q takes w v p }) }
+  into_loaded f c k = record { by = λ m ts s g q sure takes. seq n (loaded_keeps f c k ts (operand_weight m + s)) (λ x. record { by = λ w v p. sacl_takes (high (c (base + length ts)).found) m ts s x g q takes w v p }) }
 
   -- a word in the accumulator becomes what is pointed to
   point_val : (h : HighHalf) (ts : List ℕ) (s x : ℕ) (w : Tree) (v : Machine) → Val h ts (3 + s) x w v → Rel (AtEnd (PointedAt ts s)) (Gives x w) (run n.context (form.point ▸ end) v)
@@ -175,10 +179,9 @@ module _ (n : Ground) (base : ℕ) where
       → Rel q (choose b g l w) (run n.context (If t hit miss ▸ end) v)
   if_keeps ts s r t b hit miss g l q w v stable kg kl i h le =
       let v4 : Machine = without_scratch (record v { work = v.work + 4 }) in
-      let u : Machine = without_acc v4 in
-      let hu : Side base ts r w u = went base ts s r 4 w v u h refl refl h.sxm (omega arith) le in
-      let asked : tested t (whole_of v.registers.acc) (run n.context hit) (run n.context miss) v4 ≡ choose b (run n.context hit) (run n.context miss) u =
-      ap (λ a. tested t (whole_of a) (run n.context hit) (run n.context miss) v4) i.is ∙ ap (λ c. choose c (run n.context hit) (run n.context miss) u) i.holds_so in
+      let hu : Side base ts r w v4 = went base ts s r 4 w v v4 h refl refl h.sxm (omega arith) le in
+      let asked : tested t (whole_of v.registers.acc) (run n.context hit) (run n.context miss) v4 ≡ choose b (run n.context hit) (run n.context miss) v4 =
+      ap (λ a. tested t (whole_of a) (run n.context hit) (run n.context miss) v4) i.is ∙ ap (λ c. choose c (run n.context hit) (run n.context miss) v4) i.holds_so in
       subst (Rel q (choose b g l w)) (last_item (run_item n.context (If t hit miss) v))
       (rel_forget q (choose b g l w) (tested t (whole_of v.registers.acc) (run n.context hit) (run n.context miss) v4) stable
-      (subst (Rel q (choose b g l w)) (sym asked) (choose_rel q b g l (run n.context hit) (run n.context miss) w u (kg.by w u hu) (kl.by w u hu))))
+      (subst (Rel q (choose b g l w)) (sym asked) (choose_rel q b g l (run n.context hit) (run n.context miss) w v4 (kg.by w v4 hu) (kl.by w v4 hu))))

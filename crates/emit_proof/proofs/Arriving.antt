@@ -5,10 +5,10 @@ use Rattle.c25_isa.specs.Leads.{Leads}
 use Rattle.c25_isa.proofs.Leads.{leads_on}
 use Rattle.c25_code.specs.Work.{Work, calm}
 use Rattle.ir_semantics.specs.Parts.{Res, Gives, Finished, TooMany, Fails, Does, after, Flow, Next, Broke, Continued, Returned}
-use Rattle.ir_semantics.specs.AccRun.{Machine, without_acc, without_scratch}
+use Rattle.ir_semantics.specs.AccRun.{Machine, without_scratch}
 use Rattle.emit_proof.specs.Sites.{Site, Beside}
 use Rattle.emit_proof.specs.Arrivals.{Begun, ComesTo, ComesToEnd, StillRuns}
-use Rattle.emit_proof.proofs.Knowing.{without_scratch_beside, without_acc_beside, more_work_beside}
+use Rattle.emit_proof.proofs.Knowing.{without_scratch_beside, more_work_beside}
 use Rattle.emit_proof.proofs.Grounds.{Ground, Exit, Exits, Arrived, begun_at, Comes, MeetsAt}
 
 module _ (g : Ground) where
@@ -79,15 +79,12 @@ module _ (g : Ground) where
     beside = beside;
   }
 
-  -- an item counts its work, and scratch words or the accumulator are forgotten
+  -- an item counts its work, and scratch words are forgotten
   pub counted : (b : Begun) (a n : ℕ) (v : Machine) (w : Work) → Arrived g b a v w → Arrived g (begun_at b.steps (record v { work = v.work + n })) a (record v { work = v.work + n }) w
   counted b a n v w h = record { came = h.came; work = refl; beside = more_work_beside g.site v w (v.work + n) h.beside }
 
   pub scratch_forgotten : (b : Begun) (a : ℕ) (v : Machine) (w : Work) → Arrived g b a v w → Arrived g b a (without_scratch v) w
   scratch_forgotten b a v w h = record { came = h.came; work = h.work; beside = without_scratch_beside g.site v w h.beside }
-
-  pub acc_forgotten : (b : Begun) (a : ℕ) (v : Machine) (w : Work) → Arrived g b a v w → Arrived g b a (without_acc v) w
-  acc_forgotten b a v w h = record { came = h.came; work = h.work; beside = without_acc_beside g.site v w h.beside }
 
   -- what comes behind a part
   module _ (b b' : Begun) (e e' : Exits) (least least' slack slack' : ℕ) (f : Flow → Does Machine Flow) (later : b.steps ≤ b'.steps) (few : b'.steps + 64 * b.work + slack' ≤ b.steps + 64 * b'.work + slack)

@@ -9,7 +9,7 @@ use Rattle.c25_code.specs.Straight.{is_taken}
 use Rattle.c25_code.proofs.Items.{jump_passed}
 use Rattle.ir_semantics.specs.Parts.{Res, Does, choose, Flow}
 use Rattle.ir_semantics.specs.AccRows.{Acc, Gone, Low, Whole, holds, whole_of}
-use Rattle.ir_semantics.specs.AccRun.{Machine, run, without_acc, without_scratch}
+use Rattle.ir_semantics.specs.AccRun.{Machine, run, without_scratch}
 use Rattle.emit_proof.specs.Registers.{AccAlike}
 use Rattle.emit_proof.proofs.Questions.{asks_above, asks_at_most, asks_below, asks_at_least}
 use Rattle.emit_control.specs.declared.ways.Ways.{Ways}
@@ -19,7 +19,7 @@ use Rattle.emit_control.specs.Cuts.{jump_on, behind_entry}
 use Rattle.emit_proof.specs.Arrivals.{Begun}
 use Rattle.emit_proof.proofs.Knowing.{without_scratch_beside, more_work_beside}
 use Rattle.emit_proof.proofs.Grounds.{Ground, Exit, Standing, Arrived, begun_at, exit, Comes, exits, MeetsAt, Falls, is_reached, jump_to}
-use Rattle.emit_proof.proofs.Arriving.{earlier, earlier_comes, comes_here, goes_on, acc_forgotten}
+use Rattle.emit_proof.proofs.Arriving.{earlier, earlier_comes, comes_here, goes_on}
 use Rattle.emit_proof.proofs.Falling.{jumped, place_begins, goes}
 use Rattle.emit_proof.proofs.Skipping.{somewhere, behind_first, placed}
 use Rattle.emit_proof.proofs.Parts.{PartMeets}
@@ -105,13 +105,13 @@ module _ (g : Ground) where
   -- two parts, by the labels to which they lead at once
   module _ (ways : Ways) (hit miss : Does Machine Flow) (t : Test) (z : ℕ) where
     abbrev Chosen : Begun → Machine → Type 0
-    Chosen b v = MeetsAt g b (exits g ways) 1 6 (choose (holds t z) hit miss (without_acc v))
+    Chosen b v = MeetsAt g b (exits g ways) 1 6 (choose (holds t z) hit miss v)
 
-    chosen_hit : (b : Begun) (v : Machine) → holds t z ≡ true → MeetsAt g b (exits g ways) 1 6 (hit (without_acc v)) → Chosen b v
-    chosen_hit b v e h = subst (λ x. MeetsAt g b (exits g ways) 1 6 (choose x hit miss (without_acc v))) (sym e) h
+    chosen_hit : (b : Begun) (v : Machine) → holds t z ≡ true → MeetsAt g b (exits g ways) 1 6 (hit v) → Chosen b v
+    chosen_hit b v e h = subst (λ x. MeetsAt g b (exits g ways) 1 6 (choose x hit miss v)) (sym e) h
 
-    chosen_miss : (b : Begun) (v : Machine) → holds t z ≡ false → MeetsAt g b (exits g ways) 1 6 (miss (without_acc v)) → Chosen b v
-    chosen_miss b v e h = subst (λ x. MeetsAt g b (exits g ways) 1 6 (choose x hit miss (without_acc v))) (sym e) h
+    chosen_miss : (b : Begun) (v : Machine) → holds t z ≡ false → MeetsAt g b (exits g ways) 1 6 (miss v) → Chosen b v
+    chosen_miss b v e h = subst (λ x. MeetsAt g b (exits g ways) 1 6 (choose x hit miss v)) (sym e) h
 
     otherwise : (e e' : Bool) → holds (opposite t) z ≡ e → not e ≡ e' → holds t z ≡ e'
     otherwise e e' f same = sym (not_not (holds t z)) ∙ sym (ap not (opposed t z)) ∙ ap not f ∙ same
@@ -120,11 +120,11 @@ module _ (g : Ground) where
     part_behind : (b : Begun) (v : Machine) (least : ℕ) (r : Res Machine Flow) → b.work ≡ v.work → MeetsAt g (begun_at (b.steps + 1) v) (exits g ways) least 4 r → MeetsAt g b (exits g ways) 1 6 r
     part_behind b v least r same h = earlier g b (begun_at (b.steps + 1) v) (exits g ways) 1 least 6 4 r (omega arith) (omega arith) (omega (arith, same)) h
 
-    aim_taken : (run : Does Machine Flow) (l : ℕ) (b : Begun) (v : Machine) (w : Work) → IsAim ways (Some l) run → b.work ≡ v.work → is_reached g.finished l ≡ true → Arrived g (begun_at (b.steps + 1) v) (g.label l) v w → MeetsAt g b (exits g ways) 1 6 (run (without_acc v))
-    aim_taken run l b v w aim same reached h = aim b 6 (without_acc v) (comes_here g b (begun_at (b.steps + 1) v) (exit g l) 1 6 (without_acc v) w reached (omega arith) (omega (arith, same)) (acc_forgotten g (begun_at (b.steps + 1) v) (g.label l) v w h))
+    aim_taken : (run : Does Machine Flow) (l : ℕ) (b : Begun) (v : Machine) (w : Work) → IsAim ways (Some l) run → b.work ≡ v.work → is_reached g.finished l ≡ true → Arrived g (begun_at (b.steps + 1) v) (g.label l) v w → MeetsAt g b (exits g ways) 1 6 (run v)
+    aim_taken run l b v w aim same reached h = aim b 6 v (comes_here g b (begun_at (b.steps + 1) v) (exit g l) 1 6 v w reached (omega arith) (omega (arith, same)) h)
 
-    aim_behind : (run : Does Machine Flow) (l least : ℕ) (b : Begun) (v : Machine) → IsAim ways (Some l) run → b.work ≡ v.work → Comes g (begun_at (b.steps + 1) v) (exit g l) least 1 (without_acc v) → MeetsAt g b (exits g ways) 1 6 (run (without_acc v))
-    aim_behind run l least b v aim same h = aim b 6 (without_acc v) (earlier_comes g b (begun_at (b.steps + 1) v) (exit g l) 1 least 6 1 (without_acc v) (omega arith) (omega (arith, same)) h)
+    aim_behind : (run : Does Machine Flow) (l least : ℕ) (b : Begun) (v : Machine) → IsAim ways (Some l) run → b.work ≡ v.work → Comes g (begun_at (b.steps + 1) v) (exit g l) least 1 v → MeetsAt g b (exits g ways) 1 6 (run v)
+    aim_behind run l least b v aim same h = aim b 6 v (earlier_comes g b (begun_at (b.steps + 1) v) (exit g l) 1 least 6 1 v (omega arith) (omega (arith, same)) h)
 
     module _ (ph pm : Part) (l next bound bound' pc : ℕ) (rest : List Entry) (b : Begun) (v : Machine) (w : Work) (inner : is_reached g.finished l ≡ true) (begins : Falls g next rest) (h : Arrived g b pc v w) (known : whole_of v.registers.acc ≡ Some z) where
       two_aims : (same : Bool) (x y : ℕ) → (same ≡ true → x ≡ next) → IsAim ways (Some x) hit → IsAim ways (Some y) miss → Standing g pc (if same then Branch (opposite t) y ∷ rest else Branch t x ∷ goto y next rest) → Chosen b v
@@ -132,24 +132,24 @@ module _ (g : Ground) where
           branches (Chosen b v) (opposite t) y pc z rest b v w s h known
           (λ f r a. chosen_miss b v (otherwise true false f refl) (aim_taken miss y b v w am h.work r a))
           (λ f s' a. chosen_hit b v (otherwise false true f refl) (aim_behind hit x 0 b v ah h.work
-          (subst (λ q. Comes g (begun_at (b.steps + 1) v) (exit g q) 0 1 (without_acc v)) (sym (e refl)) (begins.by (pc + 2) (begun_at (b.steps + 1) v) (without_acc v) w s' (acc_forgotten g (begun_at (b.steps + 1) v) (pc + 2) v w a)))))
+          (subst (λ q. Comes g (begun_at (b.steps + 1) v) (exit g q) 0 1 v) (sym (e refl)) (begins.by (pc + 2) (begun_at (b.steps + 1) v) v w s' a))))
       two_aims false x y e ah am s =
           branches (Chosen b v) t x pc z (goto y next rest) b v w s h known
           (λ f r a. chosen_hit b v f (aim_taken hit x b v w ah h.work r a))
-          (λ f s' a. chosen_miss b v f (aim_behind miss y (jump_to y next) b v am h.work (goes g y next (pc + 2) rest (begun_at (b.steps + 1) v) (without_acc v) w s' begins (acc_forgotten g (begun_at (b.steps + 1) v) (pc + 2) v w a))))
+          (λ f s' a. chosen_miss b v f (aim_behind miss y (jump_to y next) b v am h.work (goes g y next (pc + 2) rest (begun_at (b.steps + 1) v) v w s' begins a)))
 
       pub choose_meets : (x y : Option ℕ) → IsAim ways x hit → IsAim ways y miss → PartMeets g ways bound ph hit → PartMeets g ways bound' pm miss → l < bound → next < bound → next < bound' → Standing g pc (if_code t x y ph pm l next rest) → Chosen b v
       choose_meets (Some x) (Some y) ah am mh mm lb nb nb' s = two_aims (x == next) x y (eqb-true x next) ah am s
       choose_meets (Some x) None ah am mh mm lb nb nb' s =
           branches (Chosen b v) t x pc z (pm next rest) b v w s h known
           (λ f r a. chosen_hit b v f (aim_taken hit x b v w ah h.work r a))
-          (λ f s' a. chosen_miss b v f (part_behind b v (jump_to ways.onward next) (miss (without_acc v)) h.work (mm.by next (pc + 2) rest (begun_at (b.steps + 1) v) (without_acc v) w s' begins nb' (acc_forgotten g (begun_at (b.steps + 1) v) (pc + 2) v w a))))
+          (λ f s' a. chosen_miss b v f (part_behind b v (jump_to ways.onward next) (miss v) h.work (mm.by next (pc + 2) rest (begun_at (b.steps + 1) v) v w s' begins nb' a)))
       choose_meets None (Some y) ah am mh mm lb nb nb' s =
           branches (Chosen b v) (opposite t) y pc z (ph next rest) b v w s h known
           (λ f r a. chosen_miss b v (otherwise true false f refl) (aim_taken miss y b v w am h.work r a))
-          (λ f s' a. chosen_hit b v (otherwise false true f refl) (part_behind b v (jump_to ways.onward next) (hit (without_acc v)) h.work (mh.by next (pc + 2) rest (begun_at (b.steps + 1) v) (without_acc v) w s' begins nb (acc_forgotten g (begun_at (b.steps + 1) v) (pc + 2) v w a))))
+          (λ f s' a. chosen_hit b v (otherwise false true f refl) (part_behind b v (jump_to ways.onward next) (hit v) h.work (mh.by next (pc + 2) rest (begun_at (b.steps + 1) v) v w s' begins nb a)))
       choose_meets None None ah am mh mm lb nb nb' s =
           let other : Standing g (g.label l) (pm next rest) = placed g l (pm next rest) (mh.behind l (Place l ∷ pm next rest) (behind_first g (Branch (opposite t) l) _ (somewhere g pc _ s))) in
           branches (Chosen b v) (opposite t) l pc z (ph l (Place l ∷ pm next rest)) b v w s h known
-          (λ f r a. chosen_miss b v (otherwise true false f refl) (part_behind b v (jump_to ways.onward next) (miss (without_acc v)) h.work (mm.by next (g.label l) rest (begun_at (b.steps + 1) v) (without_acc v) w other begins nb' (acc_forgotten g (begun_at (b.steps + 1) v) (g.label l) v w a))))
-          (λ f s' a. chosen_hit b v (otherwise false true f refl) (part_behind b v (jump_to ways.onward l) (hit (without_acc v)) h.work (mh.by l (pc + 2) (Place l ∷ pm next rest) (begun_at (b.steps + 1) v) (without_acc v) w s' (place_begins g l (pm next rest) inner) lb (acc_forgotten g (begun_at (b.steps + 1) v) (pc + 2) v w a))))
+          (λ f r a. chosen_miss b v (otherwise true false f refl) (part_behind b v (jump_to ways.onward next) (miss v) h.work (mm.by next (g.label l) rest (begun_at (b.steps + 1) v) v w other begins nb' a)))
+          (λ f s' a. chosen_hit b v (otherwise false true f refl) (part_behind b v (jump_to ways.onward l) (hit v) h.work (mh.by l (pc + 2) (Place l ∷ pm next rest) (begun_at (b.steps + 1) v) v w s' (place_begins g l (pm next rest) inner) lb a)))

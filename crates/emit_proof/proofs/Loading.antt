@@ -10,7 +10,7 @@ use Rattle.ir_semantics.specs.Outside.{Cell, Nowhere, Unwritten, Holds, with_wor
 use Rattle.ir_semantics.specs.Parts.{Res, Gives, Fails, Does, after, Flow, Next, in_order}
 use Rattle.ir_semantics.specs.TreeRun.{Addresses}
 use Rattle.ir_semantics.specs.AccRows.{multiplied, scaled_by_t, with_product, operation_weight}
-use Rattle.ir_semantics.specs.AccRun.{Machine, held, store_to, write_cell, write_word, given_for, put, taken, registers_become, act_on, act, without_acc}
+use Rattle.ir_semantics.specs.AccRun.{Machine, held, store_to, write_cell, write_word, given_for, put, input_ends, missing, taken, registers_become, act_on, act, without_acc}
 use Rattle.emit_blocks.specs.declared.accumulator.ToAccumulator.TheVariants.{Leaves, Works}
 use Rattle.emit_blocks.specs.Steps.{Operation, to_accumulator, is_loaded_by, is_loaded_next}
 use Rattle.emit_proof.specs.Operations.{operate}
@@ -49,8 +49,22 @@ store_forgets at (operand.Number c) x v = Same (Fails v.outside.outs)
 store_forgets at (operand.Address o i) x v = Same (Fails v.outside.outs)
 store_forgets at operand.Pointed x v = word_forgets v.registers.pointed x v
 
+ends_alike : (port : ℕ) (r s : Res Machine Flow) → Forgets r s → after r (λ flow. input_ends port) ≡ after s (λ flow. input_ends port)
+ends_alike port r s (BothGo u) = refl
+ends_alike port r s (Same t) = refl
+
+missing_alike : (m : AccOperand) (port : ℕ) (v : Machine) → missing m port (without_acc v) ≡ missing m port v
+missing_alike operand.Nothing port v = refl
+missing_alike (operand.Scalar n) port v = refl
+missing_alike (operand.Direct o) port v = refl
+missing_alike (operand.Param f i) port v = refl
+missing_alike (operand.Scratch n) port v = refl
+missing_alike (operand.Number c) port v = refl
+missing_alike (operand.Address o i) port v = refl
+missing_alike operand.Pointed port v = ends_alike port (write_word v.registers.pointed 0 (without_acc v)) (write_word v.registers.pointed 0 v) (word_forgets v.registers.pointed 0 v)
+
 taken_forgets : (at : Addresses) (l : List ℕ) (port : ℕ) (m : AccOperand) (v : Machine) → Forgets (taken at l port m (without_acc v)) (taken at l port m v)
-taken_forgets at [] port m v = Same (taken at [] port m v)
+taken_forgets at [] port m v = subst (λ r. Forgets (missing m port (without_acc v)) r) (missing_alike m port v) (Same (missing m port (without_acc v)))
 taken_forgets at (x ∷ xs) port m v = store_forgets at m x (record v { outside = with_input port xs v.outside })
 
 put_forgets : (port : ℕ) (b : Option ℕ) (v : Machine) → Forgets (put port b (without_acc v)) (put port b v)

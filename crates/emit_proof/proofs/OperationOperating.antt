@@ -1,5 +1,7 @@
 -- An operation that is one step comes to what its row does on the word at its address.
 use Rattle.std.proofs.Common.{◌≡◌, ℕ, ◌+◌, ◌<◌, ◌≤◌, List, [], ◌∷◌, Option, Some, None, refl, sym, ap, ◌∙◌, subst, arith, lit<}
+use Rattle.word_base.specs.Ports.{Outputs}
+use Rattle.word_base.specs.declared.outcome.Ending.TheVariants.{InputEnded}
 use Rattle.c_tree.specs.declared.program.VarRef.{VarRef}
 use Rattle.c25_isa.specs.Step.{wrap16}
 use Rattle.c25_code.specs.Work.{Work}
@@ -8,9 +10,9 @@ use Rattle.acc_code.specs.declared.operand.AccOperand.TheVariants as operand
 use Rattle.acc_code.specs.declared.operation.AccOp.{AccOp}
 use Rattle.acc_code.specs.declared.operation.AccOp.TheVariants as row
 use Rattle.acc_code.specs.Operands.{Read_word, Written_word, HasRange, IsTaken}
-use Rattle.ir_semantics.specs.Parts.{Res, Gives, Finished, TooMany, Fails, Flow}
+use Rattle.ir_semantics.specs.Parts.{Res, Gives, Finished, TooMany, Fails, after, Flow}
 use Rattle.ir_semantics.specs.AccRows.{Registers, low_half, whole_of, low_stored, high_stored, acted}
-use Rattle.ir_semantics.specs.AccRun.{Machine, held, cell_at, store_to, store, put, taken, registers_become, act_on, act}
+use Rattle.ir_semantics.specs.AccRun.{Machine, held, cell_at, write_word, store_to, store, put, input_ends, missing, taken, registers_become, act_on, act}
 use Rattle.emit_blocks.specs.declared.step.Reach.{Reach}
 use Rattle.emit_blocks.specs.declared.step.Reach.TheVariants as reach
 use Rattle.emit_blocks.specs.declared.step.Step.{Step}
@@ -29,7 +31,7 @@ use Rattle.emit_proof.proofs.Located.{Located, scalar_located, parameter_located
 use Rattle.emit_proof.proofs.Stored.{StoreComes, store_comes}
 use Rattle.emit_proof.proofs.Rows.{RowDoes, word_does, constant_does, put_does}
 use Rattle.emit_proof.proofs.StoreRows.{low_does, high_does, taken_state, taken_work, beside_taken, take_does}
-use Rattle.emit_proof.proofs.Meeting.{OperationMeets}
+use Rattle.emit_proof.proofs.Meeting.{InputStops, OperationMeets}
 
 -- a row's step means the same wherever AR1 is the same
 rows_alike : (o : AccOp) (r : Reach) (w u : Work) → u.ar 1 ≡ w.ar 1 → direct_row o r u ≡ direct_row o r w
@@ -37,6 +39,43 @@ rows_alike o (reach.Scalar p) w u same = refl
 rows_alike o reach.Pointer w u same = ap (row_at o) same
 rows_alike o (reach.Word a) w u same = refl
 rows_alike o (reach.Constant c) w u same = refl
+
+-- an input of a port that has no word left
+module _ (k : Site) (site : IsSite k) (v : Machine) (w : Work) (h : Beside k v w) (port : ℕ) (empty : v.outside.input port ≡ []) where
+  abbrev input_to : AccOperand → Step
+  input_to m = step (row.In port) (reach_of k.places m)
+
+  -- the run ends, where its word would lie in RAM
+  ends_at : (m : AccOperand) (outs : Outputs) (total : ℕ) → Located k w m → outs ≡ v.outside.outs → total ≡ v.work → InputStops (input_to m) v w (InputEnded port) outs total
+  ends_at m outs total located same alike = record {
+    port = port;
+    is = refl;
+    over_word = located.over_word;
+    low = subst (λ a. 0x300 ≤ a) (sym located.there) located.low;
+    none = ap (λ i. i port) h.input ∙ empty;
+    ends = refl;
+    outputs = same;
+    work = alike;
+  }
+
+  pointed_by : (r : Res Machine Flow) → StoreComes k v w operand.Pointed r → OperationMeets k (input_to operand.Pointed) v w (after r (λ flow. input_ends port))
+  pointed_by (Gives flow u) s = ends_at operand.Pointed u.outside.outs u.work s.1.located s.1.outs s.1.work
+  pointed_by (Finished ending outs total) s = absurd s
+  pointed_by (TooMany outs) s = absurd s
+  pointed_by (Fails outs) s = s
+
+  object_word : (o : VarRef) → object_address k.places o < 65536
+  object_word o = (steps_words k.places (operation (row.In 0) (operand.Direct o) ∷ []) site.words (tt, tt)).0
+
+  missing_meets : (m : AccOperand) → IsTaken Written_word m → IsNamed k.places k.counts k.kept m → LiesInRam k m → OperationMeets k (input_to m) v w (missing m port v)
+  missing_meets operand.Nothing to there low = absurd to
+  missing_meets (operand.Scalar n) to there low = ends_at (operand.Scalar n) v.outside.outs v.work (scalar_located k site w n there) refl refl
+  missing_meets (operand.Direct o) to there low = ends_at (operand.Direct o) v.outside.outs v.work (object_located k site w o low (object_word o)) refl refl
+  missing_meets (operand.Param f i) to there low = ends_at (operand.Param f i) v.outside.outs v.work (parameter_located k site w f i there) refl refl
+  missing_meets (operand.Scratch n) to there low = ends_at (operand.Scratch n) v.outside.outs v.work (scratch_located k site w n there) refl refl
+  missing_meets (operand.Number c) to there low = absurd to
+  missing_meets (operand.Address o i) to there low = absurd to
+  missing_meets operand.Pointed to there low = pointed_by (write_word v.registers.pointed 0 v) (store_comes k site w v h 0 operand.Pointed to there)
 
 module _ (k : Site) (site : IsSite k) (v : Machine) (w : Work) (h : Beside k v w) (m : AccOperand) where
   abbrev the_step : AccOp → Step
@@ -94,20 +133,6 @@ module _ (k : Site) (site : IsSite k) (v : Machine) (w : Work) (h : Beside k v w
       stores_high shift few None e = refl
       stores_high shift few (Some x) e = high_by shift x few e (store_to k.at m x v) refl (store_comes k site w v h x m written named)
 
-      -- the word at which an input would go lies in RAM though nothing is known of it
-      object_word : (o : VarRef) → object_address k.places o < 65536
-      object_word o = (steps_words k.places (operation (row.In 0) (operand.Direct o) ∷ []) site.words (tt, tt)).0
-
-      input_located : (n : AccOperand) → IsTaken Written_word n → IsNamed k.places k.counts k.kept n → LiesInRam k n → Located k w n
-      input_located operand.Nothing to there low = absurd to
-      input_located (operand.Scalar n) to there low = scalar_located k site w n there
-      input_located (operand.Direct o) to there low = object_located k site w o low (object_word o)
-      input_located (operand.Param f i) to there low = parameter_located k site w f i there
-      input_located (operand.Scratch n) to there low = scratch_located k site w n there
-      input_located (operand.Number c) to there low = absurd to
-      input_located (operand.Address o i) to there low = absurd to
-      input_located operand.Pointed to there low = absurd low
-
       take_by : (port x : ℕ) (xs : List ℕ) → port < 16 → w.input port ≡ x ∷ xs → (r : Res Machine Flow) → store_to k.at m x (taken_state v port xs) ≡ r → StoreComes k (taken_state v port xs) (taken_work w port xs) m r → OperationMeets k (the_step (row.In port)) v w r
       take_by port x xs few is (Gives flow u) e s =
           let o : AccOp = row.In port in
@@ -118,18 +143,7 @@ module _ (k : Site) (site : IsSite k) (v : Machine) (w : Work) (h : Beside k v w
       take_by port x xs few is (Fails outs) e s = s
 
       takes_in : (port : ℕ) → port < 16 → LiesInRam k m → (l : List ℕ) → v.outside.input port ≡ l → OperationMeets k (the_step (row.In port)) v w (taken k.at l port m v)
-      takes_in port few low [] e =
-          let located = input_located m written named low in
-          record {
-            port = port;
-            is = refl;
-            over_word = located.over_word;
-            low = subst (λ a. 0x300 ≤ a) (sym located.there) located.low;
-            none = ap (λ i. i port) h.input ∙ e;
-            ends = refl;
-            outputs = refl;
-            work = refl;
-          }
+      takes_in port few low [] e = missing_meets k site v w h port e m written named low
       takes_in port few low (x ∷ xs) e =
           let is : w.input port ≡ x ∷ xs = ap (λ i. i port) h.input ∙ e in
           let u : Machine = taken_state v port xs in

@@ -29,13 +29,12 @@ abbrev pub AreNamed : Site → List Operation → Type 0
 AreNamed k [] = ⊤
 AreNamed k (o ∷ os) = IsNamed k.places k.counts k.kept o.operand × AreNamed k os
 
--- the word of an operand lies in RAM, whatever is known of pointers
+-- the word of an object that is named lies in RAM
 abbrev pub LiesInRam : Site → AccOperand → Type 0
 LiesInRam k (operand.Direct v) = 0x300 ≤ object_address k.places v
-LiesInRam k operand.Pointed = ⊥
 LiesInRam k m = ⊤
 
--- an input ends a run though its word would go nowhere, so it has to lie in RAM
+-- an input of an object ends a run though nothing is stored, so its word has to lie in RAM
 abbrev pub IsTakenIn : Site → AccOp → AccOperand → Type 0
 IsTakenIn k (row.In port) m = LiesInRam k m
 IsTakenIn k o m = ⊤

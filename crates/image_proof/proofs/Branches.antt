@@ -11,7 +11,8 @@ use Rattle.acc_select.specs.acc_operations.declared.high_half.HighHalf.TheVarian
 use Rattle.acc_select.specs.Conditions as condition
 use Rattle.acc_select.specs.Conditions.{Part, Branch, part_items, is_short, tested, truth_items, by_number, and_branch, or_branch}
 use Rattle.acc_select.specs.Forms.{Code, of_word, of_branch}
-use Rattle.image_proof.proofs.Usables.{Usable, nothing, plain, on_number, IsFree, on_free, both, either, choice}
+use Rattle.emit_proof.specs.Addressed.{IsWordOperand}
+use Rattle.image_proof.proofs.Usables.{Usable, nothing, plain, on_number, on_place, both, either, choice}
 use Rattle.image_proof.proofs.UsableWords.{UsableWord, calculated, loaded_usable, load_clean_usable}
 
 -- of a condition whose parts are usable
@@ -22,7 +23,7 @@ pub record UsableCode (c : Code) : Type 0 where
   pub word : UsableWord c.word
   pub branch : UsableBranch c.branch
   pub effect : Usable c.effect
-  pub into : (m : AccOperand) → IsFree m → Usable (c.into m)
+  pub into : (m : AccOperand) → IsWordOperand m → Usable (c.into m)
   pub point : Usable c.point
 
 -- numbers of truths
@@ -43,7 +44,7 @@ of_word_usable w h = record {
   word = h;
   branch = tested_usable Nz (both h.items (load_clean_usable w.found h.found));
   effect = loaded_usable w h;
-  into = λ m free. both (loaded_usable w h) (on_free m free nothing);
+  into = λ m is. both (loaded_usable w h) (on_place is nothing);
   point = both (loaded_usable w h) (plain nothing);
 }
 

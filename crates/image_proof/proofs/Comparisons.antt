@@ -24,10 +24,10 @@ half_word : (w : ℕ) → w < 65536 → w / 2 < 65536
 half_word w lt = omega (arith, lt)
 
 exactly_usable : (h : HighHalf) (m : AccOperand) → IsWordOperand m → Usable (exactly_less h m)
-exactly_usable Any m there = on_place tt there (low_first nothing)
-exactly_usable Zero m there = on_place tt there nothing
-exactly_usable Sign m there = on_place tt there nothing
-exactly_usable Small m there = on_place tt there nothing
+exactly_usable Any m there = on_place there (low_first nothing)
+exactly_usable Zero m there = on_place there nothing
+exactly_usable Sign m there = on_place there nothing
+exactly_usable Small m there = on_place there nothing
 
 number_usable : (h : HighHalf) (w : ℕ) → w < 65536 → Usable (exactly_less_number h w)
 number_usable Any w lt = both (minus_usable (Number w) lt) (low_first nothing)
@@ -54,8 +54,8 @@ unsigned_usable w lt =
 
 pub items_with_place_usable : (o : Order) (f : Found) (m : AccOperand) → IsWordFound f → IsWordOperand m → Usable (items_with_place o f m)
 items_with_place_usable Exact f m is there = both (load_usable f is) (exactly_usable (high f) m there)
-items_with_place_usable Signed f m is there = both (load_signed_usable f is) (on_place tt there nothing)
-items_with_place_usable Unsigned f m is there = both (load_unsigned_usable f is) (on_place tt there nothing)
+items_with_place_usable Signed f m is there = both (load_signed_usable f is) (on_place there nothing)
+items_with_place_usable Unsigned f m is there = both (load_unsigned_usable f is) (on_place there nothing)
 
 pub items_with_constant_usable : (o : Order) (f : Found) (k : Constant) → IsWordFound f → IsWordConstant k → Usable (items_with_constant o f k)
 items_with_constant_usable Exact f k is word = exact_usable f k is word
@@ -65,11 +65,11 @@ items_with_constant_usable Unsigned f (Address v n) is word = both (kept_first f
 
 pub items_of_place_usable : (o : Order) (m : AccOperand) (f : Found) (h : HighHalf) → IsWordOperand m → IsWordFound f → Usable (items_of_place o m f h)
 items_of_place_usable Exact m f h there is = both (load_usable f is) (exactly_usable h m there)
-items_of_place_usable Signed m f Any there is = both (kept_first f is) (on_place tt there (on_first nothing))
-items_of_place_usable Signed m f Zero there is = both (kept_first f is) (on_place tt there (on_first nothing))
-items_of_place_usable Signed m f Sign there is = both (load_usable f is) (on_place tt there nothing)
-items_of_place_usable Signed m f Small there is = both (load_usable f is) (on_place tt there nothing)
-items_of_place_usable Unsigned m f Any there is = both (kept_first f is) (on_place tt there (on_first nothing))
-items_of_place_usable Unsigned m f Zero there is = both (load_usable f is) (on_place tt there nothing)
-items_of_place_usable Unsigned m f Sign there is = both (kept_first f is) (on_place tt there (on_first nothing))
-items_of_place_usable Unsigned m f Small there is = both (load_usable f is) (on_place tt there nothing)
+items_of_place_usable Signed m f Any there is = both (kept_first f is) (on_place there (on_first nothing))
+items_of_place_usable Signed m f Zero there is = both (kept_first f is) (on_place there (on_first nothing))
+items_of_place_usable Signed m f Sign there is = both (load_usable f is) (on_place there nothing)
+items_of_place_usable Signed m f Small there is = both (load_usable f is) (on_place there nothing)
+items_of_place_usable Unsigned m f Any there is = both (kept_first f is) (on_place there (on_first nothing))
+items_of_place_usable Unsigned m f Zero there is = both (load_usable f is) (on_place there nothing)
+items_of_place_usable Unsigned m f Sign there is = both (kept_first f is) (on_place there (on_first nothing))
+items_of_place_usable Unsigned m f Small there is = both (load_usable f is) (on_place there nothing)

@@ -17,7 +17,7 @@ use Rattle.acc_select.specs.Forms.{parameter_items}
 use Rattle.acc_select.specs.Selected.{code_of, arguments, waiting, is_last}
 use Rattle.emit_proof.specs.Addressed.{IsWordOperand}
 use Rattle.acc_select_proof.specs.OfWords.{IsOfWords, AreOfWords}
-use Rattle.image_proof.proofs.Usables.{Usable, nothing, IsFree}
+use Rattle.image_proof.proofs.Usables.{Usable, nothing}
 use Rattle.image_proof.proofs.UsableWords.{negative_word}
 use Rattle.image_proof.proofs.Branches.{UsableCode, of_word_usable, of_branch_usable, and_usable, or_usable, not_usable}
 use Rattle.image_proof.proofs.Forms.{IsWordShape, fixed_usable, held_usable, unary_usable, binary_usable, assign_name_usable, assign_at_usable, update_name_usable, update_at_usable, step_before_usable, step_after_usable, step_name_after_usable, pick_usable, comma_usable, in_usable, out_usable, argument_usable, parameters_usable, call_usable}
@@ -27,11 +27,6 @@ name_word : (v : VarRef) → IsWordOperand (place_of v)
 name_word (Scalar n) = tt
 name_word (Local n) = tt
 name_word (Static n) = tt
-
-name_free : (v : VarRef) → IsFree (place_of v)
-name_free (Scalar n) = tt
-name_free (Local n) = tt
-name_free (Static n) = tt
 
 shape_word : (e : ExprCode) → IsOfWords e → IsWordShape (shape_of e)
 shape_word (Node (tree.Const w) at) h = h
@@ -55,7 +50,7 @@ mutual
       of_branch_usable (or_branch (code_of a t).branch (code_of b t).branch) (or_usable (code_of a t).branch (code_of b t).branch (code_usable a h.0 t).branch (code_usable b h.1 t).branch)
   code_usable (Node (tree.Not e) at) h t = of_branch_usable (condition.negated (code_of e t).branch) (not_usable (code_of e t).branch (code_usable e h t).branch)
   code_usable (Node (tree.Pick c a b) at) h t = pick_usable (code_of c t) (code_of a t) (code_of b t) (code_usable c h.0 t) (code_usable a h.1 t) (code_usable b h.2 t)
-  code_usable (Node (tree.Assign (Named v place) e) at) h t = assign_name_usable (place_of v) (code_of e t) (name_free v) (name_word v) (code_usable e h.1 t)
+  code_usable (Node (tree.Assign (Named v place) e) at) h t = assign_name_usable (place_of v) (code_of e t) (name_word v) (code_usable e h.1 t)
   code_usable (Node (tree.Assign (At p place) e) at) h t = assign_at_usable (shape_of e) (code_of p) (code_of e) t (λ u. code_usable p h.0 u) (λ u. code_usable e h.1 u)
   code_usable (Node (tree.AssignOp o (Named v place) e) at) h t =
       update_name_usable (operation_of o) (shape_of e) (place_of v) (code_of e) t (shape_word e h.2) (name_word v) (λ u. code_usable e h.2 u)

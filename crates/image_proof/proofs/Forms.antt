@@ -23,7 +23,7 @@ use Rattle.acc_select.specs.Conditions as condition
 use Rattle.acc_select.specs.Forms as form
 use Rattle.acc_select.specs.Forms.{Code, Part_code, of_word, unary_word, unary_code, temporary, computed, compared, binary_code, signed_items, pick_code, comma_code, stored, assign_name_code, through, is_computed, assign_at_code, updated, update_name_code, update_at_code, stepped, undo_row, step_before_code, step_after_code, step_name_after_code, in_code, out_items, out_code, call_code, argument_items, parameter_items}
 use Rattle.emit_proof.specs.Addressed.{IsWordOperand}
-use Rattle.image_proof.proofs.Usables.{Usable, nothing, plain, on_number, on_first, on_place, IsFree, on_free, both, call}
+use Rattle.image_proof.proofs.Usables.{Usable, nothing, plain, on_number, on_first, on_place, both, call}
 use Rattle.image_proof.proofs.UsableWords.{IsWordConstant, IsWordFound, UsableWord, calculated, load_usable, loaded_usable, extend_usable}
 use Rattle.image_proof.proofs.Operations.{kept_first, with_place_usable, with_constant_usable, of_constant_usable, of_place_usable}
 use Rattle.image_proof.proofs.Comparisons.{items_with_place_usable, items_with_constant_usable, items_of_place_usable}
@@ -88,19 +88,19 @@ binary_usable (operation.Truth c) r s a b t p q h k = of_branch_usable (conditio
 
 -- stores
 stored_usable : (w : Word) (m : AccOperand) → UsableWord w → IsWordOperand m → UsableWord (stored w m)
-stored_usable w m h is = calculated (both (loaded_usable w h) (on_place tt is nothing))
+stored_usable w m h is = calculated (both (loaded_usable w h) (on_place is nothing))
 
 through_usable : (m : AccOperand) → IsWordOperand m → Usable (through m)
-through_usable m is = on_first (on_place tt is (plain (on_first (on_place tt tt nothing))))
+through_usable m is = on_first (on_place is (plain (on_first (on_place tt nothing))))
 
 either_word : (b : Bool) (u w : Word) → UsableWord u → UsableWord w → UsableCode (of_word (if b then u else w))
 either_word true u w h k = of_word_usable u h
 either_word false u w h k = of_word_usable w k
 
-pub assign_name_usable : (m : AccOperand) (e : Code) → IsFree m → IsWordOperand m → UsableCode e → UsableCode (assign_name_code m e)
-assign_name_usable m e free is h =
+pub assign_name_usable : (m : AccOperand) (e : Code) → IsWordOperand m → UsableCode e → UsableCode (assign_name_code m e)
+assign_name_usable m e is h =
     let made = of_word_usable (stored e.word m) (stored_usable e.word m h.word is) in
-    record { word = made.word; branch = made.branch; effect = h.into m free; into = made.into; point = made.point }
+    record { word = made.word; branch = made.branch; effect = h.into m is; into = made.into; point = made.point }
 
 behind_usable : {xs : ItemList} (w : Word) → Usable xs → UsableWord w → UsableWord (behind xs w)
 behind_usable w h k = record { items = both h k.items; found = k.found }
@@ -121,12 +121,12 @@ update_name_usable o s m e t q is k = of_word_usable (stored (updated o s m e t)
 pub update_at_usable : (o : Operation) (s : Shape) (p e : Part_code) (t : ℕ) → IsWordShape s → Always p → Always e → UsableCode (update_at_code o s p e t)
 update_at_usable o s p e t q h k =
     either_word (is_computed s) (form.update_through o s p e t) (form.update_at_once o s p e t)
-    (calculated (both (loaded_usable (p t).word (h t).word) (on_place tt tt (plain (both (loaded_usable (updated o s operand.Pointed e (suc t)) (updated_usable o s operand.Pointed e (suc t) q tt k)) (through_usable (temporary t) tt))))))
+    (calculated (both (loaded_usable (p t).word (h t).word) (on_place tt (plain (both (loaded_usable (updated o s operand.Pointed e (suc t)) (updated_usable o s operand.Pointed e (suc t) q tt k)) (through_usable (temporary t) tt))))))
     (behind_usable (stored (updated o s operand.Pointed e t) operand.Pointed) (h t).point (stored_usable (updated o s operand.Pointed e t) operand.Pointed (updated_usable o s operand.Pointed e t q tt k) tt))
 
 -- one more, or one less
 stepped_usable : (up : Bool) (m : AccOperand) → IsWordOperand m → Usable (stepped up m)
-stepped_usable up m is = on_place tt is (on_number (omega arith) (on_place tt is nothing))
+stepped_usable up m is = on_place is (on_number (omega arith) (on_place is nothing))
 
 undo_usable : (up : Bool) → Usable (undo_row up ▸ end)
 undo_usable up = on_number (omega arith) nothing
@@ -142,7 +142,7 @@ step_after_usable up xs m h is =
 pub step_name_after_usable : (up : Bool) (m : AccOperand) → IsWordOperand m → UsableCode (step_name_after_code up m)
 step_name_after_usable up m is =
     let made = step_after_usable up end m nothing is in
-    record { word = made.word; branch = made.branch; effect = made.effect; into = made.into; point = on_place tt is (plain (on_number (omega arith) (on_place tt is nothing))) }
+    record { word = made.word; branch = made.branch; effect = made.effect; into = made.into; point = on_place is (plain (on_number (omega arith) (on_place is nothing))) }
 
 -- the other forms
 signed_usable : (w : Word) → UsableWord w → Usable (signed_items w)
@@ -159,18 +159,18 @@ comma_usable a b h k = record {
   word = behind_usable b.word h.effect k.word;
   branch = record { at = λ sense hit miss x y. both h.effect (k.branch.at sense hit miss x y) };
   effect = both h.effect k.effect;
-  into = λ m free. both h.effect (k.into m free);
+  into = λ m is. both h.effect (k.into m is);
   point = both h.effect k.point;
 }
 
 pub in_usable : (port : ℕ) → UsableCode (in_code port)
 in_usable port =
     let made = of_word_usable (in_code port).word (held_usable (scratch 0) (on_first nothing) (omega arith)) in
-    record { word = made.word; branch = made.branch; effect = on_first nothing; into = λ m free. on_free m free nothing; point = made.point }
+    record { word = made.word; branch = made.branch; effect = on_first nothing; into = λ m is. on_place is nothing; point = made.point }
 
 out_items_usable : (port : ℕ) (f : Found) → IsWordFound f → Usable (out_items port f)
 out_items_usable port (Fixed k) is = both (kept_first (Fixed k) is) (on_first nothing)
-out_items_usable port (Held m) is = on_place tt is nothing
+out_items_usable port (Held m) is = on_place is nothing
 out_items_usable port (Loaded h) is = both (kept_first (Loaded h) is) (on_first nothing)
 
 pub out_usable : (port : ℕ) (e : Code) → UsableCode e → UsableCode (out_code port e)
@@ -183,7 +183,7 @@ argument_usable f i t false e rest h k = both (h.into (temporary t) tt) k
 
 pub parameters_usable : (f i t n : ℕ) → Usable (parameter_items f i t n)
 parameters_usable f i t zero = nothing
-parameters_usable f i t (suc n) = on_place tt tt (on_place tt tt (parameters_usable f (suc i) (suc t) n))
+parameters_usable f i t (suc n) = on_place tt (on_place tt (parameters_usable f (suc i) (suc t) n))
 
 pub call_usable : (f : ℕ) (xs ys : ItemList) → Usable xs → Usable ys → UsableCode (call_code f xs ys)
 call_usable f xs ys h k = of_word_usable (in_accumulator (xs ⧺ ys ⧺ Call f ▸ end) Any) (calculated (both h (both k call)))

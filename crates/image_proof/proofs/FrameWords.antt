@@ -49,7 +49,7 @@ if_some : (b : Bool) (x : ℕ) → (if b then Some x else None) ≡ Some x → b
 if_some true x is = refl
 if_some false x is = absurd (none-some x is)
 
-position_range : (base i : ℕ) (list : List ℕ) → i < length list → scalar_range (Some base) (Some list) i ≡ Some (range (base + i) 1)
+pub position_range : (base i : ℕ) (list : List ℕ) → i < length list → scalar_range (Some base) (Some list) i ≡ Some (range (base + i) 1)
 position_range base i list less = ap (λ b. if b then Some (range (base + i) 1) else None) (lt-ltb i (length list) less)
 
 -- the addresses of a function's parameters among those of all

@@ -25,7 +25,7 @@ pub record FramedAt (functions : List FunctionCode) (arrangements : List (List (
 abbrev pub FrameAt : Emission → ℕ → Type 0
 FrameAt e f = FramedAt e.code.functions e.arrangements e.plan.frames f
 
-framed_at : (start : ℕ) (begin : ℕ → ℕ) (n : ℕ) (functions : List FunctionCode) (arrangements : List (List (List ℕ))) → length arrangements ≡ length functions → (f : ℕ) → f < length functions
+pub framed_at : (start : ℕ) (begin : ℕ → ℕ) (n : ℕ) (functions : List FunctionCode) (arrangements : List (List (List ℕ))) → length arrangements ≡ length functions → (f : ℕ) → f < length functions
     → FramedAt functions arrangements (frames_from start begin n functions arrangements) f
 framed_at start begin n [] arrangements count f less = absurd (omega (arith, less))
 framed_at start begin n (g ∷ gs) [] count f less = absurd (omega (arith, count))

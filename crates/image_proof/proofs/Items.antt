@@ -17,7 +17,7 @@ use Rattle.emit_blocks.specs.Places.{object_address}
 use Rattle.emit_proof.specs.Sites.{Site}
 use Rattle.emit_proof.specs.Operations.{IsTakenIn}
 use Rattle.emit_proof.specs.Code.{HelperStands, IsPresent, ItemStands}
-use Rattle.image_proof.specs.Usable.{MayTake, IsUsableItem}
+use Rattle.image_proof.specs.Usable.{IsUsableItem}
 
 module _ (C : Item → Type 0) where
   mutual
@@ -49,57 +49,57 @@ module _ (start : machine.State) (program : Memory) (names : List ℕ → ℕ) (
   present n (Some c) h = tt
 
   module _ (ram : (v : VarRef) → IsPresent (cells v) → 784 ≤ object_address k.places v) where
-    -- an operand of an input lies in RAM
-    taken_in : (o : AccOp) (a : AccOperand) → MayTake a o → RefersRight scalars cells parameters helps (Op o a) → IsTakenIn k o a
-    taken_in (row.In port) (operand.Direct v) may refers = let low = ram v (present 0 (cells v) refers.there.1) in omega (arith, low)
-    taken_in (row.In port) operand.Pointed may refers = absurd may
-    taken_in (row.In port) operand.Nothing may refers = tt
-    taken_in (row.In port) (operand.Scalar n) may refers = tt
-    taken_in (row.In port) (operand.Param f n) may refers = tt
-    taken_in (row.In port) (operand.Scratch n) may refers = tt
-    taken_in (row.In port) (operand.Number w) may refers = tt
-    taken_in (row.In port) (operand.Address v i) may refers = tt
-    taken_in row.Point a may refers = tt
-    taken_in (row.Add s) a may refers = tt
-    taken_in (row.Sub s) a may refers = tt
-    taken_in (row.Lac s) a may refers = tt
-    taken_in row.Mpy a may refers = tt
-    taken_in row.Lt a may refers = tt
-    taken_in row.Zals a may refers = tt
-    taken_in row.Lact a may refers = tt
-    taken_in row.Subs a may refers = tt
-    taken_in row.Adds a may refers = tt
-    taken_in row.Xor a may refers = tt
-    taken_in row.Or a may refers = tt
-    taken_in row.And a may refers = tt
-    taken_in (row.Sacl s) a may refers = tt
-    taken_in (row.Sach s) a may refers = tt
-    taken_in (row.Out port) a may refers = tt
-    taken_in row.Mpyk a may refers = tt
-    taken_in row.Lack a may refers = tt
-    taken_in row.Addk a may refers = tt
-    taken_in row.Subk a may refers = tt
-    taken_in (row.Lalk s) a may refers = tt
-    taken_in (row.Adlk s) a may refers = tt
-    taken_in (row.Sblk s) a may refers = tt
-    taken_in row.Andk a may refers = tt
-    taken_in row.Ork a may refers = tt
-    taken_in row.Xork a may refers = tt
-    taken_in row.Dint a may refers = tt
-    taken_in row.Rovm a may refers = tt
-    taken_in row.Spm a may refers = tt
-    taken_in row.Rsxm a may refers = tt
-    taken_in row.Ssxm a may refers = tt
-    taken_in row.Pac a may refers = tt
-    taken_in row.Apac a may refers = tt
-    taken_in row.Spac a may refers = tt
-    taken_in row.Sfl a may refers = tt
-    taken_in row.Sfr a may refers = tt
-    taken_in row.Neg a may refers = tt
-    taken_in row.Cmpl a may refers = tt
+    -- an object of an input lies in RAM
+    taken_in : (o : AccOp) (a : AccOperand) → RefersRight scalars cells parameters helps (Op o a) → IsTakenIn k o a
+    taken_in (row.In port) (operand.Direct v) refers = let low = ram v (present 0 (cells v) refers.there.1) in omega (arith, low)
+    taken_in (row.In port) operand.Pointed refers = tt
+    taken_in (row.In port) operand.Nothing refers = tt
+    taken_in (row.In port) (operand.Scalar n) refers = tt
+    taken_in (row.In port) (operand.Param f n) refers = tt
+    taken_in (row.In port) (operand.Scratch n) refers = tt
+    taken_in (row.In port) (operand.Number w) refers = tt
+    taken_in (row.In port) (operand.Address v i) refers = tt
+    taken_in row.Point a refers = tt
+    taken_in (row.Add s) a refers = tt
+    taken_in (row.Sub s) a refers = tt
+    taken_in (row.Lac s) a refers = tt
+    taken_in row.Mpy a refers = tt
+    taken_in row.Lt a refers = tt
+    taken_in row.Zals a refers = tt
+    taken_in row.Lact a refers = tt
+    taken_in row.Subs a refers = tt
+    taken_in row.Adds a refers = tt
+    taken_in row.Xor a refers = tt
+    taken_in row.Or a refers = tt
+    taken_in row.And a refers = tt
+    taken_in (row.Sacl s) a refers = tt
+    taken_in (row.Sach s) a refers = tt
+    taken_in (row.Out port) a refers = tt
+    taken_in row.Mpyk a refers = tt
+    taken_in row.Lack a refers = tt
+    taken_in row.Addk a refers = tt
+    taken_in row.Subk a refers = tt
+    taken_in (row.Lalk s) a refers = tt
+    taken_in (row.Adlk s) a refers = tt
+    taken_in (row.Sblk s) a refers = tt
+    taken_in row.Andk a refers = tt
+    taken_in row.Ork a refers = tt
+    taken_in row.Xork a refers = tt
+    taken_in row.Dint a refers = tt
+    taken_in row.Rovm a refers = tt
+    taken_in row.Spm a refers = tt
+    taken_in row.Rsxm a refers = tt
+    taken_in row.Ssxm a refers = tt
+    taken_in row.Pac a refers = tt
+    taken_in row.Apac a refers = tt
+    taken_in row.Spac a refers = tt
+    taken_in row.Sfl a refers = tt
+    taken_in row.Sfr a refers = tt
+    taken_in row.Neg a refers = tt
+    taken_in row.Cmpl a refers = tt
 
     item_stands : (x : Item) → IsUsableItem x → RefersRight scalars cells parameters helps x → ((name : HelperName) → x ≡ Helper name → HelperStands start program names m k name) → ItemStands start program names m k x
-    item_stands (Op o a) usable refers helpers = (usable.0, taken_in o a usable.1 refers)
+    item_stands (Op o a) usable refers helpers = (usable, taken_in o a refers)
     item_stands (If test hit miss) usable refers helpers = tt
     item_stands (Loop before body third last) usable refers helpers = tt
     item_stands (Switch labels body) usable refers helpers = usable

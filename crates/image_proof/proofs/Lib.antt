@@ -94,6 +94,7 @@ pub mod RunsFit
 pub mod DirectBodies
 mod PieceWalksExamples
 pub mod Runs
+pub mod ScalarWords
 pub mod Functions
 pub mod Among
 pub mod Directs

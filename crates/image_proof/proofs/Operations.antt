@@ -20,7 +20,6 @@ use Rattle.acc_select.specs.acc_operations.declared.operation.Arithmetic.TheVari
 use Rattle.acc_select.specs.acc_operations.declared.operation.Bitwise.{Bitwise}
 use Rattle.acc_select.specs.acc_operations.declared.operation.Bitwise.TheVariants as bits
 use Rattle.emit_proof.specs.Addressed.{IsWordOperand}
-use Rattle.image_proof.specs.Usable.{IsNoInput}
 use Rattle.image_proof.proofs.Usables.{Usable, nothing, plain, on_number, on_address, on_scratch, on_first, on_place, both, either, routine}
 use Rattle.image_proof.proofs.UsableWords.{IsWordConstant, IsWordFound, UsableWord, calculated, negative_word, constant_first, on_constant, load_usable, store_usable, load_t_usable, load_signed_usable, load_unsigned_usable}
 
@@ -55,7 +54,7 @@ moved_left_usable f n is = either (nat_lt n 4) (both (load_usable f is) (repeate
 
 shift_left_usable : (f : Found) (n : ℕ) → IsWordFound f → Usable (shift_left f n)
 shift_left_usable (Fixed k) n is = moved_left_usable (Fixed k) n is
-shift_left_usable (Held m) n is = on_place tt is nothing
+shift_left_usable (Held m) n is = on_place is nothing
 shift_left_usable (Loaded h) n is = moved_left_usable (Loaded h) n is
 
 moved_right_usable : (o : AccOp) (n : ℕ) → Usable (moved_right (Op o (scratch 0)) n)
@@ -67,7 +66,7 @@ moved_right_signed_usable f n is = both (load_signed_usable f is) (moved_right_u
 
 shift_right_signed_usable : (f : Found) (n : ℕ) → IsWordFound f → Usable (shift_right_signed f n)
 shift_right_signed_usable (Fixed k) n is = moved_right_signed_usable (Fixed k) n is
-shift_right_signed_usable (Held m) n is = either (nat_lt n 3) (moved_right_signed_usable (Held m) n is) (on_place tt is (on_first (on_first nothing)))
+shift_right_signed_usable (Held m) n is = either (nat_lt n 3) (moved_right_signed_usable (Held m) n is) (on_place is (on_first (on_first nothing)))
 shift_right_signed_usable (Loaded h) n is = moved_right_signed_usable (Loaded h) n is
 
 shift_right_unsigned_usable : (f : Found) (n : ℕ) → IsWordFound f → Usable (shift_right_unsigned f n)
@@ -85,44 +84,39 @@ times_usable (Number w) is = either (has_13_bits w) (on_number is (plain nothing
 times_usable (Address v n) is = constant_first (Address v n) is (on_first product_usable)
 
 multiply_usable : (f : Found) (m : AccOperand) → IsWordFound f → IsWordOperand m → Usable (multiply f m)
-multiply_usable f m is there = both (load_t_usable f is) (on_place tt there (plain nothing))
+multiply_usable f m is there = both (load_t_usable f is) (on_place there (plain nothing))
 
 product_with_usable : (f : Found) (m : AccOperand) → IsWordFound f → IsWordOperand m → Usable (product_with_place f m)
-product_with_usable (Fixed (Number w)) m is there = either (has_13_bits w) (on_place tt there (times_usable (Number w) is)) (multiply_usable (Fixed (Number w)) m is there)
+product_with_usable (Fixed (Number w)) m is there = either (has_13_bits w) (on_place there (times_usable (Number w) is)) (multiply_usable (Fixed (Number w)) m is there)
 product_with_usable f m is there = multiply_usable f m is there
 
 -- operations by a routine
 with_word : (name : HelperName) (f : Found) (m : AccOperand) → IsWordFound f → IsWordOperand m → UsableWord (helped name f (lac m))
-with_word name f m is there = calculated (both (kept_first f is) (on_place tt there (on_second (helper_usable name))))
+with_word name f m is there = calculated (both (kept_first f is) (on_place there (on_second (helper_usable name))))
 
 with_number : (name : HelperName) (f : Found) (k : Constant) → IsWordFound f → IsWordConstant k → UsableWord (helped name f (load_constant k))
 with_number name f k is word = calculated (both (kept_first f is) (constant_first k word (on_second (helper_usable name))))
 
 behind_word : (name : HelperName) (f : Found) (m : AccOperand) → IsWordFound f → IsWordOperand m → UsableWord (helped_behind name f (lac m))
-behind_word name f m is there = calculated (both (kept_second f is) (on_place tt there (on_first (helper_usable name))))
+behind_word name f m is there = calculated (both (kept_second f is) (on_place there (on_first (helper_usable name))))
 
 behind_number : (name : HelperName) (f : Found) (k : Constant) → IsWordFound f → IsWordConstant k → UsableWord (helped_behind name f (load_constant k))
 behind_number name f k is word = calculated (both (kept_second f is) (constant_first k word (on_first (helper_usable name))))
 
 -- operations on bits
-bitwise_is_no_input : (o : Bitwise) → IsNoInput (row_on_place o)
-bitwise_is_no_input bits.And = tt
-bitwise_is_no_input bits.Or = tt
-bitwise_is_no_input bits.Xor = tt
-
 bits_of_place : (o : Bitwise) (f : Found) (m : AccOperand) → IsWordFound f → IsWordOperand m → UsableWord (on_bits_of_place o f m)
-bits_of_place o f m is there = calculated (both (load_usable f is) (on_place (bitwise_is_no_input o) there nothing))
+bits_of_place o f m is there = calculated (both (load_usable f is) (on_place there nothing))
 
 bits_of_constant : (o : Bitwise) (f : Found) (k : Constant) → IsWordFound f → IsWordConstant k → UsableWord (on_bits_of_constant o f k)
 bits_of_constant o f k is word = calculated (both (load_usable f is) (on_constant (row_on_constant o) k word nothing))
 
 -- operations
 pub with_place_usable : (o : Arithmetic) (f : Found) (m : AccOperand) → IsWordFound f → IsWordOperand m → UsableWord (with_place o f m)
-with_place_usable Sum f m is there = calculated (both (load_usable f is) (on_place tt there nothing))
-with_place_usable Difference f m is there = calculated (both (load_usable f is) (on_place tt there nothing))
+with_place_usable Sum f m is there = calculated (both (load_usable f is) (on_place there nothing))
+with_place_usable Difference f m is there = calculated (both (load_usable f is) (on_place there nothing))
 with_place_usable (Bits o) f m is there = bits_of_place o f m is there
 with_place_usable Product f m is there = calculated (product_with_usable f m is there)
-with_place_usable LeftShift f m is there = calculated (both (kept_first f is) (on_place tt there (on_first nothing)))
+with_place_usable LeftShift f m is there = calculated (both (kept_first f is) (on_place there (on_first nothing)))
 with_place_usable (RightShift signed) f m is there = with_word (shift_helper signed) f m is there
 with_place_usable (Quotient signed) f m is there = with_word (division_helper signed) f m is there
 with_place_usable (Remainder signed) f m is there = with_word (remainder_helper signed) f m is there
@@ -152,11 +146,11 @@ of_constant_usable (Quotient signed) k f word is = behind_number (division_helpe
 of_constant_usable (Remainder signed) k f word is = behind_number (remainder_helper signed) f k is word
 
 pub of_place_usable : (o : Arithmetic) (m : AccOperand) (f : Found) → IsWordOperand m → IsWordFound f → UsableWord (of_place o m f)
-of_place_usable Sum m f there is = calculated (both (load_usable f is) (on_place tt there nothing))
-of_place_usable Difference m f there is = calculated (both (load_usable f is) (on_place tt there (plain nothing)))
+of_place_usable Sum m f there is = calculated (both (load_usable f is) (on_place there nothing))
+of_place_usable Difference m f there is = calculated (both (load_usable f is) (on_place there (plain nothing)))
 of_place_usable (Bits o) m f there is = bits_of_place o f m is there
 of_place_usable Product m f there is = calculated (multiply_usable f m is there)
-of_place_usable LeftShift m f there is = calculated (both (kept_first f is) (on_first (on_place tt there nothing)))
+of_place_usable LeftShift m f there is = calculated (both (kept_first f is) (on_first (on_place there nothing)))
 of_place_usable (RightShift signed) m f there is = behind_word (shift_helper signed) f m is there
 of_place_usable (Quotient signed) m f there is = behind_word (division_helper signed) f m is there
 of_place_usable (Remainder signed) m f there is = behind_word (remainder_helper signed) f m is there

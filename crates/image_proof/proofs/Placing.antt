@@ -25,7 +25,7 @@ use Rattle.image_proof.specs.PlanPlaces.{address_or_start, local_addresses, plac
 use Rattle.image_proof.proofs.Addresses.{object_ranged, object_there, local_ranged, local_there}
 
 -- each lowered function calls what its function calls
-calls_same : (fs : List FunctionTree) → code_calls (map lowered_function fs) ≡ program_calls fs
+pub calls_same : (fs : List FunctionTree) → code_calls (map lowered_function fs) ≡ program_calls fs
 calls_same [] = refl
 calls_same (f ∷ fs) =
     ap (λ us. called us ∷ code_calls (map lowered_function fs)) (statement_uses_kept f.body)

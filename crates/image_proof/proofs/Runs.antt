@@ -69,7 +69,7 @@ position_within (m ∷ ms) n there = by (m == n) there (position_within ms n)
 abbrev counted : Bool → ℕ
 counted b = cond b 1 0
 
-counted_none : (l : List ℕ) (n : ℕ) → has l n ≡ false → count_by (λ s. s == n) l ≡ 0
+pub counted_none : (l : List ℕ) (n : ℕ) → has l n ≡ false → count_by (λ s. s == n) l ≡ 0
 counted_none [] n none = refl
 counted_none (m ∷ ms) n none = by (m == n) refl none (counted_none ms n)
   where

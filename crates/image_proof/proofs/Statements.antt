@@ -33,7 +33,7 @@ module _ (at : Addresses) (q : Places) where
 
   cells_usable : (k i : ℕ) (xs : List Initial) → AllByRecursion (IsFitInitial at q) xs → Usable (cell_items k i xs)
   cells_usable k i [] h = clear
-  cells_usable k i (x ∷ xs) h = constant_first (Address (Local k) i) tt (plain (constant_first (initial_constant x) (initial_word x h.0) (on_place tt tt (cells_usable k (suc i) xs h.1))))
+  cells_usable k i (x ∷ xs) h = constant_first (Address (Local k) i) tt (plain (constant_first (initial_constant x) (initial_word x h.0) (on_place tt (cells_usable k (suc i) xs h.1))))
 
   fill_usable : (k : ℕ) (o : Option ObjectTree) → IsFitObject at q o → Usable (fill_items k o)
   fill_usable k None h = nothing

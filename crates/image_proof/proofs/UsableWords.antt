@@ -15,7 +15,7 @@ use Rattle.acc_select.specs.acc_operations.declared.found.Found.TheVariants.{Fix
 use Rattle.acc_select.specs.acc_operations.declared.high_half.HighHalf.{HighHalf}
 use Rattle.acc_select.specs.acc_operations.declared.high_half.HighHalf.TheVariants.{Any, Zero, Sign, Small}
 use Rattle.emit_proof.specs.Addressed.{IsWordOperand}
-use Rattle.image_proof.proofs.Usables.{Usable, nothing, on_number, on_address, on_first, on_place, IsFree, on_free, both}
+use Rattle.image_proof.proofs.Usables.{Usable, nothing, on_number, on_address, on_first, on_place, both}
 
 abbrev pub IsWordConstant : Constant → Type 0
 IsWordConstant (Number w) = w < 65536
@@ -52,18 +52,18 @@ on_constant o (Address v n) is h = on_address h
 -- words that were found
 pub load_usable : (f : Found) → IsWordFound f → Usable (load f)
 load_usable (Fixed k) is = constant_first k is nothing
-load_usable (Held m) is = on_place tt is nothing
+load_usable (Held m) is = on_place is nothing
 load_usable (Loaded h) is = nothing
 
 pub loaded_usable : (w : Word) → UsableWord w → Usable (loaded w)
 loaded_usable w h = both h.items (load_usable w.found h.found)
 
-pub store_usable : (m : AccOperand) (f : Found) → IsFree m → IsWordFound f → Usable (store m f)
-store_usable m f free is = both (load_usable f is) (on_free m free nothing)
+pub store_usable : (m : AccOperand) (f : Found) → IsWordOperand m → IsWordFound f → Usable (store m f)
+store_usable m f to is = both (load_usable f is) (on_place to nothing)
 
 pub load_t_usable : (f : Found) → IsWordFound f → Usable (load_t f)
 load_t_usable (Fixed k) is = constant_first k is (on_first (on_first nothing))
-load_t_usable (Held m) is = on_place tt is nothing
+load_t_usable (Held m) is = on_place is nothing
 load_t_usable (Loaded h) is = on_first (on_first nothing)
 
 -- high halves

@@ -1,6 +1,6 @@
 -- Lists of usable items, put together of smaller ones.
 use Rattle.std.proofs.Common.{ℕ, ◌<◌, Bool, true, false, List, arith}
-use Rattle.std.specs.Prelude.{⊤, if◌then◌else◌}
+use Rattle.std.specs.Prelude.{if◌then◌else◌}
 use Rattle.acc_code.specs.AccTree.{Op, If, Loop, Switch, Case, Clear, Call, Helper, Break, Continue, Return, ItemList, end, item, ◌▸◌, ◌⧺◌}
 use Rattle.acc_code.specs.Emittable.{Throughout}
 use Rattle.acc_code.specs.declared.item.CaseLabel.{CaseLabel}
@@ -13,7 +13,7 @@ use Rattle.acc_select.specs.acc_operations.Words.{scratch, bare}
 use Rattle.c_tree.specs.declared.program.VarRef.{VarRef}
 use Rattle.emit_proof.specs.Addressed.{IsWordOperand}
 use Rattle.emit_proof.specs.Code.{AreWordLabels}
-use Rattle.image_proof.specs.Usable.{IsNoInput, MayTake, IsUsableItem}
+use Rattle.image_proof.specs.Usable.{IsUsableItem}
 
 pub record Usable (xs : ItemList) : Type 0 where
   pub items : Throughout IsUsableItem xs
@@ -23,45 +23,23 @@ nothing = record { items = tt }
 
 -- one operation more, with no operand, with a number, with an address, or with a word of memory
 pub plain : {o : AccOp} {xs : ItemList} → Usable xs → Usable (bare o ▸ xs)
-plain h = record { items = ((tt, tt), tt, h.items) }
+plain h = record { items = (tt, tt, h.items) }
 
 pub on_number : {o : AccOp} {w : ℕ} {xs : ItemList} → w < 65536 → Usable xs → Usable (Op o (operand.Number w) ▸ xs)
-on_number lt h = record { items = ((lt, tt), tt, h.items) }
+on_number lt h = record { items = (lt, tt, h.items) }
 
 pub on_address : {o : AccOp} {v : VarRef} {n : ℕ} {xs : ItemList} → Usable xs → Usable (Op o (operand.Address v n) ▸ xs)
-on_address h = record { items = ((tt, tt), tt, h.items) }
+on_address h = record { items = (tt, tt, h.items) }
 
 pub on_scratch : {o : AccOp} {n : ℕ} {xs : ItemList} → n < 256 → Usable xs → Usable (Op o (scratch n) ▸ xs)
-on_scratch lt h = record { items = ((lt, tt), tt, h.items) }
+on_scratch lt h = record { items = (lt, tt, h.items) }
 
 -- the first scratch word
 pub on_first : {o : AccOp} {xs : ItemList} → Usable xs → Usable (Op o (scratch 0) ▸ xs)
 on_first h = on_scratch (omega arith) h
 
-may_take : (m : AccOperand) (o : AccOp) → IsNoInput o → MayTake m o
-may_take operand.Pointed o is = is
-may_take m o is = tt
-
-pub on_place : {o : AccOp} {m : AccOperand} {xs : ItemList} → IsNoInput o → IsWordOperand m → Usable xs → Usable (Op o m ▸ xs)
-on_place {o} {m} not_in is h = record { items = ((is, may_take m o not_in), tt, h.items) }
-
--- places to which any row may store, an input too
-abbrev pub IsFree : AccOperand → Type 0
-IsFree (operand.Scalar n) = ⊤
-IsFree (operand.Direct v) = ⊤
-IsFree (operand.Param f n) = ⊤
-IsFree (operand.Scratch n) = n < 256
-IsFree m = ⊥
-
-pub on_free : {o : AccOp} {xs : ItemList} (m : AccOperand) → IsFree m → Usable xs → Usable (Op o m ▸ xs)
-on_free (operand.Scalar n) is h = record { items = ((tt, tt), tt, h.items) }
-on_free (operand.Direct v) is h = record { items = ((tt, tt), tt, h.items) }
-on_free (operand.Param f n) is h = record { items = ((tt, tt), tt, h.items) }
-on_free (operand.Scratch n) is h = on_scratch is h
-on_free operand.Nothing is h = absurd is
-on_free (operand.Number w) is h = absurd is
-on_free (operand.Address v n) is h = absurd is
-on_free operand.Pointed is h = absurd is
+pub on_place : {o : AccOp} {m : AccOperand} {xs : ItemList} → IsWordOperand m → Usable xs → Usable (Op o m ▸ xs)
+on_place is h = record { items = (is, tt, h.items) }
 
 -- lists one behind another, and one of two
 joined : (xs ys : ItemList) → Throughout IsUsableItem xs → Throughout IsUsableItem ys → Throughout IsUsableItem (xs ⧺ ys)

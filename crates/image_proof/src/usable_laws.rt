@@ -9,8 +9,8 @@ ghost use Rattle.acc_code.specs.Emittable.{Throughout};
 ghost use Rattle.acc_select.specs.Selected.{selected};
 ghost use Rattle.image_proof.specs.Usable.{IsUsableItem};
 
-/// Each item of a typed program of words may be used as it is, at whatever depth: numbers and values of cases are words, numbers of scratch words have
-/// 8 bits, and an input goes to no word that is pointed to.
+/// Each item of a typed program of words may be used as it is, at whatever depth: numbers and values of cases are words, and numbers of scratch words
+/// have 8 bits.
 pub fn selected_is_usable()
     ensures usable { (p : ProgramTree) (f : ℕ) (g : FunctionItems) → IsProgram p → ProgramHasWords p → slice_get (selected (lowered_program p)) f ≡ Some g → Throughout IsUsableItem g.body }
 {}

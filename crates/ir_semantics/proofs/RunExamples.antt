@@ -10,6 +10,7 @@ use Rattle.tree_code.specs.declared.operator.WordOp.TheVariants as word
 use Rattle.tree_code.specs.WordTree as tree
 use Rattle.tree_code.specs.WordTree.{ExprCode, Node, Named, StmtCode, FunctionCode, ProgramCode}
 use Rattle.acc_code.specs.declared.item.CaseLabel.TheVariants.{Value, Default}
+use Rattle.acc_code.specs.declared.operand.AccOperand.{AccOperand}
 use Rattle.acc_code.specs.declared.operand.AccOperand.TheVariants as operand
 use Rattle.acc_code.specs.declared.operand.HelperName.TheVariants as helper
 use Rattle.acc_code.specs.declared.operation.AccOp.TheVariants as row
@@ -62,10 +63,14 @@ from a xs = came (run (context 3) xs (start a))
 abbrev number : ℕ → ItemList → ItemList
 number n xs = Op row.Lack (operand.Number n) ▸ xs
 
--- a test needs all of the accumulator, and leaves nothing of it
+-- a test needs all of the accumulator, and leaves it
 choices : (from (Whole 0) (If test.Z (number 1 end) (number 2 end) ▸ end) ≡ To part.Next (Whole 1) (Some 3) 6) × (from (Whole 65536) (If test.Z (number 1 end) (number 2 end) ▸ end) ≡ To part.Next (Whole 2) (Some 3) 6)
-    × (from (Whole 0) (If test.Z end end ▸ end) ≡ To part.Next Gone (Some 3) 4) × (from (Low 0) (If test.Z end end ▸ end) ≡ To_nothing)
+    × (from (Whole 7) (If test.Z (number 1 end) end ▸ end) ≡ To part.Next (Whole 7) (Some 3) 4) × (from (Low 0) (If test.Z end end ▸ end) ≡ To_nothing)
 choices = (refl, refl, refl, refl)
+
+-- what is known of the accumulator before a test is known in both parts and behind it
+known_behind : (from (Whole 0) (If test.Z (Op (row.Sacl 0) (operand.Scalar 0) ▸ end) end ▸ end) ≡ To part.Next (Whole 0) (Some 0) 9) × (from (Whole 8) (If test.Z end end ▸ Op (row.Sacl 0) (operand.Scalar 0) ▸ end) ≡ To part.Next (Whole 8) (Some 8) 9)
+known_behind = (refl, refl)
 
 -- scalar 0 is counted down
 abbrev down : ItemList
@@ -74,7 +79,7 @@ down = Op (row.Lac 0) (operand.Scalar 0) ▸ Op row.Subk (operand.Number 1) ▸ 
 abbrev until_zero : ItemList
 until_zero = Op (row.Lac 0) (operand.Scalar 0) ▸ If test.Nz end (Break ▸ end) ▸ end
 
-loops : (came (run (context 3) (Loop until_zero end down false ▸ end) (start Gone)) ≡ To part.Next Gone (Some 0) 98) × (came (run (context 2) (Loop until_zero end down false ▸ end) (start Gone)) ≡ Without_end)
+loops : (came (run (context 3) (Loop until_zero end down false ▸ end) (start Gone)) ≡ To part.Next (Whole 0) (Some 0) 98) × (came (run (context 2) (Loop until_zero end down false ▸ end) (start Gone)) ≡ Without_end)
     × (came (run (context 1) (Loop end (Continue ▸ end) (Break ▸ end) true ▸ end) (start Gone)) ≡ To part.Next Gone (Some 3) 16) × (came (run (context 1) (Loop (Continue ▸ end) end end false ▸ end) (start Gone)) ≡ To_nothing)
     × (came (run (context 1) (Loop end (Return ▸ end) end false ▸ end) (start (Low 5))) ≡ To part.Returned (Low 5) (Some 3) 15)
 loops = (refl, refl, refl, refl, refl)
@@ -102,6 +107,14 @@ objects : (from Gone (Op (row.Lac 0) (operand.Direct (name.Static 0)) ▸ end) �
     × (from Gone (Op (row.Lalk 0) (operand.Address (name.Static 0) 2) ▸ Op row.Point operand.Nothing ▸ Op (row.Lac 0) operand.Pointed ▸ end) ≡ To_nothing)
     × (from Gone (Clear (name.Local 0) 0 ▸ Op (row.Lac 0) (operand.Direct (name.Local 0)) ▸ end) ≡ To part.Next (Whole 0) (Some 3) 139)
 objects = (refl, refl, refl, refl)
+
+-- a word that is missing ends a run, though through a pointer only where an object lives: the array has the words 900 and 901
+abbrev missing : AccOperand → ItemList
+missing m = Op (row.In 3) (operand.Scalar 0) ▸ Op row.Point operand.Nothing ▸ Op (row.In 3) m ▸ end
+
+missing_words : (run (context 3) (missing operand.Pointed) (start (Whole 901)) ≡ Finished (InputEnded 3) [] 10) × (run (context 3) (missing operand.Pointed) (start (Whole 903)) ≡ Fails [])
+    × (run (context 3) (missing (operand.Scalar 0)) (start (Whole 903)) ≡ Finished (InputEnded 3) [] 13)
+missing_words = (refl, refl, refl)
 
 -- Whole programs: f adds 1 to its argument, and main puts what f makes of a port's word, adds a static word, and goes round so often.
 abbrev node : tree.FormCode → ExprCode

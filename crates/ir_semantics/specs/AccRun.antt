@@ -96,8 +96,16 @@ abbrev pub put : ℕ → Option ℕ → Does Machine Flow
 put port None = fail
 put port (Some x) = λ v. Gives Next (record v { outside = with_output port x v.outside })
 
+-- a port that has no word left ends the run; through a pointer only where a word could have been stored
+abbrev pub input_ends : ℕ → Does Machine Flow
+input_ends port = λ v. Finished (InputEnded port) v.outside.outs v.work
+
+abbrev pub missing : AccOperand → ℕ → Does Machine Flow
+missing operand.Pointed port = λ v. after (write_word v.registers.pointed 0 v) (λ flow. input_ends port)
+missing m port = input_ends port
+
 abbrev pub taken : Addresses → List ℕ → ℕ → AccOperand → Does Machine Flow
-taken at [] port m = λ v. Finished (InputEnded port) v.outside.outs v.work
+taken at [] port m = missing m port
 taken at (x ∷ xs) port m = λ v. store_to at m x (record v { outside = with_input port xs v.outside })
 
 abbrev pub registers_become : Option Registers → Does Machine Flow
@@ -129,10 +137,10 @@ forgetting flow = λ v. Gives flow (without_scratch v)
 abbrev pub between : Does Machine Flow → Does Machine Flow
 between f = λ v. after (f (without_scratch v)) forgetting
 
--- one of two parts, by a test of all 32 bits
+-- one of two parts, by a test of all 32 bits, which stay as they are
 abbrev pub tested : Test → Option ℕ → Does Machine Flow → Does Machine Flow → Does Machine Flow
 tested t None hit miss = fail
-tested t (Some z) hit miss = λ v. choose (holds t z) hit miss (without_acc v)
+tested t (Some z) hit miss = choose (holds t z) hit miss
 
 -- behind the first or the third part of a loop, where nothing is continued; and behind a turn
 abbrev pub behind_part : Flow → Does Machine Flow → Does Machine Flow

@@ -15,7 +15,8 @@ use Rattle.c_tree.specs.WellFormed.{Shape}
 use Rattle.c_tree.specs.WellFormedProgram.{program_calls, object_shape, object_in, static_names}
 use Rattle.ir_semantics.specs.Outside.{Places}
 use Rattle.tree_code_proof.specs.Seats.{Seat, Vacant, LiesAt, InFrame, Waits, Seats, Apart}
-use Rattle.tree_code_proof.specs.Surroundings.{place_of_name, Reaches, locals_of, IsLocal, ArePlaces, ApartOfRoom, IsOpen, MayBeCalled, Surrounds}
+use Rattle.tree_code_proof.specs.Reaching.{Reaches}
+use Rattle.tree_code_proof.specs.Surroundings.{place_of_name, locals_of, IsLocal, ArePlaces, ApartOfRoom, IsOpen, MayBeCalled, Surrounds}
 use Rattle.tree_code_proof.proofs.Making.{apart_too}
 use Rattle.tree_code_proof.proofs.Waiting.{waits}
 use Rattle.tree_code_proof.proofs.Rooms.{rooms_of, each_room, room_there, all_append}

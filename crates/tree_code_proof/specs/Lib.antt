@@ -4,4 +4,5 @@ pub mod Evaluated
 pub mod Executed
 pub mod Seats
 pub mod Beside
+pub mod Reaching
 pub mod Surroundings

@@ -7,10 +7,11 @@ use Rattle.c_tree.specs.declared.program.VarRef.TheVariants as name
 use Rattle.c_tree.specs.TypedTree.{ObjectTree, FunctionTree, ProgramTree}
 use Rattle.c_tree.specs.Store.{is_pointer}
 use Rattle.c_tree.specs.Eval.{Env, object_number}
-use Rattle.c_tree.specs.Rounds.{CallsAmong, IsWay}
+use Rattle.c_tree.specs.Rounds.{CallsAmong}
 use Rattle.c_tree.specs.WellFormed.{Shape}
 use Rattle.c_tree.specs.WellFormedProgram.{program_calls}
 use Rattle.ir_semantics.specs.Outside.{Places}
+use Rattle.tree_code_proof.specs.Reaching.{Reaches}
 use Rattle.tree_code_proof.specs.Seats.{Seat, LiesAt, InFrame, Room, Seats, IsPlace, Apart}
 
 -- the place of a name's object of so many cells
@@ -18,10 +19,6 @@ abbrev pub place_of_name : Places → ℕ → VarRef → ℕ → Seat
 place_of_name q f (name.Scalar n) count = InFrame n
 place_of_name q f (name.Local n) count = LiesAt (q.local f n) count
 place_of_name q f (name.Static n) count = LiesAt (q.static n) count
-
--- a function is another, or reaches it by calls
-abbrev pub Reaches : ProgramTree → ℕ → ℕ → Type 0
-Reaches p f g = (ms : List ℕ) × IsWay (CallsAmong (program_calls p.functions)) f ms g
 
 -- the local object of a function by its numbers
 abbrev pub locals_of : Option FunctionTree → List ObjectTree
