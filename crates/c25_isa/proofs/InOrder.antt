@@ -90,8 +90,8 @@ module _ (program : Memory) (names : List ℕ → ℕ) where
   filled at (q ∷ qs) a from below = by (cases_lt a (at + items_size q.items)) (λ more. let size = sizes at q qs in filled (at + items_size q.items) qs a more (omega (arith, below, size)))
     where
       by : (a < at + items_size q.items) ⊎ (at + items_size q.items ≤ a) → (at + items_size q.items ≤ a → (k : ℕ) × IsWordOf (places_from (at + items_size q.items) qs) qs k a) → (k : ℕ) × IsWordOf (places_from at (q ∷ qs)) (q ∷ qs) k a
-      by (inl here) rest = (0, record { piece = q; there = refl; behind = from; within = here })
-      by (inr more) rest = let r = rest more in (suc r.0, record { piece = r.1.piece; there = r.1.there; behind = r.1.behind; within = r.1.within })
+      by (inl here) rest = (0, record { piece = q; there = refl; begins = from; within = here })
+      by (inr more) rest = let r = rest more in (suc r.0, record { piece = r.1.piece; there = r.1.there; begins = r.1.begins; within = r.1.within })
 
 -- pieces stand behind where they begin, and none on a word of another
 places_behind : (at : ℕ) (all : List Piece) (k : ℕ) → at ≤ places_from at all k
@@ -104,11 +104,11 @@ not_both at q qs k a first other =
     let same : items_size q.items ≡ items_size first.piece.items = ap (λ (p : Piece). items_size p.items) (same_Some q first.piece first.there) in
     let low = places_behind (at + items_size q.items) qs k in
     let ends = first.within in
-    let begins = other.behind in
+    let begins = other.begins in
     omega (arith, same, low, ends, begins)
 
 further : (at : ℕ) (q : Piece) (qs : List Piece) (k a : ℕ) → IsWordOf (places_from at (q ∷ qs)) (q ∷ qs) (suc k) a → IsWordOf (places_from (at + items_size q.items) qs) qs k a
-further at q qs k a h = record { piece = h.piece; there = h.there; behind = h.behind; within = h.within }
+further at q qs k a h = record { piece = h.piece; there = h.there; begins = h.begins; within = h.within }
 
 apart : (at : ℕ) (all : List Piece) (j k a : ℕ) → IsWordOf (places_from at all) all j a → IsWordOf (places_from at all) all k a → j ≡ k
 apart at [] j k a first second = let none = first.there in absurd cc

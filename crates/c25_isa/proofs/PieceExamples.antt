@@ -122,9 +122,9 @@ mixed_ends (suc zero) = 13
 mixed_ends (suc (suc k)) = 6
 
 mixed_within : (k a : ℕ) → IsWordOf mixed_places mixed k a → (k ≤ 2) × (mixed_places k ≤ a) × (a < mixed_ends k)
-mixed_within zero a h = let same = ap (λ (p : Piece). items_size p.items) (same_Some start h.piece h.there) in let ends = h.within in (lit≤ tt, h.behind, omega (arith, same, ends))
-mixed_within (suc zero) a h = let same = ap (λ (p : Piece). items_size p.items) (same_Some count h.piece h.there) in let ends = h.within in (lit≤ tt, h.behind, omega (arith, same, ends))
-mixed_within (suc (suc zero)) a h = let same = ap (λ (p : Piece). items_size p.items) (same_Some (spin (codes "g")) h.piece h.there) in let ends = h.within in (lit≤ tt, h.behind, omega (arith, same, ends))
+mixed_within zero a h = let same = ap (λ (p : Piece). items_size p.items) (same_Some start h.piece h.there) in let ends = h.within in (lit≤ tt, h.begins, omega (arith, same, ends))
+mixed_within (suc zero) a h = let same = ap (λ (p : Piece). items_size p.items) (same_Some count h.piece h.there) in let ends = h.within in (lit≤ tt, h.begins, omega (arith, same, ends))
+mixed_within (suc (suc zero)) a h = let same = ap (λ (p : Piece). items_size p.items) (same_Some (spin (codes "g")) h.piece h.there) in let ends = h.within in (lit≤ tt, h.begins, omega (arith, same, ends))
 mixed_within (suc (suc (suc k))) a h = let none = h.there in absurd cc
 
 mixed_apart : (j k a : ℕ) → (j ≤ 2) × (mixed_places j ≤ a) × (a < mixed_ends j) → (k ≤ 2) × (mixed_places k ≤ a) × (a < mixed_ends k) → j ≡ k
@@ -142,9 +142,9 @@ mixed_filled : (a : ℕ) → a < 13 → (k : ℕ) × IsWordOf mixed_places mixed
 mixed_filled a below = by (cases_lt a 4) (cases_lt a 6)
   where
     by : (a < 4) ⊎ (4 ≤ a) → (a < 6) ⊎ (6 ≤ a) → (k : ℕ) × IsWordOf mixed_places mixed k a
-    by (inl low) high = (0, record { piece = start; there = refl; behind = omega arith; within = low })
-    by (inr low) (inl high) = (2, record { piece = spin (codes "g"); there = refl; behind = low; within = high })
-    by (inr low) (inr high) = (1, record { piece = count; there = refl; behind = high; within = below })
+    by (inl low) high = (0, record { piece = start; there = refl; begins = omega arith; within = low })
+    by (inr low) (inl high) = (2, record { piece = spin (codes "g"); there = refl; begins = low; within = high })
+    by (inr low) (inr high) = (1, record { piece = count; there = refl; begins = high; within = below })
 
 mixed_linked : Linked mixed (record { words = mixed_words; functions = range_of (codes "count") 6 7 ∷ range_of (codes "g") 4 2 ∷ [] })
 mixed_linked = record {
@@ -165,7 +165,7 @@ no_overlap : Linked (rovm ∷ rovm ∷ []) (record { words = 0xce02 ∷ []; func
 no_overlap linked =
     let ends = (linked.placed 1 rovm refl).within in
     let second : linked.place 1 ≡ 0 = omega (arith, ends) in
-    let same : 0 ≡ 1 = linked.apart 0 1 0 (record { piece = rovm; there = refl; behind = omega (arith, linked.first); within = omega arith }) (record { piece = rovm; there = refl; behind = omega (arith, second); within = omega arith }) in
+    let same : 0 ≡ 1 = linked.apart 0 1 0 (record { piece = rovm; there = refl; begins = omega (arith, linked.first); within = omega arith }) (record { piece = rovm; there = refl; begins = omega (arith, second); within = omega arith }) in
     omega (arith, same)
 
 -- an instruction of two words counts as two: LALK 1234h,3 is d301 1234

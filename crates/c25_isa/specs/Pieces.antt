@@ -127,7 +127,7 @@ pub record IsPlacedAt (words : List ℕ) (names : List ℕ → ℕ) (at : ℕ) (
 pub record IsWordOf (place : ℕ → ℕ) (pieces : List Piece) (k a : ℕ) : Type 0 where
   pub piece : Piece
   pub there : slice_get pieces k ≡ Some piece
-  pub behind : place k ≤ a
+  pub begins : place k ≤ a
   pub within : a < place k + items_size piece.items
 
 -- an image is linked from pieces: each has an address, the first one that of program word 0, and from there on the words of its instructions, with
