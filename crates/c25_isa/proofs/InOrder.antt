@@ -1,5 +1,5 @@
 -- An image of pieces one behind another from program word 0 on is linked from them.
-use Rattle.std.proofs.Common.{◌≡◌, ◌⊎◌, inl, inr, ℕ, zero, suc, ◌+◌, ◌<◌, ◌≤◌, Bool, true, false, cond, if◌then◌else◌, List, [], ◌∷◌, ◌++◌, length, get_or, Option, Some, None, refl, sym, ap, ◌∙◌, subst, arith, length-append}
+use Rattle.std.proofs.Common.{◌≡◌, ◌⊎◌, inl, inr, ℕ, zero, suc, ◌+◌, ◌<◌, ◌≤◌, if◌then◌else◌, List, [], ◌∷◌, ◌++◌, length, get_or, Option, Some, None, refl, ap, ◌∙◌, subst, arith, length-append}
 use Rattle.std.specs.Prelude.{slice_get}
 use Rattle.std.specs.Str.{bytes_eq}
 use Rattle.std.proofs.lemmas.Bool.{cases_lt}
@@ -7,8 +7,6 @@ use Rattle.std.proofs.lemmas.Grind.{flat_map-append}
 use Rattle.std.proofs.lemmas.List.{get_or-append-add}
 use Rattle.std.proofs.lemmas.Option.{same_Some}
 use mathlib.Core.Path.{fun_ext}
-use Rattle.c25_isa.specs.declared.image.FunctionRange.{FunctionRange}
-use Rattle.c25_isa.specs.declared.instruction.Instr.{Instr}
 use Rattle.c25_isa.specs.declared.piece.PieceItem.{PieceItem}
 use Rattle.c25_isa.specs.declared.piece.PieceItem.TheVariants.{Do, Mark, Jump, CallTo}
 use Rattle.c25_isa.specs.Image.{Contents}
@@ -16,7 +14,7 @@ use Rattle.c25_isa.specs.State.{Memory, words_at}
 use Rattle.c25_isa.specs.Step.{wrap16}
 use Rattle.c25_isa.specs.Table.{first_word, second_word, with_second, length_of, instr_words, code_words}
 use Rattle.c25_isa.specs.CodeAt.{WordsAt}
-use Rattle.c25_isa.specs.Pieces.{Piece, items_size, mark_address, items_code, piece_code, address_in, places_from, piece_address, pieces_code, range_of, ranges_in, listed_ranges, ListedHaveWords, IsPlacedAt, IsWordOf, Linked}
+use Rattle.c25_isa.specs.Pieces.{Piece, items_size, mark_address, items_code, piece_code, address_in, places_from, piece_address, pieces_code, range_of, ranges_in, listed_ranges, ListedHaveWords, IsWordOf, Linked}
 
 -- the words of items are as many as the items take
 words_then : (first : ℕ) (second : Option ℕ) (rest : List ℕ) → length (with_second first second ++ rest) ≡ length_of second + length rest
