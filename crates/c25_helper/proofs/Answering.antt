@@ -7,7 +7,7 @@ use Rattle.std.proofs.lemmas.Option.{same_Some}
 use Rattle.c25_isa.specs.declared.piece.PieceItem.{PieceItem}
 use Rattle.c25_isa.specs.declared.piece.PieceItem.TheVariants.{Do, Mark, Jump, CallTo}
 use Rattle.c25_isa.specs.Pieces.{Piece, items_size}
-use Rattle.c25_code.specs.Links.{IsMarkOf, MarksDiffer, MarksAtWords, MarksAreFit, PieceIsFit, first_piece}
+use Rattle.c25_code.specs.Links.{IsMarkOf, MarksDiffer, MarksAtWords, MarksAreFit, first_piece}
 use Rattle.c25_helper.specs.declared.routine.Routine.{Routine}
 use Rattle.c25_helper.specs.declared.routine.Routine.TheVariants.{DivInt, DivUnsigned, RemInt, RemUnsigned, ShrInt, ShrUnsigned}
 use Rattle.c25_helper.specs.Routines.{routine_name, routine_items, routine_piece, helper_pieces}

@@ -69,8 +69,8 @@ ItemsAt program marks names at (CallTo name o ∷ items) = StandsAt program at (
 abbrev pub piece_code : (List ℕ → ℕ) → ℕ → Piece → List Instr
 piece_code names at p = items_code (λ mark. wrap16 (mark_address at p.items mark)) names p.items
 
--- the address of the first piece of a name, where the pieces of a list have addresses by their numbers in it; a name that no piece has gets the
--- address behind those of all
+-- the address of the first piece of a name, where the pieces of a list have addresses by their numbers in it; a name that no piece has gets that of
+-- the number behind the last one
 abbrev pub address_in : (ℕ → ℕ) → List Piece → List ℕ → ℕ
 address_in place [] name = place 0
 address_in place (p ∷ ps) name = if bytes_eq p.name name then place 0 else address_in (λ k. place (suc k)) ps name
