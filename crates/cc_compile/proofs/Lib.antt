@@ -15,4 +15,6 @@ pub mod OneFault
 pub mod FaultLemmas
 pub mod ImageNames
 pub mod Promised
+mod ApartLemmas
+mod ApartExamples
 pub mod LimitLemmas

@@ -1,5 +1,5 @@
 -- What is promised of an image and of frames, from how they are made: their names, the search's answers, where the data are, and direct operands.
-use Rattle.std.proofs.Common.{◌≡◌, ◌+◌, ◌++◌, ◌∙◌, ℕ, zero, suc, Bool, true, false, List, [], ◌∷◌, length, map, refl, sym, ap, ap₂, subst, arith, All}
+use Rattle.std.proofs.Common.{◌≡◌, ◌+◌, ◌++◌, ◌∙◌, ℕ, suc, Bool, true, false, List, [], ◌∷◌, length, map, refl, sym, ap, ap₂, subst, arith, All}
 use Rattle.std.specs.Prelude.{◌==◌, ◌||◌, if◌then◌else◌, slice_get, Option, Some, None, option_map}
 use Rattle.std.proofs.Math.Logic.{∥∥₁_map}
 use Rattle.std.proofs.lemmas.Bool.{false≢true}
@@ -9,8 +9,8 @@ use Rattle.std.proofs.lemmas.List.Elements.{All-cons, All-nil}
 use Rattle.std.proofs.lemmas.Option.{slice_get-map}
 use Rattle.c25_isa.specs.Direct.{Direct, is_among}
 use Rattle.c25_isa.specs.Image.{Contents}
-use Rattle.tree_code.specs.WordTree.{FunctionCode, ProgramCode}
-use Rattle.tree_code.specs.Lowered.{lowered_function, lowered_program, lowered_statement}
+use Rattle.tree_code.specs.WordTree.{ProgramCode}
+use Rattle.tree_code.specs.Lowered.{lowered_function, lowered_program}
 use Rattle.tree_code.specs.WellFormedCode.{parameter_count}
 use Rattle.tree_code.proofs.KeptLemmas.{statement_uses_kept}
 use Rattle.c_tree.specs.TypedTree.{FunctionTree, ProgramTree}
@@ -24,7 +24,7 @@ use Rattle.frame_layouts.specs.Frames.{IsFound, frame_of, frames_of, job_with, l
 use Rattle.frame_layouts.specs.lay_cert.Frames.{Frame}
 use Rattle.frame_layouts.specs.lay_par.Jobs.{Job}
 use Rattle.frame_layouts.specs.declared.options.Options.{Options}
-use Rattle.image_proof.specs.acc_select.IsSelected.{called_parameters, is_listed}
+use Rattle.image_proof.specs.acc_select.IsSelected.{is_listed}
 use Rattle.image_proof.specs.acc_select.Selected.{selected, selected_function}
 use Rattle.image_proof.specs.acc_select_proof.SourceSequences.{at_step, source_sequence}
 use Rattle.image_proof.specs.frame_emit.Frames.{all_parameters}
@@ -32,6 +32,7 @@ use Rattle.image_proof.specs.Agreeing.{emission_of}
 use Rattle.image_proof.specs.Directs as directs
 use Rattle.image_proof.specs.Directs.{AreDirect, given_of}
 use Rattle.image_proof.specs.FrameWords.{numbers_from, place_of}
+use Rattle.cc_compile.specs.Apart.{LieApart}
 use Rattle.cc_compile.specs.Compiles.{HaveNames, IsDataOf}
 use Rattle.cc_compile.specs.DataWords.{AllNameDirectly, NamesDirectly, given_from, place_words}
 use Rattle.cc_compile.specs.Images.{FrameJobs, HasFrames, HasImage, IsDirect, IsPlanOf, layouts, source_jobs}
@@ -47,7 +48,7 @@ frame_names (g ∷ gs) [] plans a b = absurd (omega (arith, a))
 frame_names (g ∷ gs) (job ∷ jobs) [] a b = absurd (omega (arith, b))
 frame_names (g ∷ gs) (job ∷ jobs) (plan ∷ plans) a b = ap (λ ns. g.name ∷ ns) (frame_names gs jobs plans (omega (arith, a)) (omega (arith, b)))
 
-frame_lists : (gs : List FunctionItems) (jobs : List Job) (plans : List FramePlan) → length jobs ≡ length gs → length plans ≡ length gs
+pub frame_lists : (gs : List FunctionItems) (jobs : List Job) (plans : List FramePlan) → length jobs ≡ length gs → length plans ≡ length gs
     → map (λ (f : Frame). f.arr) (frames_of gs jobs plans) ≡ map layout_of jobs
 frame_lists [] [] plans a b = refl
 frame_lists [] (job ∷ jobs) plans a b = absurd (omega (arith, a))
@@ -142,11 +143,12 @@ module _ (o : FrameJobs) (t : ProgramTree) (each : length o.jobs ≡ length t.fu
     plans_beside : length plan.frames ≡ length (selected p)
     plans_beside = plans_count ∙ sym items_count
 
-    pub data_of : (frames : List Frame) → frames ≡ frames_of (selected p) o.jobs plan.frames → IsDataOf t frames plan
-    data_of frames are = record {
-      planned = subst (λ (ls : List (List (List ℕ))). IsPlan p ls plan) (sym (ap (map (λ (f : Frame). f.arr)) are ∙ frame_lists (selected p) o.jobs plan.frames jobs_beside plans_beside)) planned;
-      bases = ap (map (λ (f : Frame). f.bases)) are ∙ frame_bases (selected p) o.jobs plan.frames jobs_beside plans_beside;
-    }
+    pub data_of : (frames : List Frame) → frames ≡ frames_of (selected p) o.jobs plan.frames → LieApart t frames → IsDataOf t frames plan
+    data_of frames are apart =
+        let planned_so = subst (λ (ls : List (List (List ℕ))). IsPlan p ls plan) (sym (ap (map (λ (f : Frame). f.arr)) are ∙ frame_lists (selected p) o.jobs plan.frames jobs_beside plans_beside)) planned in
+        let bases_so = ap (map (λ (f : Frame). f.bases)) are ∙ frame_bases (selected p) o.jobs plan.frames jobs_beside plans_beside in
+        let both = apart plan planned_so bases_so in
+        record { planned = planned_so; bases = bases_so; apart = both.0; lists = both.1 }
 
     pub names_in : (image : Contents) (frames : List Frame) → frames ≡ frames_of (selected p) o.jobs plan.frames → HasImage o t image → HaveNames t image frames
     names_in image frames are h = record {
@@ -234,8 +236,8 @@ module _ (o : Options) (t : ProgramTree) where
   are_found frames framed =
       subst (All (IsFound o)) (sym framed.are) (all_found o (selected (lowered_program t)) (map (source_sequence o.step) t.functions) framed.plan.frames)
 
-  pub have_data : (frames : List Frame) (framed : HasFrames searched t frames) → IsDataOf t frames framed.plan
-  have_data frames framed = data_of searched t one_each framed.plan framed.planned frames framed.are
+  pub have_data : (frames : List Frame) (framed : HasFrames searched t frames) → LieApart t frames → IsDataOf t frames framed.plan
+  have_data frames framed apart = data_of searched t one_each framed.plan framed.planned frames framed.are apart
 
   pub are_direct : (image : Contents) (frames : List Frame) (framed : HasFrames searched t frames) → map (at_step o.step) (selected (lowered_program t)) ≡ map (source_sequence o.step) t.functions
       → ∥ IsDirect searched t image ∥₁ → ∥ AllNameDirectly t framed.plan image frames ∥₁

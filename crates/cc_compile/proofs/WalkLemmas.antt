@@ -72,7 +72,7 @@ frame_at (g ∷ gs) (job ∷ jobs) (plan ∷ plans) (suc k) f is =
     let rest = frame_at gs jobs plans k f is in
     record { g = rest.g; job = rest.job; plan = rest.plan; g_at = rest.g_at; job_at = rest.job_at; plan_at = rest.plan_at; is = rest.is }
 
-map_at : {A B : Type 0} (h : A → B) (xs : List A) (k : ℕ) (x : A) → slice_get xs k ≡ Some x → slice_get (map h xs) k ≡ Some (h x)
+pub map_at : {A B : Type 0} (h : A → B) (xs : List A) (k : ℕ) (x : A) → slice_get xs k ≡ Some x → slice_get (map h xs) k ≡ Some (h x)
 map_at h [] k x is = absurd cc
 map_at h (y ∷ ys) zero x is = ap (λ z. Some (h z)) (same_Some y x is)
 map_at h (y ∷ ys) (suc k) x is = map_at h ys k x is

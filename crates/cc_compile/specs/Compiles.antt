@@ -17,9 +17,11 @@ use Rattle.frame_layouts.specs.lay_cert.Frames.{Frame}
 use Rattle.frame_layouts.specs.mem_plan.declared.data_plan.DataPlan.{DataPlan}
 use Rattle.frame_layouts.specs.mem_plan.declared.data_plan.FramePlan.{FramePlan}
 use Rattle.frame_layouts.specs.mem_plan.Plan.{IsPlan}
+use Rattle.frame_layouts.specs.mem_plan.Ranges.{KeepApart}
 use Rattle.frame_layouts.specs.declared.options.Options.{Options}
 use Rattle.image_proof.specs.InTime.{EndsInTime}
 use Rattle.tree_code.specs.Lowered.{lowered_program}
+use Rattle.cc_compile.specs.Apart.{AreListsApart}
 use Rattle.cc_compile.specs.DataWords.{AllNameDirectly}
 use Rattle.cc_compile.specs.Walked.{AccessAs, AreWalked}
 
@@ -37,6 +39,10 @@ pub record HaveNames (t : ProgramTree) (image : Contents) (frames : List Frame) 
 pub record IsDataOf (t : ProgramTree) (frames : List Frame) (plan : DataPlan) : Type 0 where
   pub planned : IsPlan (lowered_program t) (map (λ (f : Frame). f.arr) frames) plan
   pub bases : map (λ (f : Frame). f.bases) frames ≡ map (λ (at : FramePlan). at.bases) plan.frames
+  -- what can be in use at once is apart, objects with their spare words
+  pub apart : KeepApart (lowered_program t) (map (λ (f : Frame). f.arr) frames) plan
+  -- so are the lists as they are stored, from each other and from all else
+  pub lists : AreListsApart t frames plan
 
 -- the bytes have a tree, and this a typed program, with the image and a frame for each function
 pub record IsBuilt (o : Options) (bytes : List ℕ) (image : Contents) (frames : List Frame) : Type 0 where

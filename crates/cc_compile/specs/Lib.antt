@@ -12,6 +12,7 @@ pub use Rattle.image_proof.specs.tree_code_proof as tree_code_proof
 pub mod Walked
 pub mod Images
 pub mod DataWords
+pub mod Apart
 pub mod TranslationFaults
 pub mod Selections
 pub mod PartFaults

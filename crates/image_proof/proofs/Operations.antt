@@ -7,7 +7,7 @@ use Rattle.acc_code.specs.declared.operand.AccOperand.{AccOperand}
 use Rattle.acc_code.specs.declared.operand.HelperName.{HelperName}
 use Rattle.acc_code.specs.declared.operation.AccOp.{AccOp}
 use Rattle.acc_code.specs.declared.operation.AccOp.TheVariants as row
-use Rattle.acc_select.specs.acc_operations.Arithmetic.{row_on_place, row_on_constant, on_bits_of_place, on_bits_of_constant, times, multiply, product_with_place, helped, with_place, shifted_right, with_constant, helped_behind, of_constant, of_place, shift_helper, division_helper, remainder_helper}
+use Rattle.acc_select.specs.acc_operations.Arithmetic.{row_on_constant, on_bits_of_place, on_bits_of_constant, times, multiply, product_with_place, helped, with_place, shifted_right, with_constant, helped_behind, of_constant, of_place, shift_helper, division_helper, remainder_helper}
 use Rattle.acc_select.specs.acc_operations.Constants.{load_constant, negative}
 use Rattle.acc_select.specs.acc_operations.Sums.{by_constant, plus, minus, repeated, count_of, moved_left, shift_left, moved_right, moved_right_signed, shift_right_signed, shift_right_unsigned, by_helper}
 use Rattle.acc_select.specs.acc_operations.Words.{scratch, lac, bare, store}
@@ -18,7 +18,6 @@ use Rattle.acc_select.specs.acc_operations.declared.found.Found.TheVariants.{Fix
 use Rattle.acc_select.specs.acc_operations.declared.operation.Arithmetic.{Arithmetic}
 use Rattle.acc_select.specs.acc_operations.declared.operation.Arithmetic.TheVariants.{Sum, Difference, Bits, Product, LeftShift, RightShift, Quotient, Remainder}
 use Rattle.acc_select.specs.acc_operations.declared.operation.Bitwise.{Bitwise}
-use Rattle.acc_select.specs.acc_operations.declared.operation.Bitwise.TheVariants as bits
 use Rattle.emit_proof.specs.Addressed.{IsWordOperand}
 use Rattle.image_proof.proofs.Usables.{Usable, nothing, plain, on_number, on_address, on_scratch, on_first, on_place, both, either, routine}
 use Rattle.image_proof.proofs.UsableWords.{IsWordConstant, IsWordFound, UsableWord, calculated, negative_word, constant_first, on_constant, load_usable, store_usable, load_t_usable, load_signed_usable, load_unsigned_usable}

@@ -9,6 +9,7 @@ use Rattle.frame_layouts.specs.Frames.{ClaimsHold}
 use Rattle.c_tree.specs.TypedTree.{ProgramTree}
 use Rattle.frame_layouts.specs.declared.options.Options.{Options}
 use Rattle.image_proof.specs.Agreeing.{EndsInTime}
+use Rattle.cc_compile.specs.Apart.{LieApart}
 use Rattle.cc_compile.specs.Images.{HasFrames, HasImage, IsDirect, KeepsRuns, LeadsRight, TreeKeepsRuns, source_jobs}
 use Rattle.cc_compile.specs.Made.{IsMade}
 use Rattle.cc_compile.specs.Walked.{AccessAs, AreWalked}
@@ -77,7 +78,7 @@ returns-clause-built g c =
       found = are_found c.args.options program _ framed;
       walked = walked_too _ _ _ _ c.in_ok-with_rows.ensures.image c.in_ok-with_rows.ensures.certificate c.in_ok-translated.ensures.walked;
       plan = framed.plan;
-      memory = have_data c.args.options program _ framed;
+      memory = have_data c.args.options program _ framed (subst (λ (fs : List Frame). LieApart program fs) (sym c.in_ok-with_rows.ensures.certificate) c.in_ok-translated.ensures.apart);
       direct =
           are_direct c.args.options program _ _ framed (c.accesses_are_kept.ensures.sequences c.args.options.step program c.in_ok-program.program.well_formed)
           (subst (λ (i : Contents). ∥ IsDirect (source_jobs c.args.options program) program i ∥₁) (sym c.in_ok-with_rows.ensures.image) c.in_ok-translated.ensures.direct);

@@ -91,3 +91,6 @@ returns-clause-walked g c =
     c.in_ok-selection.ensures.tree c.in_ok-selection.ensures.code.code (c.in_ok-jobs.ensures.jobs ∙ ap (map (job_of c.args.options)) c.functions.ensures.same) in
     ok_of_three c.translate_by_jobs.result (c.translate_by_jobs.ensures.walked t c.in_ok-selection.ensures) c.translate_by_jobs.ensures.sequences c.translate_by_jobs.ensures.claims
     (λ made walks are claims. ∥∥₁_map walks (own_walks made.image (map (source_sequence c.args.options.step) t.functions) made.certificate (are ∙ sequences) claims))
+
+pub returns-clause-apart : goal.returns-clause-apart
+returns-clause-apart g c = c.translate_by_jobs.ensures.apart (program_of c.args.program.now) c.in_ok-selection.ensures
