@@ -6,7 +6,7 @@ ghost use Rattle.c25_helper.specs.Routines.{helper_pieces, routine_items};
 ghost use Rattle.c25_code.specs.Naming.{HasItsMarks};
 ghost use Rattle.c25_helper.specs.Names.{CallsNone, NamesDiffer};
 ghost use Rattle.c25_helper.specs.declared.routine.Routine.{Routine};
-ghost use Rattle.c25_helper.specs.Results.{HelperResult, IsHelper};
+ghost use Rattle.c25_helper.specs.Results.{HelperResult, HelperWithin, IsHelper};
 
 /// The pieces of routines take few words, each of them some, and need nothing of other pieces. Their names are no names of C, and
 /// differ. The call does nothing.
@@ -23,5 +23,7 @@ pub fn helper_pieces_fit()
 /// A call of each routine comes back with the value that C has, wherever its items stand. The call does nothing.
 pub fn routines_answer()
     ensures each { (r : Routine) → HelperResult r (routine_items r) }
+    // On the way it accesses no word of data memory but scratch words.
+    ensures within { (r : Routine) → HelperWithin r (routine_items r) }
     ensures pieces { All IsHelper helper_pieces }
 {}
