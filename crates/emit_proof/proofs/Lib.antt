@@ -19,6 +19,7 @@ mod RowExamples
 pub mod Bringing
 pub mod Counting
 pub mod ReachStanding
+pub mod Accessing
 pub mod Operands
 pub mod Constants
 pub mod Directly
