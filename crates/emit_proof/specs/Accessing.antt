@@ -1,5 +1,5 @@
 -- How the code of an active function accesses data memory: its scalars through the registers of their lists, and through AR1 words of objects that live.
-use Rattle.std.specs.Prelude.{⊤, ◌≡◌, ℕ, Bool, true, ◌==◌, ◌&&◌, ◌||◌, List, [], ◌∷◌, Option, Some, None}
+use Rattle.std.specs.Prelude.{⊤, ◌≡◌, ℕ, Bool, true, false, ◌==◌, ◌&&◌, ◌||◌, List, [], ◌∷◌, Option, Some, None}
 use Rattle.std.specs.List.{list_any}
 use Rattle.c25_isa.specs.StretchRuns.{DataAccess}
 use Rattle.c25_code.specs.Work.{Work}
@@ -22,6 +22,10 @@ register_may k a (Some register) = (register == 1 && k.lives a) || is_place k.pl
 
 abbrev pub site_may : Site → DataAccess → Bool
 site_may k x = register_may k x.address x.through
+
+-- no access at all
+abbrev pub no_access : DataAccess → Bool
+no_access x = false
 
 -- what a step reaches is so
 abbrev pub ReachMay : Site → Work → Reach → Type 0
