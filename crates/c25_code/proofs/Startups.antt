@@ -1,5 +1,5 @@
 -- Startups of items with marks arrive at their call.
-use Rattle.std.proofs.Common.{◌≡◌, ℕ, ◌+◌, ◌≤◌, true, List, [], ◌∷◌, Some, refl, ap, subst, cond, arith}
+use Rattle.std.proofs.Common.{◌≡◌, ℕ, suc, ◌+◌, ◌≤◌, true, List, [], ◌∷◌, Some, refl, ap, ◌∙◌, subst, cond, arith}
 use Rattle.std.specs.Str.{bytes_eq}
 use Rattle.std.proofs.lemmas.Slice.Eq.{bytes_eq-Decides}
 use Rattle.word_base.specs.Ports.{Input}
@@ -9,11 +9,11 @@ use Rattle.c25_isa.specs.declared.piece.PieceItem.TheVariants.{Do, CallTo}
 use Rattle.c25_isa.specs.State.{Memory, Start}
 use Rattle.c25_isa.specs.MachineRun.{reset}
 use Rattle.c25_isa.specs.Step.{wrap16}
-use Rattle.c25_isa.specs.Pieces.{Piece, items_size, ItemsAt, piece_address}
+use Rattle.c25_isa.specs.Pieces.{Piece, items_size, ItemsAt, address_in}
 use Rattle.c25_code.specs.Work.{Work, work_of}
 use Rattle.c25_code.specs.Items.{no_change}
 use Rattle.c25_code.specs.ItemRuns.{ItemsRun}
-use Rattle.c25_code.specs.Links.{MarksDiffer, MarksAreFit, first_piece, address_of, marks_of, AllStand}
+use Rattle.c25_code.specs.Links.{MarksDiffer, MarksAreFit, PieceIsFit, first_piece, address_of, marks_of, AllStand}
 use Rattle.c25_code.specs.Startups.{startup_items}
 use Rattle.c25_code.specs.Startups.{StartupArrives}
 use Rattle.c25_code.proofs.Items.{items_size-append, items_front, items_back}
@@ -27,12 +27,12 @@ pub startup_marks_fit : (init : List PieceItem) (main : List ℕ) → MarksDiffe
 startup_marks_fit init main differ = (differ-append init (end_of main) differ tt (λ m u v. v), at_words_before init (end_of main) (omega arith) tt, omega arith)
 
 -- the first piece stands at 0
-pub first_stands : (program : Memory) (p : Piece) (rest : List Piece) → AllStand program (p ∷ rest) → ItemsAt program (marks_of 0 (p ∷ rest) p.name) (address_of (p ∷ rest)) 0 p.items × (items_size p.items ≤ 65536)
-first_stands program p rest stand =
+pub first_stands : (program : Memory) (place : ℕ → ℕ) (p : Piece) (rest : List Piece) → place 0 ≡ 0 → PieceIsFit p → AllStand program place (p ∷ rest) → ItemsAt program (marks_of place (p ∷ rest) p.name) (address_of place (p ∷ rest)) 0 p.items × (items_size p.items ≤ 65536)
+first_stands program place p rest begins fit stand =
     let mine : bytes_eq p.name p.name ≡ true = (bytes_eq-Decides p.name p.name).1 refl in
-    let here = stand p.name p (ap (λ x. cond x (Some p) (first_piece rest p.name)) mine) in
-    let zero_is : address_of (p ∷ rest) p.name ≡ 0 = ap (λ x. wrap16 (cond x 0 (piece_address (0 + items_size p.items) rest p.name))) mine in (
-      subst (λ k. ItemsAt program (marks_of 0 (p ∷ rest) p.name) (address_of (p ∷ rest)) k p.items) zero_is here.0,
+    let here = stand p.name p (ap (λ x. cond x (Some p) (first_piece rest p.name)) mine) fit in
+    let zero_is : address_of place (p ∷ rest) p.name ≡ 0 = ap (λ x. wrap16 (cond x (place 0) (address_in (λ k. place (suc k)) rest p.name))) mine ∙ ap wrap16 begins in (
+      subst (λ k. ItemsAt program (marks_of place (p ∷ rest) p.name) (address_of place (p ∷ rest)) k p.items) zero_is here.0,
       omega (arith, zero_is, here.1),
     )
 

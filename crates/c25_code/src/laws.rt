@@ -1,6 +1,5 @@
 //! What emitted code does, as laws: each call does nothing, its clauses are what crates above cite.
 ghost use Rattle.std.specs.Prelude.{◌≡◌, Bool, true, false, ℕ, suc, ◌+◌, ◌<◌, ◌≤◌, List, [], ◌∷◌, ◌++◌, length, None};
-ghost use Rattle.std.specs.List.{AllByRecursion};
 ghost use Rattle.word_base.specs.declared.outcome.Ending.{Ending};
 ghost use Rattle.word_base.specs.declared.outcome.Ending.TheVariants.{Returned};
 ghost use Rattle.word_base.specs.Ports.{Input, IsInput, Outputs};
@@ -13,7 +12,7 @@ ghost use Rattle.c25_isa.specs.declared.operand.Indirect.{Indirect};
 ghost use Rattle.c25_isa.specs.declared.operand.Operand.TheVariants.{Indirect as Through};
 ghost use Rattle.c25_isa.specs.Agrees.{SourceRuns, Steps, any_number, at_most, EndsAlike, PutsBefore, GoesOnAlike, AgreesAt, Agrees};
 ghost use Rattle.c25_isa.specs.Image.{Contents};
-ghost use Rattle.c25_isa.specs.Pieces.{Piece, pieces_code, Linked, PiecesFit};
+ghost use Rattle.c25_isa.specs.Pieces.{Piece, Linked, PiecesFit};
 ghost use Rattle.c25_isa.specs.State.{State, Memory, Start, BeginsWith};
 ghost use Rattle.c25_isa.specs.Step.{Over, can_repeat, wrap16, step};
 ghost use Rattle.c25_isa.specs.MachineRun.{HasStopped, machine_run};
@@ -26,7 +25,7 @@ ghost use Rattle.c25_code.specs.Straight.{behind_operand, first_of, rest_of, Non
 ghost use Rattle.c25_code.specs.Accesses.{Accesses, LeadsWithin, CodeMay, RepeatsMay};
 ghost use Rattle.c25_code.specs.Items.{no_change};
 ghost use Rattle.c25_code.specs.CodeRuns.{CodeRuns, EndsAtInput, RunsInPart};
-ghost use Rattle.c25_code.specs.Links.{address_of, pieces_size, PieceIsFit, AllStand};
+ghost use Rattle.c25_code.specs.Links.{address_of, EachStands, AllStand};
 
 /// Straight code that stands in program memory leads from a calm state to a calm state, in one step an instruction.
 pub fn straight_code_leads()
@@ -93,12 +92,12 @@ pub fn code_leads_within()
     ensures on { (may : DataAccess → Bool) (n m : ℕ) (s t u : State) (p q : Outputs) → LeadsWithin (Accesses may) n s t p → LeadsWithin (Accesses may) m t u q → LeadsWithin (Accesses may) (n + m) s u (p ++ q) }
 {}
 
-/// Pieces whose instructions stand in program memory one behind another stand each at its address, with their marks at their addresses.
+/// Pieces whose instructions stand in program memory each at its address stand there with their marks at their addresses.
 pub fn linked_pieces_stand()
-    ensures pieces { (program : Memory) (all : List Piece) → AllByRecursion PieceIsFit all → pieces_size all ≤ 65536 → CodeAt program 0 (pieces_code (address_of all) 0 all) → AllStand program all }
+    ensures pieces { (program : Memory) (place : ℕ → ℕ) (all : List Piece) → EachStands program (address_of place all) place all → AllStand program place all }
     // So do those of an image at a reset.
-    ensures image { (b : Start) (all : List Piece) (image : Contents) → Linked all image → BeginsWith image.words b
-        → PiecesFit all → AllByRecursion PieceIsFit all → pieces_size all ≤ 65536 → AllStand b.program all }
+    ensures image { (b : Start) (all : List Piece) (image : Contents) → (linked : Linked all image) → BeginsWith image.words b
+        → PiecesFit all → length image.words ≤ 65536 → AllStand b.program linked.place all }
 {}
 
 /// A run agrees where another one does that keeps it, part by part; a limit of steps may be widened.

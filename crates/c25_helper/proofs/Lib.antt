@@ -11,4 +11,5 @@ pub mod RemUnsigned
 pub mod ShrInt
 pub mod ShrUnsigned
 pub mod HelperPieces
+pub mod Answering
 mod Examples

@@ -8,6 +8,6 @@ mod pieces;
 mod routine;
 mod tables;
 
-pub use laws::helper_pieces_fit;
+pub use laws::{helper_pieces_fit, routines_answer};
 pub use pieces::{called_helpers, helpers};
 pub use routine::Routine;

@@ -4,6 +4,7 @@ ghost use Rattle.c25_isa.specs.Pieces.{piece_of};
 ghost use Rattle.c25_helper.specs.Routines.{routine_piece, helper_pieces};
 ghost use Rattle.c25_helper.specs.Calls.{is_called, called_helper_pieces};
 ghost use Rattle.c25_helper.specs.Results.{IsHelper};
+ghost use Rattle.c25_helper.specs.Answering.{AllAnswer, AnswersCalls};
 
 use crate::called::Called;
 use crate::line::items_of;
@@ -17,6 +18,7 @@ pub fn helpers(alloc: Global) -> Result<Vec<Piece>, NoMemory>
     ensures pieces { IfOk result (λ pieces. map piece_of pieces.items ≡ helper_pieces) }
     // Where one is called it comes back with the value that C has.
     ensures results { IfOk result (λ pieces. All IsHelper (map piece_of pieces.items)) }
+    ensures answers { IfOk result (λ pieces. AllAnswer (map piece_of pieces.items)) }
 {
     let mut pieces = Vec::new(alloc);
     for routine in &Routine::ALL {
@@ -29,6 +31,7 @@ pub fn helpers(alloc: Global) -> Result<Vec<Piece>, NoMemory>
 pub fn called_helpers(alloc: Global, pieces: &[Piece]) -> Result<Vec<Piece>, NoMemory>
     ensures pieces { IfOk result (λ helpers. map piece_of helpers.items ≡ called_helper_pieces (map piece_of pieces.now)) }
     ensures results { IfOk result (λ helpers. All IsHelper (map piece_of helpers.items)) }
+    ensures answers { IfOk result (λ helpers. AnswersCalls (map piece_of pieces.now) (map piece_of helpers.items)) }
 {
     pieces_of_called(alloc, &Routine::ALL, Called::of(pieces))
 }

@@ -12,23 +12,11 @@ use Rattle.c25_isa.specs.declared.piece.PieceItem.TheVariants.{Do, Mark, Jump, C
 use Rattle.c25_isa.specs.Image.{AreRanges, IsImage}
 use Rattle.c25_isa.specs.Pieces.{Piece, piece_of, items_size, mark_address, items_code, pieces_code, range_of, listed_ranges, PiecesFit, ListedHaveWords}
 use Rattle.c25_isa.specs.Step.{wrap16}
-use Rattle.c25_isa.specs.Table.{first_word, second_word, with_second, length_of, instr_words, code_words}
+use Rattle.c25_isa.specs.Table.{instr_words, code_words}
+use Rattle.c25_isa.proofs.InOrder.{items_length}
 use Rattle.c25_link.specs.Linking.{pieces_words, IsLinkable}
 
--- the words of items are as many as the items take
-words_then : (first : ℕ) (second : Option ℕ) (rest : List ℕ) → length (with_second first second ++ rest) ≡ length_of second + length rest
-words_then first None rest = omega arith
-words_then first (Some word) rest = omega arith
-
-items_length : (marks : ℕ → ℕ) (names : List ℕ → ℕ) (items : List PieceItem) → length (code_words (items_code marks names items)) ≡ items_size items
-items_length marks names [] = refl
-items_length marks names (Do i ∷ items) =
-    words_then (first_word i) (second_word i) (code_words (items_code marks names items)) ∙ ap (λ n. length_of (second_word i) + n) (items_length marks names items)
-items_length marks names (Mark mark ∷ items) = omega (arith, items_length marks names items)
-items_length marks names (Jump op to o ∷ items) = omega (arith, items_length marks names items)
-items_length marks names (CallTo name o ∷ items) = omega (arith, items_length marks names items)
-
--- and those of pieces as many as these take
+-- the words of pieces are as many as the pieces take
 pub pieces_length : (names : List ℕ → ℕ) (at : ℕ) (pieces : List Piece) → length (code_words (pieces_code names at pieces)) ≡ pieces_words pieces
 pieces_length names at [] = refl
 pieces_length names at (p ∷ ps) =

@@ -4,6 +4,7 @@ use Rattle.std.proofs.lemmas.List.Elements.{All-from_recursion}
 use Rattle.c25_isa.specs.Image.{Contents, IsImage}
 use Rattle.c25_isa.specs.Pieces.{piece_of, pieces_code, piece_address, listed_ranges}
 use Rattle.c25_isa.specs.Table.{IsInstr, code_words}
+use Rattle.c25_isa.proofs.InOrder.{in_order_linked}
 use Rattle.c25_isa.proofs.PieceLemmas.{pieces_fit, wraps_low}
 use Rattle.c25_link.specs.Linking.{pieces_words, name_addresses}
 use Rattle.c25_link.proofs.Images.{image_is, listed_have_words, all_fit, each_linkable}
@@ -29,11 +30,8 @@ returns-clause-linked c =
     let pieces = map piece_of c.args.pieces.now in
     let code : c.deref.result.now ≡ pieces_code (name_addresses pieces) 0 pieces = c.deref.ensures.value ∙ c.in_ok-code.ensures ∙ ap (λ names. pieces_code names 0 pieces) c.in_ok-names.ensures in
     let words : c.in_ok-words.words.items ≡ code_words (pieces_code (name_addresses pieces) 0 pieces) = c.in_ok-words.ensures ∙ ap code_words code in
-    record {
-      words = ap (λ (image : Contents). image.words) c.new.ensures ∙ words;
-      functions = ap (λ (image : Contents). image.functions) c.new.ensures ∙ c.in_ok-functions.ensures;
-      listed = listed_have_words c.args.pieces.now (each_linkable c.args.pieces.now c.requires.linkable.listed);
-    }
+    in_order_linked pieces c.new.result (ap (λ (image : Contents). image.words) c.new.ensures ∙ words) (ap (λ (image : Contents). image.functions) c.new.ensures ∙ c.in_ok-functions.ensures)
+    (listed_have_words c.args.pieces.now (each_linkable c.args.pieces.now c.requires.linkable.listed))
 
 pub functions_of-requires-clause-listed : goal.functions_of-requires-clause-listed
 functions_of-requires-clause-listed c = each_linkable c.args.pieces.now c.requires.linkable.listed
