@@ -1,24 +1,26 @@
 -- Words of images and of port lines have 16 bits.
-use Rattle.std.proofs.Common.{◌≡◌, inl, inr, ℕ, zero, suc, ◌+◌, ◌*◌, ◌^◌, ◌<◌, ◌≤◌, Bool, true, false, List, [], ◌∷◌, ◌++◌, length, Option, Some, None, refl, sym, ap, subst, lit<, arith, All}
+use Rattle.std.proofs.Common.{◌≡◌, ◌∙◌, ◌⊎◌, inl, inr, ℕ, zero, suc, ◌+◌, ◌-◌, ◌*◌, ◌^◌, ◌<◌, ◌≤◌, Bool, true, false, List, [], ◌∷◌, ◌++◌, length, Option, Some, None, refl, sym, ap, subst, lit<, arith, All}
 use Rattle.std.specs.Prelude.{◌==◌, nat_lt, slice_index, if◌then◌else◌}
 use Rattle.std.specs.List.{AllByRecursion}
 use Rattle.std.specs.Str.Lines.{lines}
-use Rattle.std.proofs.lemmas.List.Elements.{All-cons, All-nil, All-from_recursion}
-use Rattle.word_base.specs.Ports.{Input, IsInput, input_of}
+use Rattle.std.proofs.lemmas.List.Elements.{All-cons, All-nil}
+use Rattle.word_base.specs.Ports.{IsInput, input_of}
 use Rattle.c25_isa.specs.declared.mnemonic.Form.{Form}
 use Rattle.c25_isa.specs.declared.mnemonic.Form.TheVariants as form
 use Rattle.c25_isa.specs.declared.fields.Fields.{Fields}
 use Rattle.c25_isa.specs.declared.fields.Fields.TheVariants as fields
 use Rattle.c25_isa.specs.Rows.{row, row_of, fields_of}
 use Rattle.c25_isa.specs.Image.{Contents}
-use Rattle.c25_isa.specs.Pieces.{Piece, Linked, PiecesFit, piece_address, pieces_code}
+use Rattle.c25_isa.specs.Pieces.{Piece, Linked, PiecesFit, address_in, piece_code}
 use Rattle.c25_isa.specs.Step.{wrap16}
-use Rattle.c25_isa.proofs.PieceLemmas.{pieces_fit, wraps_low}
+use Rattle.c25_isa.proofs.PieceLemmas.{piece_fits, wraps_low}
+use Rattle.c25_code.proofs.PiecesStand.{one_fits, piece_code-size}
+use Rattle.std.proofs.lemmas.Bool.{cases_lt}
 use Rattle.c25_isa.specs.declared.instruction.Instr.{Instr}
 use Rattle.c25_isa.specs.Table.{FitsForm, IsInstr, first_word, second_word, instr_words, code_words, with_second, fields_second}
 use Rattle.c25_isa.proofs.FormLemmas.{first_word-lt}
 use Rattle.c25_isa.specs.State.{IsStart, BeginsWith, zero_start}
-use Rattle.c25_image.specs.PortText.{IsHexWord, IsPortLine, Spells, Gives, AllGive, PortText}
+use Rattle.c25_image.specs.PortText.{IsHexWord, Gives, AllGive, PortText}
 use Rattle.c25_sim.specs.Taken.{of_sixteen}
 
 -- one to four digits spell a word
@@ -173,10 +175,29 @@ word_low [] h a = lit< tt
 word_low (w ∷ ws) h zero = h.0
 word_low (w ∷ ws) h (suc a) = word_low ws h.1 a
 
-image_low : (pieces : List Piece) (image : Contents) → Linked pieces image → PiecesFit pieces → AreLow image.words
-image_low pieces image linked fit =
-    let names : List ℕ → ℕ = λ name. wrap16 (piece_address 0 pieces name) in
-    subst AreLow (sym linked.words) (code_low (pieces_code names 0 pieces) (pieces_fit names pieces 0 (λ name. wraps_low (piece_address 0 pieces name)) fit))
+word_behind : (ws : List ℕ) (a : ℕ) → length ws ≤ a → slice_index ws a < 65536
+word_behind [] a behind = lit< tt
+word_behind (w ∷ ws) zero behind = absurd (omega (arith, behind))
+word_behind (w ∷ ws) (suc a) behind = word_behind ws a (omega (arith, behind))
+
+-- each word of an image is one of a piece
+image_low : (pieces : List Piece) (image : Contents) → Linked pieces image → PiecesFit pieces → (a : ℕ) → slice_index image.words a < 65536
+image_low pieces image linked fit a = by (cases_lt a (length image.words))
+  where
+    by : (a < length image.words) ⊎ (length image.words ≤ a) → slice_index image.words a < 65536
+    by (inr behind) = word_behind image.words a behind
+    by (inl below) =
+        let names : List ℕ → ℕ = λ name. wrap16 (address_in linked.place pieces name) in
+        let filled = linked.filled a below in
+        let k : ℕ = filled.0 in
+        let p : Piece = filled.1.piece in
+        let from = filled.1.behind in
+        let ends = filled.1.within in
+        let size = piece_code-size names (linked.place k) p in
+        let same : linked.place k + (a - linked.place k) ≡ a = omega (arith, from) in
+        let is = (linked.placed k p filled.1.there).stand (a - linked.place k) (omega (arith, from, ends, size)) in
+        subst (λ w. w < 65536) (sym is ∙ ap (λ n. slice_index image.words n) same)
+        (word_low (code_words (piece_code names (linked.place k) p)) (code_low (piece_code names (linked.place k) p) (piece_fits names (linked.place k) p (λ name. wraps_low (address_in linked.place pieces name)) (one_fits pieces fit k p filled.1.there).0)) (a - linked.place k))
 
 pub zero_starts : (pieces : List Piece) (image : Contents) → Linked pieces image → PiecesFit pieces → IsStart (zero_start image.words)
 zero_starts pieces image linked fit = record {
@@ -187,7 +208,7 @@ zero_starts pieces image linked fit = record {
   arp = lit< tt;
   dp = lit< tt;
   pm = lit< tt;
-  program = λ a. word_low image.words (image_low pieces image linked fit) a;
+  program = image_low pieces image linked fit;
   ram = λ a. lit< tt;
 }
 

@@ -1,23 +1,16 @@
--- The first piece of each name: the startup, functions by their names, and the routines that are called.
-use Rattle.std.proofs.Common.{◌≡◌, ◌≢◌, ℕ, zero, suc, ◌<◌, Bool, true, false, List, [], ◌∷◌, ◌++◌, length, map, Option, Some, None, refl, sym, ap, ◌∙◌, subst, arith, All}
-use Rattle.std.specs.Prelude.{AllPairs, filter, slice_get, slice_index_or, if◌then◌else◌}
+-- The first piece of each name: the startup, functions by their names, and what stands behind them.
+use Rattle.std.proofs.Common.{◌≡◌, ◌≢◌, ℕ, zero, suc, ◌<◌, Bool, true, false, List, [], ◌∷◌, ◌++◌, length, map, Some, refl, sym, ap, ◌∙◌, arith, All}
+use Rattle.std.specs.Prelude.{AllPairs, slice_get, slice_index_or, if◌then◌else◌}
 use Rattle.std.specs.Str.{bytes_eq}
 use Rattle.std.proofs.lemmas.Slice.Eq.{bytes_eq-Decides}
 use Rattle.std.proofs.lemmas.Option.{same_Some}
-use Rattle.word_base.specs.Name.{IsName, IsNameStart}
-use Rattle.acc_code.specs.declared.operand.HelperName.{HelperName}
-use Rattle.acc_code.specs.declared.operand.HelperName.TheVariants.{DivInt, DivUnsigned, RemInt, RemUnsigned, ShrInt, ShrUnsigned}
 use Rattle.acc_code.specs.AccTree.{FunctionItems}
 use Rattle.tree_code.specs.WordTree.{FunctionCode}
 use Rattle.mem_plan.specs.declared.data_plan.DataPlan.{DataPlan}
 use Rattle.mem_plan.specs.declared.data_plan.FramePlan.{FramePlan}
 use Rattle.c25_isa.specs.Pieces.{Piece}
 use Rattle.c25_code.specs.Links.{first_piece}
-use Rattle.c25_helper.specs.Calls.{pieces_call, called_helper_pieces}
-use Rattle.c25_helper.specs.Routines.{helper_pieces, routine_piece}
-use Rattle.frame_emit.specs.emit_control.Settings.{helper_name, routine_of}
 use Rattle.frame_emit.specs.Emitted.{function_piece, function_pieces}
-use Rattle.frame_emit.specs.Startup.{startup_name}
 
 pub same_name : (a b : List ℕ) → a ≡ b → bytes_eq a b ≡ true
 same_name a b e = (bytes_eq-Decides a b).1 e
@@ -41,36 +34,6 @@ pub found_later : (ps qs : List Piece) (name : List ℕ) → All (λ n. n ≢ na
 found_later [] qs name others = refl
 found_later (p ∷ ps) qs name others =
     found_behind p (ps ++ qs) name (others 0 p.name (omega arith)) ∙ found_later ps qs name (λ k d within. others (suc k) d (omega (arith, within)))
-
--- a piece that is kept by a choice of pieces is the first of its name there too
-pub found_chosen : (test : Piece → Bool) (ps : List Piece) (name : List ℕ) (p : Piece) → first_piece ps name ≡ Some p → test p ≡ true → first_piece (filter test ps) name ≡ Some p
-found_chosen test [] name p is chosen = absurd cc
-found_chosen test (x ∷ xs) name p is chosen = by (bytes_eq x.name name) refl is (test x) refl (found_chosen test xs name p)
-  where
-    by : (b : Bool) → bytes_eq x.name name ≡ b → (if b then Some x else first_piece xs name) ≡ Some p → (t : Bool) → test x ≡ t → (first_piece xs name ≡ Some p → test p ≡ true → first_piece (filter test xs) name ≡ Some p)
-        → first_piece (if t then x ∷ filter test xs else filter test xs) name ≡ Some p
-    by true e at true f rest = ap (λ b. if b then Some x else first_piece (filter test xs) name) e ∙ at
-    by true e at false f rest = absurd (not_both (sym f ∙ ap test (same_Some x p at) ∙ chosen))
-      where
-        not_both : false ≡ true → ⊥
-        not_both q = cc
-    by false e at true f rest = ap (λ b. if b then Some x else first_piece (filter test xs) name) e ∙ rest at chosen
-    by false e at false f rest = rest at chosen
-
--- routines
-routine_first : (h : HelperName) → first_piece helper_pieces (helper_name h) ≡ Some (routine_piece (routine_of h))
-routine_first DivInt = refl
-routine_first DivUnsigned = refl
-routine_first RemInt = refl
-routine_first RemUnsigned = refl
-routine_first ShrInt = refl
-routine_first ShrUnsigned = refl
-
-pub called_routine : (pieces : List Piece) (h : HelperName) → pieces_call (helper_name h) pieces ≡ true → first_piece (called_helper_pieces pieces) (helper_name h) ≡ Some (routine_piece (routine_of h))
-called_routine pieces h called = found_chosen (λ helper. pieces_call helper.name pieces) helper_pieces (helper_name h) (routine_piece (routine_of h)) (routine_first h) (by h called)
-  where
-    by : (h : HelperName) → pieces_call (helper_name h) pieces ≡ true → pieces_call (routine_piece (routine_of h)).name pieces ≡ true
-    by h called = called
 
 -- functions, of which no two have one name
 module _ (plan : DataPlan) (step : ℕ) (parameters names : List (List ℕ)) where

@@ -4,7 +4,7 @@ use Rattle.std.specs.List.{list_all}
 use Rattle.std.proofs.lemmas.List.Sums.{sum_by-cons}
 use Rattle.c25_isa.specs.declared.piece.PieceItem.{PieceItem}
 use Rattle.c25_isa.specs.Image.{Contents}
-use Rattle.c25_isa.specs.Pieces.{Piece, items_size, items_code}
+use Rattle.c25_isa.specs.Pieces.{Piece, Linked, items_size, items_code, piece_code}
 use Rattle.c25_isa.specs.Walk.{Placed, Known, nothing_known, Blocks, walked, walk_code, walk, code_of, in_stretches, cut_at, stretches, along}
 use Rattle.c25_isa.specs.AddressCount.{address_count}
 use Rattle.c25_isa.specs.Direct.{Words, nothing_done, is_direct_from, Direct}
@@ -25,7 +25,7 @@ use Rattle.image_proof.proofs.Gathered.{blocks_by, blocks_in, entry_blocks, body
 use Rattle.image_proof.proofs.Apart.{body_apart}
 use Rattle.image_proof.proofs.Folding.{total, placed_blocks, stretches_fold, stretches_total}
 use Rattle.image_proof.proofs.ItemBlocks.{items_blocks, items_fold, begun as fresh}
-use Rattle.image_proof.proofs.Located.{marks_at, piece_code, name_addresses, code_found}
+use Rattle.image_proof.proofs.Located.{marks_at, name_addresses, first_placed, code_found}
 use Rattle.image_proof.proofs.Targets.{targets_of, MarksAreRight, piece_cuts}
 use Rattle.image_proof.proofs.Quiet.{AreQuiet, listed_given, unknown_given, counted_given, listed_quiet, unknown_quiet, counted_quiet}
 use Rattle.image_proof.proofs.Closing.{entry_begins}
@@ -218,33 +218,45 @@ module _ (names : List ℕ → ℕ) (m : Setting) (body : ItemList) (at : ℕ) (
       ∙ ap (sum_by cost) (body_gathers body)
 
 -- a piece in an image
-module _ (pieces : List Piece) (image : Contents) (name : List ℕ) (p : Piece) (m : Setting) (body : ItemList) (h : IsFunctionIn pieces image name p m body) where
+module _ (pieces : List Piece) (image : Contents) (linked : Linked pieces image) (name : List ℕ) (p : Piece) (m : Setting) (body : ItemList) (h : IsFunctionIn pieces image linked name p m body) where
   abbrev at : ℕ
-  at = range_first pieces name
+  at = range_first linked.place pieces name
+
+  abbrev last : ℕ
+  last = range_last linked.place pieces name p
+
+  abbrev addresses : List ℕ → ℕ
+  addresses = name_addresses linked.place pieces
+
+  pub room_there : at + items_size p.items ≤ 65536
+  room_there =
+      let within = (first_placed pieces image name p linked h.first).within in
+      let short = h.short in
+      omega (arith, within, short)
 
   room_is : at + items_size (function_items m body) ≤ 65536
-  room_is = subst (λ items. at + items_size items ≤ 65536) h.items h.room
+  room_is = subst (λ items. at + items_size items ≤ 65536) h.items room_there
 
-  last_is : range_last pieces name p + 1 ≡ at + items_size p.items
+  last_is : last + 1 ≡ at + items_size p.items
   last_is = let word : 1 ≤ items_size p.items = subst (λ items. 1 ≤ items_size items) (sym h.items) (piece_has_word m body) in omega (arith, word)
 
-  pub code_is : code_of image.words at (range_last pieces name p) ≡ record { placed = placed_from at (piece_code (name_addresses pieces) at p); fault = None }
-  code_is = code_found pieces image name p (range_last pieces name p) h.linked h.fit h.first last_is
+  pub code_is : code_of image.words at last ≡ record { placed = placed_from at (piece_code addresses at p); fault = None }
+  code_is = code_found pieces image name p last linked h.fit h.first last_is
 
-  code_of_items : code_of image.words at (range_last pieces name p) ≡ record { placed = found (name_addresses pieces) m body at h.placed room_is; fault = None }
+  code_of_items : code_of image.words at last ≡ record { placed = found addresses m body at h.placed room_is; fault = None }
   code_of_items =
-      code_is ∙ ap (λ items. record { placed = placed_from at (items_code (marks_at at items) (name_addresses pieces) items); fault = None }) h.items
+      code_is ∙ ap (λ items. record { placed = placed_from at (items_code (marks_at at items) addresses items); fault = None }) h.items
 
   pub direct_is : (own places given : List ℕ) → KeepsReturn (words own places given) m.back → RunsAreDirect (words own places given) m (body_entries body)
-      → Direct image.words at (range_last pieces name p) own places given
+      → Direct image.words at last own places given
   direct_is own places given keeps direct =
       ap (λ code. is_none code.fault && list_all (is_direct_from (words own places given) nothing_done) (stretches code)) code_of_items
-      ∙ direct_found (name_addresses pieces) m body at h.placed room_is (words own places given) keeps direct
+      ∙ direct_found addresses m body at h.placed room_is (words own places given) keeps direct
 
-  pub walk_is : (cost : List ℕ → ℕ) → RunsWalk m cost (body_entries body) → walk image.words at (range_last pieces name p) ≡ Blocks (map (map (address_of m.places)) (blocks_of body))
-  walk_is cost walks = ap walk_code code_of_items ∙ walk_found (name_addresses pieces) m body at h.placed room_is cost walks
+  pub walk_is : (cost : List ℕ → ℕ) → RunsWalk m cost (body_entries body) → walk image.words at last ≡ Blocks (map (map (address_of m.places)) (blocks_of body))
+  walk_is cost walks = ap walk_code code_of_items ∙ walk_found addresses m body at h.placed room_is cost walks
 
-  pub count_is : (cost : List ℕ → ℕ) → cost [] ≡ 0 → RunsWalk m cost (body_entries body) → address_count image.words at (range_last pieces name p) ≡ sum_by cost (blocks_of body)
+  pub count_is : (cost : List ℕ → ℕ) → cost [] ≡ 0 → RunsWalk m cost (body_entries body) → address_count image.words at last ≡ sum_by cost (blocks_of body)
   count_is cost free walks =
       ap (λ code. length (flat_map (λ block. block) (in_stretches counted_given code))) code_of_items
-      ∙ count_found (name_addresses pieces) m body at h.placed room_is cost free walks
+      ∙ count_found addresses m body at h.placed room_is cost free walks

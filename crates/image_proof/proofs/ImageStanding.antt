@@ -1,7 +1,6 @@
 -- The functions of a program stand in memory that begins with its image.
-use Rattle.std.proofs.Common.{◌≡◌, ◌≢◌, inl, inr, ℕ, zero, suc, ◌+◌, ◌<◌, ◌≤◌, Bool, true, false, List, [], ◌∷◌, ◌++◌, length, map, Option, Some, None, refl, sym, ap, ap₂, ◌∙◌, subst, arith, All}
+use Rattle.std.proofs.Common.{◌≡◌, ◌≢◌, inl, inr, ℕ, zero, suc, ◌+◌, ◌<◌, false, List, [], ◌∷◌, ◌++◌, length, map, Option, Some, refl, sym, ap, ap₂, ◌∙◌, subst, arith, All}
 use Rattle.std.specs.Prelude.{AllPairs, slice_get, slice_index, option_map}
-use Rattle.std.specs.List.{AllByRecursion}
 use Rattle.std.proofs.lemmas.List.Elements.{All-cons}
 use Rattle.std.proofs.lemmas.Option.{same_Some, slice_get-map, slice_get_within}
 use Rattle.word_base.specs.Name.{IsName, IsNameStart}
@@ -9,7 +8,7 @@ use Rattle.c_tree.specs.SourceRun.{main_name}
 use Rattle.c_tree.specs.declared.program.VarRef.{VarRef}
 use Rattle.c_tree.specs.declared.program.VarRef.TheVariants.{Scalar, Local, Static}
 use Rattle.c_tree.specs.TypedTree.{ObjectTree}
-use Rattle.tree_code.specs.WellFormedCode.{IsCode, IsFunctionCode, IsObjectAmong}
+use Rattle.tree_code.specs.WellFormedCode.{IsFunctionCode, IsObjectAmong}
 use Rattle.tree_code.specs.WordTree.{FunctionCode}
 use Rattle.acc_code.specs.declared.operand.HelperName.{HelperName}
 use Rattle.acc_code.specs.declared.operand.HelperName.TheVariants.{DivInt, DivUnsigned, RemInt, RemUnsigned, ShrInt, ShrUnsigned}
@@ -19,36 +18,33 @@ use Rattle.acc_select.specs.IsSelected.{IsEmittableFunction}
 use Rattle.mem_plan.specs.Plan.{frame_of}
 use Rattle.mem_plan.specs.declared.data_plan.DataPlan.{DataPlan}
 use Rattle.mem_plan.specs.declared.data_plan.FramePlan.{FramePlan}
-use Rattle.c25_isa.specs.declared.piece.PieceItem.{PieceItem}
 use Rattle.c25_isa.specs.declared.piece.PieceItem.TheVariants.{Do}
 use Rattle.c25_isa.specs.declared.instruction.Instr.{Instr}
 use Rattle.c25_isa.specs.declared.instruction.Instr.TheVariants.{Ssxm}
 use Rattle.c25_isa.specs.State as machine
 use Rattle.c25_isa.specs.State.{Memory}
-use Rattle.c25_isa.specs.Pieces.{Piece, items_size, ItemsAt}
+use Rattle.c25_isa.specs.Pieces.{Piece}
 use Rattle.c25_code.specs.Items.{plain_items}
 use Rattle.c25_code.specs.Links.{IsMarkOf, MarksDiffer, PieceIsFit, AllStand, address_of, marks_of, first_piece}
 use Rattle.c25_code.proofs.Startups.{startup_marks_fit}
-use Rattle.c25_helper.specs.Calls.{pieces_call, called_helper_pieces}
-use Rattle.c25_helper.specs.Routines.{routine_items, routine_piece, helper_pieces}
-use Rattle.c25_helper.proofs.HelperPieces.{each_answers}
+use Rattle.c25_helper.specs.Answering.{AnswerFor, AnswersCalls}
 use Rattle.ir_semantics.specs.AccRun.{cells_of}
 use Rattle.frame_emit.specs.emit_control.Settings.{helper_name, routine_of, name_or_none}
 use Rattle.frame_emit.specs.Emitted.{function_piece, function_pieces, behind_startup}
-use Rattle.frame_emit.specs.Frames.{all_parameters, scalar_places}
-use Rattle.frame_emit.specs.Startup.{startup_name, startup_piece, statics_items, fillings_code, clearing_items, static_words}
+use Rattle.frame_emit.specs.Startup.{startup_name, startup_piece, statics_items, fillings_code}
 use Rattle.emit_blocks.specs.Places.{Places}
 use Rattle.emit_proof.specs.Calls.{StandsIn}
 use Rattle.image_proof.specs.Emissions.{Emission, IsEmission}
-use Rattle.image_proof.specs.ActiveSites.{parameters_of, site_of}
+use Rattle.image_proof.specs.ActiveSites.{parameters_of}
 use Rattle.image_proof.specs.FunctionWalks.{IsFunctionOf}
 use Rattle.image_proof.proofs.Frames.{FrameAt, frame_at}
 use Rattle.image_proof.proofs.Placed.{places_long}
 use Rattle.image_proof.proofs.Sites.{setting_places}
 use Rattle.image_proof.specs.Keeping.{own_pieces, all_pieces, AreUsable}
 use Rattle.image_proof.proofs.ImageCalls.{FunctionAt, names_in, setting_in}
-use Rattle.image_proof.proofs.Finding.{found_behind, found_later, called_routine, function_found}
-use Rattle.image_proof.proofs.Fitting.{both_fit, chosen_fit, functions_fit, routines_fit}
+use Rattle.image_proof.proofs.Finding.{found_behind, found_later, function_found}
+use Rattle.emit_proof.proofs.Pieces.{piece_once, piece_words}
+use Rattle.emit_proof.proofs.Words.{piece_has_word}
 use Rattle.image_proof.proofs.Helping.{functions_call, some_piece}
 
 -- a dot begins no name of C
@@ -138,9 +134,6 @@ module _ (e : Emission) (is : IsEmission e) where
   abbrev functions : List Piece
   functions = behind_startup e.code e.items e.plan e.arrangements e.step
 
-  abbrev names_all : List ℕ → ℕ
-  names_all = address_of (all_pieces e)
-
   pub names_same : map (λ (f : FunctionCode). f.name) e.code.functions ≡ names_in e
   names_same = item_names e.code.functions e.items is.emittable.count (λ k f g at_f at_g. (is.emittable.each k f g at_f at_g).name)
 
@@ -155,23 +148,25 @@ module _ (e : Emission) (is : IsEmission e) where
       let f = there_by e.code.functions k (let less = slice_get_within e.items k g at_g in let count = is.emittable.count in omega (arith, less, count)) in
       (is.emittable.each k f.0 g f.1 at_g).body.placed
 
-  pub pieces_fit : AllByRecursion PieceIsFit (all_pieces e)
-  pieces_fit = both_fit (own_pieces e) (called_helper_pieces (own_pieces e))
-      (startup_fits e.plan.statics e.code.statics, functions_fit e.plan e.step (parameters_of e) (names_in e) e.code.functions e.items e.plan.frames e.arrangements placed)
-      (chosen_fit (λ (x : Piece). pieces_call x.name (own_pieces e)) helper_pieces routines_fit)
-
-  -- a routine that a function names
-  pub routine_found : (g : ℕ) (code : FunctionCode) (items : FunctionItems) (frame : FramePlan) (lists : List (List ℕ)) → IsFunctionOf e g code items frame lists → (h : HelperName) → StandsIn (Helper h) items.body
-      → first_piece (all_pieces e) (helper_name h) ≡ Some (routine_piece (routine_of h))
-  routine_found g code items frame lists f h stands =
-      found_behind (startup_piece e.plan.statics e.code.statics) (functions ++ called_helper_pieces (own_pieces e)) (helper_name h) (startup_other h)
-      ∙ found_later functions (called_helper_pieces (own_pieces e)) (helper_name h)
-      (piece_names e.plan e.step (parameters_of e) (names_in e) (λ n. n ≢ helper_name h) e.code.functions e.items e.plan.frames e.arrangements (λ k d within same. dotted (helper_name h) (helper_dot h) (subst IsName same (are_names k d within))))
-      ∙ called_routine (own_pieces e) h
+  -- a routine that a function names has a piece that answers for it
+  pub routine_answers : (routines : List Piece) → AnswersCalls (own_pieces e) routines → (g : ℕ) (code : FunctionCode) (items : FunctionItems) (frame : FramePlan) (lists : List (List ℕ)) → IsFunctionOf e g code items frame lists → (h : HelperName) → StandsIn (Helper h) items.body
+      → AnswerFor (routine_of h) (all_pieces e routines)
+  routine_answers routines answers g code items frame lists f h stands =
+      let a = answers (routine_of h)
       (some_piece h (startup_piece e.plan.statics e.code.statics) functions
-      (functions_call h e.plan e.step (parameters_of e) (names_in e) e.code.functions e.items e.plan.frames e.arrangements g code items frame lists f.code_at f.items_at f.frame_at f.lists_at stands))
+      (functions_call h e.plan e.step (parameters_of e) (names_in e) e.code.functions e.items e.plan.frames e.arrangements g code items frame lists f.code_at f.items_at f.frame_at f.lists_at stands)) in
+      record {
+        piece = a.piece;
+        there =
+            found_behind (startup_piece e.plan.statics e.code.statics) (functions ++ routines) (helper_name h) (startup_other h)
+            ∙ found_later functions routines (helper_name h)
+            (piece_names e.plan e.step (parameters_of e) (names_in e) (λ n. n ≢ helper_name h) e.code.functions e.items e.plan.frames e.arrangements (λ k d within same. dotted (helper_name h) (helper_dot h) (subst IsName same (are_names k d within))))
+            ∙ a.there;
+        fit = a.fit;
+        result = a.result;
+      }
 
-  module _ (usable : AreUsable e) (start : machine.State) (program : Memory) (stand : AllStand program (all_pieces e)) where
+  module _ (routines : List Piece) (answers : AnswersCalls (own_pieces e) routines) (place : ℕ → ℕ) (usable : AreUsable e) (start : machine.State) (program : Memory) (stand : AllStand program place (all_pieces e routines)) where
     module _ (g : ℕ) (less : g < length e.code.functions) where
       at_frame : FrameAt e g
       at_frame = frame_at e is g less
@@ -188,20 +183,22 @@ module _ (e : Emission) (is : IsEmission e) where
       is_name : IsName (at_items.0).name
       is_name = each_of IsName (names_in e) are_names g (at_items.0).name (slice_get-map (λ (x : FunctionItems). x.name) e.items g ∙ ap (option_map (λ (x : FunctionItems). x.name)) at_items.1)
 
-      found : first_piece (all_pieces e) (at_items.0).name ≡ Some (function_piece e.plan e.step (parameters_of e) (names_in e) at_frame.code at_items.0 frame at_frame.lists)
+      found : first_piece (all_pieces e routines) (at_items.0).name ≡ Some (function_piece e.plan e.step (parameters_of e) (names_in e) at_frame.code at_items.0 frame at_frame.lists)
       found =
-          found_behind (startup_piece e.plan.statics e.code.statics) (functions ++ called_helper_pieces (own_pieces e)) (at_items.0).name (λ same. dotted startup_name refl (subst IsName (sym same) is_name))
-          ∙ function_found e.plan e.step (parameters_of e) (names_in e) e.code.functions e.items e.plan.frames e.arrangements (called_helper_pieces (own_pieces e)) g at_frame.code at_items.0 frame at_frame.lists names_differ at_frame.there at_items.1 at_frame.framed at_frame.arranged
+          found_behind (startup_piece e.plan.statics e.code.statics) (functions ++ routines) (at_items.0).name (λ same. dotted startup_name refl (subst IsName (sym same) is_name))
+          ∙ function_found e.plan e.step (parameters_of e) (names_in e) e.code.functions e.items e.plan.frames e.arrangements routines g at_frame.code at_items.0 frame at_frame.lists names_differ at_frame.there at_items.1 at_frame.framed at_frame.arranged
 
-      pub function_at : FunctionAt e start program names_all g
+      pub function_at : FunctionAt e start program (address_of place (all_pieces e routines)) g
       function_at =
-          let there = stand (at_items.0).name _ found in
+          let m = setting_in e at_frame.code frame at_frame.lists in
+          let body = (at_items.0).body in
+          let there = stand (at_items.0).name _ found (piece_once m body (placed g at_items.0 at_items.1), piece_words m body, piece_has_word m body) in
           record {
             code = at_frame.code;
             items = at_items.0;
             frame = frame;
             lists = at_frame.lists;
-            marks = marks_of 0 (all_pieces e) (at_items.0).name;
+            marks = marks_of place (all_pieces e routines) (at_items.0).name;
             is_code = at_frame.there;
             is_items = at_items.1;
             is_frame = at_frame.framed;
@@ -215,6 +212,7 @@ module _ (e : Emission) (is : IsEmission e) where
                 emittable.scalars ∙ sym (places_long at_frame.lists frame.bases 0 (at_frame.code).scalars)
                 ∙ ap (λ (p : Places). length p.scalars) (setting_places e g active at_frame.code frame at_frame.lists (names_in e) at_frame.there at_frame.framed at_frame.arranged);
             helpers = λ m k h stands.
-                let at = stand (helper_name h) (routine_piece (routine_of h)) (routine_found g at_frame.code at_items.0 frame at_frame.lists (record { code_at = at_frame.there; items_at = at_items.1; frame_at = at_frame.framed; lists_at = at_frame.arranged }) h stands) in
-                record { items = routine_items (routine_of h); marks = marks_of 0 (all_pieces e) (helper_name h); at = at.0; result = each_answers (routine_of h) };
+                let answer = routine_answers routines answers g at_frame.code at_items.0 frame at_frame.lists (record { code_at = at_frame.there; items_at = at_items.1; frame_at = at_frame.framed; lists_at = at_frame.arranged }) h stands in
+                let at = stand (helper_name h) answer.piece answer.there answer.fit in
+                record { items = answer.piece.items; marks = marks_of place (all_pieces e routines) (helper_name h); at = at.0; result = answer.result };
           }

@@ -1,3 +1,4 @@
+pub use Rattle.c25_helper.proofs as c25_helper
 pub use Rattle.emit_proof.proofs as emit_proof
 pub use Rattle.frame_emit.proofs as frame_emit
 pub mod Addresses
@@ -49,7 +50,6 @@ pub mod Items
 pub mod ImageCalls
 pub mod Finding
 pub mod Helping
-pub mod Fitting
 pub mod ImageStanding
 pub mod Whole
 pub mod Agreeing

@@ -2,7 +2,8 @@
 use Rattle.std.proofs.Common.{◌≡◌, ℕ, ◌-◌, true, false, [], ◌∷◌, List, Some, None, refl, codes, rules, arith}
 use Rattle.c_tree.specs.declared.program.VarRef.TheVariants.{Local}
 use Rattle.c25_isa.specs.Image.{Contents}
-use Rattle.c25_isa.specs.Pieces.{Piece, items_size, pieces_code, piece_address, listed_ranges}
+use Rattle.c25_isa.specs.Pieces.{Piece, items_size, pieces_code, piece_address, listed_ranges, Linked}
+use Rattle.c25_isa.proofs.InOrder.{in_order_linked}
 use Rattle.c25_isa.specs.Step.{wrap16}
 use Rattle.c25_isa.specs.Table.{code_words}
 use Rattle.c25_isa.specs.Walk.{Blocks, walk}
@@ -83,12 +84,14 @@ short_setting = record setting { back = None }
 abbrev short_piece : Piece
 short_piece = record { name = codes "f"; listed = true; items = function_items short_setting (lac 0 ▸ end) }
 
-short_is : IsFunctionIn (short_piece ∷ []) (linked (short_piece ∷ [])) (codes "f") short_piece short_setting (lac 0 ▸ end)
+short_linked : Linked (short_piece ∷ []) (linked (short_piece ∷ []))
+short_linked = in_order_linked (short_piece ∷ []) (linked (short_piece ∷ [])) refl refl (λ e. omega arith, tt)
+
+short_is : IsFunctionIn (short_piece ∷ []) (linked (short_piece ∷ [])) short_linked (codes "f") short_piece short_setting (lac 0 ▸ end)
 short_is = record {
-  linked = record { words = refl; functions = refl; listed = (λ e. omega arith, tt) };
   fit = (((omega arith, omega arith), (omega arith, ((omega arith, tt), (tt, tt)))), tt);
   first = refl;
   items = refl;
   placed = search rules;
-  room = omega arith;
+  short = omega arith;
 }

@@ -1,6 +1,6 @@
 -- A program from a reset: the startup, the call of `main`, and the end.
-use Rattle.std.proofs.Common.{◌≡◌, ℕ, zero, suc, ◌+◌, ◌*◌, ◌<◌, ◌≤◌, Bool, true, false, List, [], ◌∷◌, ◌++◌, length, map, Option, Some, None, refl, sym, ap, ◌∙◌, subst, arith, append-nil}
-use Rattle.std.specs.Prelude.{slice_get, if◌then◌else◌, option_map}
+use Rattle.std.proofs.Common.{◌≡◌, ℕ, zero, suc, ◌+◌, ◌*◌, ◌≤◌, Bool, true, false, List, [], ◌∷◌, length, map, Option, Some, None, refl, sym, ap, ◌∙◌, subst, arith, append-nil}
+use Rattle.std.specs.Prelude.{slice_get, if◌then◌else◌}
 use Rattle.std.specs.Str.{bytes_eq}
 use Rattle.std.proofs.lemmas.Option.{same_Some, slice_get-get_or}
 use Rattle.std.proofs.lemmas.Slice.Eq.{bytes_eq-Decides}
@@ -10,8 +10,7 @@ use Rattle.word_base.specs.Ports.{Input, IsInput, Outputs, Prefix}
 use Rattle.c_tree.specs.SourceRun.{main_name}
 use Rattle.c_tree.specs.TypedOfWords.{StartsWithWords}
 use Rattle.tree_code.specs.WordTree.{FunctionCode}
-use Rattle.acc_code.specs.AccTree.{FunctionItems}
-use Rattle.c25_isa.specs.declared.instruction.Instr.TheVariants.{Idle, Call as CallInstr}
+use Rattle.c25_isa.specs.declared.instruction.Instr.TheVariants.{Call as CallInstr}
 use Rattle.c25_isa.specs.Image.{Contents}
 use Rattle.c25_isa.specs.State as machine
 use Rattle.c25_isa.specs.State.{Start, IsStart, BeginsWith}
@@ -20,15 +19,16 @@ use Rattle.c25_isa.specs.CodeAt.{StandsAt}
 use Rattle.c25_isa.specs.Leads.{Leads}
 use Rattle.c25_isa.specs.MachineRun as runs
 use Rattle.c25_isa.specs.MachineRun.{reset, run_from, machine_run, outputs_reached}
-use Rattle.c25_isa.specs.Pieces.{Linked, PiecesFit}
+use Rattle.c25_isa.specs.Pieces.{Piece, Linked, PiecesFit}
 use Rattle.c25_isa.proofs.Leads.{leads_on, leads_to_end}
-use Rattle.c25_code.specs.Work.{Work, calm, work_of}
+use Rattle.c25_code.specs.Work.{calm}
 use Rattle.c25_code.specs.Items.{no_change}
-use Rattle.c25_code.specs.Links.{pieces_size, AllStand, address_of, marks_of}
+use Rattle.c25_code.specs.Links.{AllStand, address_of, marks_of}
 use Rattle.c25_code.proofs.Calm.{calmed}
 use Rattle.c25_code.proofs.Jumps.{calm_idle_ends}
 use Rattle.c25_code.proofs.PiecesStand.{image_stands}
 use Rattle.c25_code.proofs.Startups.{first_stands}
+use Rattle.c25_helper.specs.Answering.{AnswersCalls}
 use Rattle.ir_semantics.specs.Parts.{Res, Gives, Finished, TooMany, Fails, Flow, Next, Broke, Continued, Returned as Came_back}
 use Rattle.ir_semantics.specs.AccRows.{Acc, Gone, Low, Whole, low_half}
 use Rattle.ir_semantics.specs.AccRun.{Machine, run_items}
@@ -49,7 +49,7 @@ use Rattle.image_proof.specs.Starts.{StartsRight}
 use Rattle.image_proof.proofs.Startups.{startup_starts}
 use Rattle.image_proof.specs.Keeping.{MachineKeeps, own_pieces, all_pieces, AreUsable}
 use Rattle.image_proof.proofs.ImageCalls.{BodiesMeet, Enters, Leaves, call_meets, names_in}
-use Rattle.image_proof.proofs.ImageStanding.{pieces_fit, function_at, names_same}
+use Rattle.image_proof.proofs.ImageStanding.{startup_fits, function_at, names_same}
 
 -- `main` among functions: there is one, and the first of the name is it
 main_named : (k i : ℕ) (fs : List FunctionCode) (g : FunctionCode) → slice_get fs i ≡ Some g → g.name ≡ main_name → (j : ℕ) × (main_from k fs ≡ k + j) × (name_or_none (slice_get (map (λ (f : FunctionCode). f.name) fs) j) ≡ main_name)
@@ -94,17 +94,17 @@ module _ (e : Emission) (is : IsEmission e) (usable : AreUsable e) (words : Star
       let at : main ≡ found.0 = let same = found.1 in omega (arith, same) in
       ap (λ ns. name_or_none (slice_get ns main)) (sym (names_same e is)) ∙ ap (λ k. name_or_none (slice_get (map (λ (f : FunctionCode). f.name) e.code.functions) k)) at ∙ found.2
 
-  module _ (image : Contents) (linked : Linked (all_pieces e) image) (ranges : PiecesFit (all_pieces e)) (small : pieces_size (all_pieces e) ≤ 65536) (b : Start) (starts : IsStart b) (begins : BeginsWith image.words b) (input : Input) (given : IsInput input) (n : ℕ) (enters : Enters e is (reset b input) b.program (address_of (all_pieces e)) n) (leaves : Leaves e is (reset b input) b.program (address_of (all_pieces e)) n) where
+  module _ (routines : List Piece) (answers : AnswersCalls (own_pieces e) routines) (image : Contents) (linked : Linked (all_pieces e routines) image) (ranges : PiecesFit (all_pieces e routines)) (small : length image.words ≤ 65536) (b : Start) (starts : IsStart b) (begins : BeginsWith image.words b) (input : Input) (given : IsInput input) (n : ℕ) (enters : Enters e is (reset b input) b.program (address_of linked.place (all_pieces e routines)) n) (leaves : Leaves e is (reset b input) b.program (address_of linked.place (all_pieces e routines)) n) where
     abbrev names : List ℕ → ℕ
-    names = address_of (all_pieces e)
+    names = address_of linked.place (all_pieces e routines)
 
-    stand : AllStand b.program (all_pieces e)
-    stand = image_stands b (all_pieces e) image linked begins ranges (pieces_fit e is) small
+    stand : AllStand b.program linked.place (all_pieces e routines)
+    stand = image_stands b (all_pieces e routines) image linked begins ranges small
 
     started : StartsRight b input e.code e.plan (names main_name)
     started =
-        let first = first_stands b.program (startup_piece e.plan.statics e.code.statics) _ stand in
-        startup_starts b input (marks_of 0 (all_pieces e) (startup_piece e.plan.statics e.code.statics).name) names e.code e.arrangements e.plan is.planned is.code words starts given first.0 first.1
+        let first = first_stands b.program linked.place (startup_piece e.plan.statics e.code.statics) _ linked.first (startup_fits e.plan.statics e.code.statics) stand in
+        startup_starts b input (marks_of linked.place (all_pieces e routines) (startup_piece e.plan.statics e.code.statics).name) names e.code e.arrangements e.plan is.planned is.code words starts given first.0 first.1
 
     abbrev at : ℕ
     at = started.arrives.start
@@ -119,7 +119,7 @@ module _ (e : Emission) (is : IsEmission e) (usable : AreUsable e) (words : Star
     meets =
         let idle = started.arrives.called.1.0 in
         let room = idle.room in
-        call_meets e is (reset b input) b.program names n bodies enters leaves (λ g less. function_at e is usable (reset b input) b.program stand g less) (suc (length e.code.functions)) [] nothing_kept main (main_there e is, tt) (nothing_is_kept e []) (omega arith)
+        call_meets e is (reset b input) b.program names n bodies enters leaves (λ g less. function_at e is routines answers linked.place usable (reset b input) b.program stand g less) (suc (length e.code.functions)) [] nothing_kept main (main_there e is, tt) (nothing_is_kept e []) (omega arith)
         begun (first_state e input) started.work at came refl (first_beside e is input started.work started.range started.sxm started.stack started.input started.ram)
         (subst (λ name. StandsAt b.program at (CallInstr (names name) no_change)) (sym main_is) started.arrives.called.0) (omega (arith, room))
 

@@ -8,7 +8,6 @@ use Rattle.c25_isa.specs.Agrees.{Steps}
 use Rattle.c25_isa.specs.MachineRun as machine
 use Rattle.c25_isa.specs.MachineRun.{outputs_reached}
 use Rattle.c25_isa.specs.Pieces.{Piece}
-use Rattle.c25_helper.specs.Calls.{called_helper_pieces}
 use Rattle.ir_semantics.specs.Keeps.{WorkOutcome, Ended, More, Undefined}
 use Rattle.frame_emit.specs.Emitted.{emitted}
 use Rattle.image_proof.specs.Emissions.{Emission}
@@ -22,12 +21,12 @@ pub record MachineKeeps (run : WorkOutcome) (steps : Steps) (turns more_steps : 
   pub more : (outs : Outputs) → run ≡ More outs → (m : ℕ) × (turns ≤ m) × (steps m ≡ machine.Running outs)
   pub prefix : (outs : Outputs) → run ≡ Undefined outs → (m : ℕ) × Prefix outs (outputs_reached (steps m))
 
--- the pieces of a program with the routines that they call
+-- the pieces of a program, and with routines behind them
 abbrev pub own_pieces : Emission → List Piece
 own_pieces e = emitted e.code e.items e.plan e.arrangements e.step
 
-abbrev pub all_pieces : Emission → List Piece
-all_pieces e = own_pieces e ++ called_helper_pieces (own_pieces e)
+abbrev pub all_pieces : Emission → List Piece → List Piece
+all_pieces e routines = own_pieces e ++ routines
 
 -- the operands of all its functions are usable
 pub record AreUsable (e : Emission) : Type 0 where

@@ -1,7 +1,7 @@
 -- The piece of a function in an image, and what its runs give a walk.
-use Rattle.std.specs.Prelude.{◌≡◌, ⊤, ℕ, ◌+◌, ◌-◌, ◌≤◌, false, List, [], ◌∷◌, map, Some}
+use Rattle.std.specs.Prelude.{◌≡◌, ⊤, ℕ, ◌+◌, ◌-◌, ◌≤◌, false, List, [], ◌∷◌, length, map, Some}
 use Rattle.c25_isa.specs.Image.{Contents}
-use Rattle.c25_isa.specs.Pieces.{Piece, items_size, piece_address, PiecesFit, Linked}
+use Rattle.c25_isa.specs.Pieces.{Piece, items_size, address_in, PiecesFit, Linked}
 use Rattle.c25_code.specs.Links.{first_piece}
 use Rattle.acc_code.specs.AccTree.{ItemList}
 use Rattle.acc_code.specs.Emittable.{IsPlaced}
@@ -21,17 +21,16 @@ RunsWalk m cost [] = ⊤
 RunsWalk m cost (e ∷ es) = EntryWalks m cost e × RunsWalk m cost es
 
 -- the first piece of a name is that of a function's body, in an image that is linked from pieces
-pub record IsFunctionIn (pieces : List Piece) (image : Contents) (name : List ℕ) (p : Piece) (m : Setting) (body : ItemList) : Type 0 where
-  pub linked : Linked pieces image
+pub record IsFunctionIn (pieces : List Piece) (image : Contents) (linked : Linked pieces image) (name : List ℕ) (p : Piece) (m : Setting) (body : ItemList) : Type 0 where
   pub fit : PiecesFit pieces
   pub first : first_piece pieces name ≡ Some p
   pub items : p.items ≡ function_items m body
   pub placed : IsPlaced false false false body
-  pub room : piece_address 0 pieces name + items_size p.items ≤ 65536
+  pub short : length image.words ≤ 65536
 
--- the first and the last word of its range
-abbrev pub range_first : List Piece → List ℕ → ℕ
-range_first pieces name = piece_address 0 pieces name
+-- the first and the last word of its range, where pieces have these places
+abbrev pub range_first : (ℕ → ℕ) → List Piece → List ℕ → ℕ
+range_first place pieces name = address_in place pieces name
 
-abbrev pub range_last : List Piece → List ℕ → Piece → ℕ
-range_last pieces name p = piece_address 0 pieces name + items_size p.items - 1
+abbrev pub range_last : (ℕ → ℕ) → List Piece → List ℕ → Piece → ℕ
+range_last place pieces name p = address_in place pieces name + items_size p.items - 1

@@ -1,5 +1,5 @@
 //! Laws of direct operands. The calls do nothing: their clauses are what crates above cite.
-ghost use Rattle.std.specs.Prelude.{◌≤◌, ◌<◌, ℕ, List};
+ghost use Rattle.std.specs.Prelude.{◌≤◌, ◌<◌, ℕ, List, length};
 ghost use Rattle.c_tree.specs.TypedTree.{ProgramTree};
 ghost use Rattle.c_tree.specs.WellFormedProgram.{IsProgram};
 ghost use Rattle.tree_code.specs.Lowered.{lowered_program};
@@ -9,18 +9,17 @@ ghost use Rattle.image_proof.specs.acc_select.Selected.{selected};
 ghost use Rattle.mem_plan.specs.declared.data_plan.DataPlan.{DataPlan};
 ghost use Rattle.mem_plan.specs.Plan.{AreArranged, IsPlan};
 ghost use Rattle.c25_isa.specs.Image.{Contents};
-ghost use Rattle.c25_isa.specs.Pieces.{Linked, PiecesFit};
-ghost use Rattle.c25_code.specs.Links.{pieces_size};
+ghost use Rattle.c25_isa.specs.Pieces.{Piece, Linked, PiecesFit};
 ghost use Rattle.image_proof.specs.Emissions.{Emission, IsEmission};
 ghost use Rattle.image_proof.specs.Agreeing.{emission_of};
 ghost use Rattle.image_proof.specs.Keeping.{all_pieces};
 ghost use Rattle.image_proof.specs.Directs.{AreDirect};
 
-/// In an image that is linked from the pieces of accumulator code, and from the routines that they call, the direct operands of each function name
-/// no word of its scalars: they name words of static objects, of its own objects and of its return address, scratch words behind a store to them, and,
-/// in stores, parameters of functions that it calls.
+/// In an image that is linked from the pieces of accumulator code and from any behind them, wherever they stand, the direct operands of each function
+/// name no word of its scalars: they name words of static objects, of its own objects and of its return address, scratch words behind a store to
+/// them, and, in stores, parameters of functions that it calls.
 pub fn images_are_direct()
-    ensures direct { (e : Emission) (image : Contents) → IsEmission e → Linked (all_pieces e) image → PiecesFit (all_pieces e) → pieces_size (all_pieces e) ≤ 65536
+    ensures direct { (e : Emission) (routines : List Piece) (image : Contents) → IsEmission e → Linked (all_pieces e routines) image → PiecesFit (all_pieces e routines) → length image.words ≤ 65536
         → AreDirect e image }
 {
     crate::pieces_walk();
@@ -29,8 +28,8 @@ pub fn images_are_direct()
 
 /// So it is of a typed program of words.
 pub fn programs_are_direct()
-    ensures direct { (t : ProgramTree) (plan : DataPlan) (arrangements : List (List (List ℕ))) (step : ℕ) (image : Contents) → IsProgram t → ProgramHasWords t → AreArranged (lowered_program t).functions arrangements → IsPlan (lowered_program t) arrangements plan
-        → IsEmittable (lowered_program t) (selected (lowered_program t)) → step < 256 → Linked (all_pieces (emission_of t plan arrangements step)) image → PiecesFit (all_pieces (emission_of t plan arrangements step)) → pieces_size (all_pieces (emission_of t plan arrangements step)) ≤ 65536
+    ensures direct { (t : ProgramTree) (plan : DataPlan) (arrangements : List (List (List ℕ))) (step : ℕ) (routines : List Piece) (image : Contents) → IsProgram t → ProgramHasWords t → AreArranged (lowered_program t).functions arrangements → IsPlan (lowered_program t) arrangements plan
+        → IsEmittable (lowered_program t) (selected (lowered_program t)) → step < 256 → Linked (all_pieces (emission_of t plan arrangements step) routines) image → PiecesFit (all_pieces (emission_of t plan arrangements step) routines) → length image.words ≤ 65536
         → AreDirect (emission_of t plan arrangements step) image }
 {
     images_are_direct();

@@ -2,7 +2,7 @@
 ghost use Rattle.std.specs.Prelude.{[], ◌≡◌, ℕ, Bool, true, List, map, sum_by, Option, None};
 ghost use Rattle.c_tree.specs.declared.program.VarRef.{VarRef};
 ghost use Rattle.c25_isa.specs.Image.{Contents};
-ghost use Rattle.c25_isa.specs.Pieces.{Piece, mark_address, piece_address, items_code};
+ghost use Rattle.c25_isa.specs.Pieces.{Piece, Linked, address_in, piece_code};
 ghost use Rattle.c25_isa.specs.Step.{wrap16};
 ghost use Rattle.c25_isa.specs.Walk.{Blocks, code_of, walk};
 ghost use Rattle.c25_isa.specs.AddressCount.{address_count};
@@ -23,17 +23,17 @@ ghost use Rattle.image_proof.specs.PieceWalks.{RunsWalk, IsFunctionIn, range_fir
 /// A walk of the range of a function finds the blocks of its body, wherever its piece is linked, where a walk finds in each run the addresses of
 /// its scalars; and it counts what the blocks cost.
 pub fn pieces_walk()
-    ensures blocks { (pieces : List Piece) (image : Contents) (name : List ℕ) (p : Piece) (m : Setting) (body : ItemList) (cost : List ℕ → ℕ) → IsFunctionIn pieces image name p m body → RunsWalk m cost (body_entries body)
-        → walk image.words (range_first pieces name) (range_last pieces name p) ≡ Blocks (map (map (address_of m.places)) (blocks_of body)) }
-    ensures count { (pieces : List Piece) (image : Contents) (name : List ℕ) (p : Piece) (m : Setting) (body : ItemList) (cost : List ℕ → ℕ) → IsFunctionIn pieces image name p m body → cost [] ≡ 0 → RunsWalk m cost (body_entries body)
-        → address_count image.words (range_first pieces name) (range_last pieces name p) ≡ sum_by cost (blocks_of body) }
+    ensures blocks { (pieces : List Piece) (image : Contents) (linked : Linked pieces image) (name : List ℕ) (p : Piece) (m : Setting) (body : ItemList) (cost : List ℕ → ℕ) → IsFunctionIn pieces image linked name p m body → RunsWalk m cost (body_entries body)
+        → walk image.words (range_first linked.place pieces name) (range_last linked.place pieces name p) ≡ Blocks (map (map (address_of m.places)) (blocks_of body)) }
+    ensures count { (pieces : List Piece) (image : Contents) (linked : Linked pieces image) (name : List ℕ) (p : Piece) (m : Setting) (body : ItemList) (cost : List ℕ → ℕ) → IsFunctionIn pieces image linked name p m body → cost [] ≡ 0 → RunsWalk m cost (body_entries body)
+        → address_count image.words (range_first linked.place pieces name) (range_last linked.place pieces name p) ≡ sum_by cost (blocks_of body) }
     // Each direct operand may be there, where those of its runs and of its return address may.
-    ensures direct { (pieces : List Piece) (image : Contents) (name : List ℕ) (p : Piece) (m : Setting) (body : ItemList) (own places given : List ℕ) → IsFunctionIn pieces image name p m body
-        → KeepsReturn (words own places given) m.back → RunsAreDirect (words own places given) m (body_entries body) → Direct image.words (range_first pieces name) (range_last pieces name p) own places given }
+    ensures direct { (pieces : List Piece) (image : Contents) (linked : Linked pieces image) (name : List ℕ) (p : Piece) (m : Setting) (body : ItemList) (own places given : List ℕ) → IsFunctionIn pieces image linked name p m body
+        → KeepsReturn (words own places given) m.back → RunsAreDirect (words own places given) m (body_entries body) → Direct image.words (range_first linked.place pieces name) (range_last linked.place pieces name p) own places given }
     // The range is the instructions of the piece, without a faulty word.
-    ensures code { (pieces : List Piece) (image : Contents) (name : List ℕ) (p : Piece) (m : Setting) (body : ItemList) → IsFunctionIn pieces image name p m body
-        → code_of image.words (range_first pieces name) (range_last pieces name p)
-        ≡ record { placed = placed_from (range_first pieces name) (items_code (λ mark. wrap16 (mark_address (range_first pieces name) p.items mark)) (λ other. wrap16 (piece_address 0 pieces other)) p.items); fault = None } }
+    ensures code { (pieces : List Piece) (image : Contents) (linked : Linked pieces image) (name : List ℕ) (p : Piece) (m : Setting) (body : ItemList) → IsFunctionIn pieces image linked name p m body
+        → code_of image.words (range_first linked.place pieces name) (range_last linked.place pieces name p)
+        ≡ record { placed = placed_from (range_first linked.place pieces name) (piece_code (λ other. wrap16 (address_in linked.place pieces other)) (range_first linked.place pieces name) p); fault = None } }
 {}
 
 /// The direct operands of a run, whatever its stretch did before it.

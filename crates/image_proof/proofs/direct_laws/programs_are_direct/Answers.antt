@@ -4,8 +4,8 @@ use Rattle.image_proof.proofs.direct_laws.programs_are_direct.Goals as goal
 
 pub returns : goal.returns
 returns c = record {
-  direct = λ t plan arrangements step image is words arranged planned emittable low linked fit size.
-      c.images_are_direct.ensures.direct (emission_of t plan arrangements step) image
+  direct = λ t plan arrangements step routines image is words arranged planned emittable low linked fit size.
+      c.images_are_direct.ensures.direct (emission_of t plan arrangements step) routines image
       (record {
         code = (c.typed_programs_keep.ensures.of_words (places_of plan) t is words (c.translation_keeps_runs.ensures.far t arrangements plan arranged planned)).code;
         emittable = emittable;

@@ -36,15 +36,15 @@ returns c =
     let usable : (t : ProgramTree) (plan : DataPlan) (arrangements : List (List (List ℕ))) (step : ℕ) → IsProgram t → ProgramHasWords t → AreUsable (emission_of t plan arrangements step) =
     λ t plan arrangements step is words. record { by = λ k g there. c.selected_is_usable.ensures.usable t k g is words there } in
     record {
-      agree = λ t plan arrangements step image is words arranged planned emittable low linked ranges small.
+      agree = λ t plan arrangements step routines image is words arranged planned emittable low answers linked ranges small.
           λ b input starts begins given.
           agrees_at (source_run t input) (source_work t input) (λ n. acc_run (places_of plan) (lowered_program t) (selected (lowered_program t)) input n) (machine_run b input) (1000 + 16 * static_words t.statics)
           (λ n. laws.keeps t arrangements plan input n is words arranged planned given)
-          (λ n. c.images_keep_runs.ensures.keeps (emission_of t plan arrangements step) image b input n (emission t plan arrangements step is words arranged planned emittable low) (usable t plan arrangements step is words) words.statics linked ranges small starts begins given);
-      in_time = λ t plan arrangements step image is words arranged planned emittable low linked ranges small.
+          (λ n. c.images_keep_runs.ensures.keeps (emission_of t plan arrangements step) routines image b input n (emission t plan arrangements step is words arranged planned emittable low) (usable t plan arrangements step is words) words.statics answers linked ranges small starts begins given);
+      in_time = λ t plan arrangements step routines image is words arranged planned emittable low answers linked ranges small.
           λ b input n outs ending work starts begins given ended.
           in_time (worked_run t input n) (acc_run (places_of plan) (lowered_program t) (selected (lowered_program t)) input n) (machine_run b input) n (1000 + 16 * static_words t.statics)
           (laws.keeps t arrangements plan input n is words arranged planned given)
-          (c.images_keep_runs.ensures.keeps (emission_of t plan arrangements step) image b input n (emission t plan arrangements step is words arranged planned emittable low) (usable t plan arrangements step is words) words.statics linked ranges small starts begins given)
+          (c.images_keep_runs.ensures.keeps (emission_of t plan arrangements step) routines image b input n (emission t plan arrangements step is words arranged planned emittable low) (usable t plan arrangements step is words) words.statics answers linked ranges small starts begins given)
           outs ending work ended;
     }
