@@ -1,5 +1,5 @@
 -- Words of images and of port lines have 16 bits.
-use Rattle.std.proofs.Common.{◌≡◌, inl, inr, ℕ, zero, suc, ◌+◌, ◌*◌, ◌^◌, ◌<◌, ◌≤◌, Bool, true, false, List, [], ◌∷◌, ◌++◌, length, Option, Some, None, refl, sym, ap, subst, lit<, arith, All}
+use Rattle.std.proofs.Common.{◌≡◌, inl, inr, ℕ, zero, suc, ◌+◌, ◌*◌, ◌^◌, ◌<◌, ◌≤◌, Bool, true, false, List, [], ◌∷◌, ◌++◌, length, Option, Some, None, refl, sym, ap, subst, lit<, arith, get_or, All}
 use Rattle.std.specs.Prelude.{◌==◌, nat_lt, slice_index, if◌then◌else◌}
 use Rattle.std.specs.List.{AllByRecursion}
 use Rattle.std.specs.Str.Lines.{lines}
@@ -177,6 +177,14 @@ image_low : (pieces : List Piece) (image : Contents) → Linked pieces image →
 image_low pieces image linked fit =
     let names : List ℕ → ℕ = λ name. wrap16 (piece_address 0 pieces name) in
     subst AreLow (sym linked.words) (code_low (pieces_code names 0 pieces) (pieces_fit names pieces 0 (λ name. wraps_low (piece_address 0 pieces name)) fit))
+
+low_at : (ws : List ℕ) → AreLow ws → (a d : ℕ) → a < length ws → get_or ws a d < 65536
+low_at [] h a d within = absurd (omega (arith, within))
+low_at (w ∷ ws) h zero d within = h.0
+low_at (w ∷ ws) h (suc a) d within = low_at ws h.1 a d (omega (arith, within))
+
+pub words_fit : (pieces : List Piece) (image : Contents) → Linked pieces image → PiecesFit pieces → All (λ w. w < 2 ^ 16) image.words
+words_fit pieces image linked fit = low_at image.words (image_low pieces image linked fit)
 
 pub zero_starts : (pieces : List Piece) (image : Contents) → Linked pieces image → PiecesFit pieces → IsStart (zero_start image.words)
 zero_starts pieces image linked fit = record {
