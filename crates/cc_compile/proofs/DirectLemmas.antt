@@ -19,7 +19,8 @@ use Rattle.image_proof.specs.Keeping.{all_pieces as emission_pieces}
 use Rattle.image_proof.specs.Directs.{AreDirect}
 use Rattle.image_proof.specs.Emissions.{Emission}
 use Rattle.image_proof.specs.Leading.{AllHaveTargets}
-use Rattle.cc_compile.specs.Images.{FrameJobs, HasImage, IsDirect, IsPlanOf, LeadsRight, all_pieces, layouts}
+use Rattle.image_proof.specs.Listing.{AllListFrames}
+use Rattle.cc_compile.specs.Images.{FrameJobs, HasImage, IsDirect, IsPlanOf, LeadsRight, ListsFrames, all_pieces, layouts}
 use Rattle.cc_compile.proofs.AgreementLemmas.{size_same}
 use Rattle.cc_compile.proofs.OneImage.{one_plan}
 
@@ -52,3 +53,8 @@ image_direct = image_holds AreDirect
 pub image_leads : ForImages AllHaveTargets → (o : FrameJobs) (t : ProgramTree) (p : ProgramCode) (gs : List FunctionItems) → o.step ≤ 8 → p ≡ lowered_program t → ∥ IsProgram t ∥₁ → ProgramHasWords t → AreArranged p.functions (layouts o) → IsEmittable p gs → gs ≡ selected p
     → (image : Contents) → HasImage o t image → ∥ LeadsRight o t image ∥₁
 image_leads = image_holds AllHaveTargets
+
+-- how words of frames are accessed
+pub image_lists : ForImages AllListFrames → (o : FrameJobs) (t : ProgramTree) (p : ProgramCode) (gs : List FunctionItems) → o.step ≤ 8 → p ≡ lowered_program t → ∥ IsProgram t ∥₁ → ProgramHasWords t → AreArranged p.functions (layouts o) → IsEmittable p gs → gs ≡ selected p
+    → (image : Contents) → HasImage o t image → ∥ ListsFrames o t image ∥₁
+image_lists = image_holds AllListFrames

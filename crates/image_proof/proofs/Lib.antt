@@ -100,3 +100,4 @@ pub mod Directs
 pub mod JumpsWithin
 pub mod NamedCalls
 pub mod LeadsRight
+pub mod Listing
