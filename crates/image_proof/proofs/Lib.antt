@@ -101,3 +101,4 @@ pub mod JumpsWithin
 pub mod NamedCalls
 pub mod LeadsRight
 pub mod Listing
+pub mod Sparing

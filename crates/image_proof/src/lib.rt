@@ -26,7 +26,7 @@ pub use image_walks_laws::{images_walk, programs_walk};
 pub use listing_laws::{images_list_frames, programs_list_frames};
 pub use piece_walks_laws::{pieces_walk, runs_are_direct};
 pub use run_laws::translation_keeps_runs;
-pub use site_laws::calls_stand;
+pub use site_laws::{calls_stand, sites_spare_frames};
 pub use target_laws::{images_lead_right, programs_lead_right};
 pub use tree_code_proof::lowering_keeps_runs;
 pub use usable_laws::selected_is_usable;
