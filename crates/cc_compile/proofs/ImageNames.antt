@@ -5,7 +5,7 @@ use Rattle.std.proofs.lemmas.List.{length-map}
 use Rattle.std.proofs.lemmas.List.Elements.{All-head, All-tail, All-filter, All-map}
 use Rattle.c25_isa.specs.declared.image.FunctionRange.{FunctionRange}
 use Rattle.c25_isa.specs.Image.{Contents}
-use Rattle.c25_isa.specs.Pieces.{Piece, items_size, range_of, listed_ranges}
+use Rattle.c25_isa.specs.Pieces.{Piece, items_size, range_of, ranges_in}
 use Rattle.image_proof.specs.c25_helper.Calls.{pieces_call, called_helper_pieces}
 use Rattle.image_proof.specs.c25_helper.Routines.{all_routines, helper_pieces, routine_piece}
 use Rattle.tree_code.specs.WordTree.{FunctionCode}
@@ -18,7 +18,6 @@ use Rattle.cc_compile.specs.Compiles.{names_of}
 use Rattle.cc_compile.specs.Images.{FrameJobs, HasImage, layouts, own_pieces}
 use Rattle.image_proof.specs.frame_emit.Emitted.{behind_startup}
 use Rattle.image_proof.specs.frame_emit.Frames.{all_parameters}
-use Rattle.image_proof.specs.frame_emit.Startup.{startup_piece}
 use Rattle.frame_layouts.specs.Frames.{layout_of}
 use Rattle.image_proof.specs.acc_select.Selected.{selected, selected_function}
 use Rattle.image_proof.proofs.frame_emit.Naming.{all_listed, their_names}
@@ -47,22 +46,22 @@ one_unlisted : (b : Bool) (name : List ℕ) (at size : ℕ) (rs : List FunctionR
 one_unlisted true name at size rs is rest = absurd cc
 one_unlisted false name at size rs is rest = rest
 
-none_listed : (at : ℕ) (ps : List Piece) → All IsUnlisted ps → listed_ranges at ps ≡ []
-none_listed at [] all = refl
-none_listed at (p ∷ ps) all =
-    one_unlisted p.listed p.name at (items_size p.items) (listed_ranges (at + items_size p.items) ps) (All-head IsUnlisted p ps all)
-    (none_listed (at + items_size p.items) ps (All-tail IsUnlisted p ps all))
+none_listed : (place : ℕ → ℕ) (ps : List Piece) → All IsUnlisted ps → ranges_in place ps ≡ []
+none_listed place [] all = refl
+none_listed place (p ∷ ps) all =
+    one_unlisted p.listed p.name (place 0) (items_size p.items) (ranges_in (λ k. place (suc k)) ps) (All-head IsUnlisted p ps all)
+    (none_listed (λ k. place (suc k)) ps (All-tail IsUnlisted p ps all))
 
-ranges_named : (at : ℕ) (ps rest : List Piece) → All IsListed ps → ((n : ℕ) → listed_ranges n rest ≡ [])
-    → map range_name (listed_ranges at (ps ++ rest)) ≡ map piece_name ps
-ranges_named at [] rest all none = ap (map range_name) (none at)
-ranges_named at (p ∷ ps) rest all none =
-    one_listed p.listed p.name at (items_size p.items) (listed_ranges (at + items_size p.items) (ps ++ rest)) (map piece_name ps) (All-head IsListed p ps all)
-    (ranges_named (at + items_size p.items) ps rest (All-tail IsListed p ps all) none)
+ranges_named : (place : ℕ → ℕ) (ps rest : List Piece) → All IsListed ps → ((others : ℕ → ℕ) → ranges_in others rest ≡ [])
+    → map range_name (ranges_in place (ps ++ rest)) ≡ map piece_name ps
+ranges_named place [] rest all none = ap (map range_name) (none place)
+ranges_named place (p ∷ ps) rest all none =
+    one_listed p.listed p.name (place 0) (items_size p.items) (ranges_in (λ k. place (suc k)) (ps ++ rest)) (map piece_name ps) (All-head IsListed p ps all)
+    (ranges_named (λ k. place (suc k)) ps rest (All-tail IsListed p ps all) none)
 
-no_helper : (pieces : List Piece) (n : ℕ) → listed_ranges n (called_helper_pieces pieces) ≡ []
-no_helper pieces n =
-    none_listed n (called_helper_pieces pieces)
+no_helper : (pieces : List Piece) (place : ℕ → ℕ) → ranges_in place (called_helper_pieces pieces) ≡ []
+no_helper pieces place =
+    none_listed place (called_helper_pieces pieces)
     (All-filter (λ (x : Piece). pieces_call x.name pieces) IsUnlisted helper_pieces (All-map IsUnlisted routine_piece all_routines (λ k d within. refl)))
 
 -- those of pieces are those of the program
@@ -90,7 +89,7 @@ image_names o t image each h =
     let frames : length plan.frames ≡ length p.functions =
     ap (λ (x : DataPlan). length x.frames) h.planned.is ∙ frames_count (frames_start p) h.planned.begin 0 p.functions (layouts o) lists in
     ap (map range_name) h.linked.functions
-    ∙ ranges_named (0 + items_size (startup_piece plan.statics p.statics).items) (behind_startup p (selected p) plan (layouts o) o.step)
+    ∙ ranges_named (λ k. h.linked.place (suc k)) (behind_startup p (selected p) plan (layouts o) o.step)
     (called_helper_pieces (own_pieces o p plan))
     (all_listed plan o.step parameters names p.functions (selected p) plan.frames (layouts o)) (no_helper (own_pieces o p plan))
     ∙ their_names plan o.step parameters names p.functions (selected p) plan.frames (layouts o) count frames lists

@@ -1,5 +1,5 @@
 -- The words of each function access what its frame says, by the law of walks for the layouts of the program.
-use Rattle.std.proofs.Common.{◌≡◌, ◌<◌, ◌≤◌, ◌∙◌, ℕ, zero, suc, ◌+◌, ◌*◌, List, [], ◌∷◌, map, Some, refl, sym, ap, subst, arith}
+use Rattle.std.proofs.Common.{◌≡◌, ◌<◌, ◌≤◌, ◌∙◌, ℕ, zero, suc, ◌+◌, ◌*◌, List, [], ◌∷◌, map, Some, refl, sym, ap, subst, arith, length}
 use Rattle.std.specs.Prelude.{slice_get, sum_by, length, All}
 use Rattle.std.proofs.Math.Logic.{∥∥₁_map}
 use Rattle.std.proofs.lemmas.List.Sums.{sum_by-cons}
@@ -22,18 +22,18 @@ use Rattle.frame_layouts.specs.mem_plan.declared.data_plan.DataPlan.{DataPlan}
 use Rattle.frame_layouts.specs.mem_plan.declared.data_plan.FramePlan.{FramePlan}
 use Rattle.frame_layouts.specs.mem_plan.Plan.{AreArranged, IsPlan}
 use Rattle.c25_isa.specs.Image.{Contents}
-use Rattle.c25_isa.specs.Pieces.{Linked, PiecesFit}
+use Rattle.c25_isa.specs.Pieces.{Piece, Linked, PiecesFit}
 use Rattle.c25_isa.specs.Walk.{Blocks}
-use Rattle.c25_code.specs.Links.{pieces_size}
+use Rattle.image_proof.specs.c25_helper.Calls.{called_helper_pieces}
 use Rattle.image_proof.specs.Agreeing.{emission_of}
 use Rattle.image_proof.specs.Keeping.{all_pieces as emission_pieces}
 use Rattle.image_proof.specs.FrameWords.{place_of}
 use Rattle.image_proof.specs.FunctionWalks.{HasWalk, IsFunctionOf}
 use Rattle.frame_layouts.specs.Frames.{ClaimsHold, frame_of, frames_of, layout_of}
 use Rattle.frame_layouts.specs.lay_par.Jobs.{Job}
-use Rattle.cc_compile.specs.Images.{FrameJobs, HasFrames, HasImage, all_pieces, layouts}
+use Rattle.cc_compile.specs.Images.{FrameJobs, HasFrames, HasImage, layouts, own_pieces}
 use Rattle.cc_compile.specs.Walked.{AreWalked, AreWalkedAs, IsWalked, IsWalkedAs}
-use Rattle.cc_compile.proofs.AgreementLemmas.{size_same}
+use Rattle.cc_compile.proofs.AgreementLemmas.{image_short}
 use Rattle.cc_compile.proofs.OneImage.{one_plan}
 
 -- blocks that count once
@@ -89,8 +89,8 @@ each_of P (y ∷ ys) all (suc k) x is = each_of P ys (λ i d within. all (suc i)
 
 -- the law of walks for the layouts of a program
 abbrev ForWalks : Type 0
-ForWalks = (t : ProgramTree) (plan : DataPlan) (arrangements : List (List (List ℕ))) (step : ℕ) (image : Contents) (k : ℕ) (code : FunctionCode) (g : FunctionItems) (frame : FramePlan) (lists : List (List ℕ)) → IsProgram t → ProgramHasWords t → AreArranged (lowered_program t).functions arrangements → IsPlan (lowered_program t) arrangements plan
-    → IsEmittable (lowered_program t) (selected (lowered_program t)) → step < 256 → Linked (emission_pieces (emission_of t plan arrangements step)) image → PiecesFit (emission_pieces (emission_of t plan arrangements step)) → pieces_size (emission_pieces (emission_of t plan arrangements step)) ≤ 65536
+ForWalks = (t : ProgramTree) (plan : DataPlan) (arrangements : List (List (List ℕ))) (step : ℕ) (routines : List Piece) (image : Contents) (k : ℕ) (code : FunctionCode) (g : FunctionItems) (frame : FramePlan) (lists : List (List ℕ)) → IsProgram t → ProgramHasWords t → AreArranged (lowered_program t).functions arrangements → IsPlan (lowered_program t) arrangements plan
+    → IsEmittable (lowered_program t) (selected (lowered_program t)) → step < 256 → Linked (emission_pieces (emission_of t plan arrangements step) routines) image → PiecesFit (emission_pieces (emission_of t plan arrangements step) routines) → length image.words ≤ 65536
     → IsFunctionOf (emission_of t plan arrangements step) k code g frame lists → HasWalk image k step g frame lists
 
 module _ (law : ForWalks) (o : FrameJobs) (t : ProgramTree) (near : o.step ≤ 8) (words : ProgramHasWords t) (arranged : AreArranged (lowered_program t).functions (layouts o)) (emittable : IsEmittable (lowered_program t) (selected (lowered_program t))) (image : Contents) (h : HasImage o t image) where
@@ -99,10 +99,9 @@ module _ (law : ForWalks) (o : FrameJobs) (t : ProgramTree) (near : o.step ≤ 8
 
   walk_of : IsProgram t → (k : ℕ) (g : FunctionItems) (job : Job) (plan : FramePlan) → slice_get (selected p) k ≡ Some g → slice_get o.jobs k ≡ Some job → slice_get h.plan.frames k ≡ Some plan → HasWalk image k o.step g plan (layout_of job)
   walk_of is k g job plan g_at job_at plan_at =
-      let size = h.fits in
       let within : k < length p.functions = subst (λ n. k < n) emittable.count (slice_get_within (selected p) k g g_at) in
       let code = there p.functions k within in
-      law t h.plan (layouts o) o.step image k code.0 g plan (layout_of job) is words arranged h.planned emittable (omega (arith, near)) h.linked h.ranges (omega (arith, size, size_same (all_pieces o p h.plan)))
+      law t h.plan (layouts o) o.step (called_helper_pieces (own_pieces o p h.plan)) image k code.0 g plan (layout_of job) is words arranged h.planned emittable (omega (arith, near)) h.linked h.ranges (image_short o t image h)
       (record { code_at = code.1; items_at = g_at; frame_at = plan_at; lists_at = map_at layout_of o.jobs k job job_at })
 
   walked_as : (k : ℕ) (g : FunctionItems) (job : Job) (plan : FramePlan) → HasWalk image k o.step g plan (layout_of job) → IsWalkedAs image k (at_step o.step g) (frame_of g job plan.bases)
