@@ -20,6 +20,7 @@ pub mod Bringing
 pub mod Counting
 pub mod ReachStanding
 pub mod Accessing
+mod AccessExamples
 pub mod Operands
 pub mod Constants
 pub mod Directly

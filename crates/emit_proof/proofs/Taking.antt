@@ -46,7 +46,8 @@ taken w n acc lt = by (n == 0) refl
         let even : n % 2 ≡ 0 = eqb-true (n % 2) 0 e in
         let two : wrap32 (extended w.sxm (n / 2) * 2 ^ 1) ≡ 2 * (n / 2) = twice w.sxm (n / 2) (omega (arith, lt)) in
         record {
-          runs = record { ready = (tt, tt); reaches = same_acc w _ _ (ap (minus w.acc) two ∙ ap (minus w.acc) (let h : 2 * (n / 2) ≡ n = omega (arith, even) in h)); outputs = refl }; accesses = (tt, tt);
+          runs = record { ready = (tt, tt); reaches = same_acc w _ _ (ap (minus w.acc) two ∙ ap (minus w.acc) (let h : 2 * (n / 2) ≡ n = omega (arith, even) in h)); outputs = refl };
+          accesses = (tt, tt);
           few = omega arith;
         }
     odd false e ge =
@@ -55,7 +56,8 @@ taken w n acc lt = by (n == 0) refl
         let uneven : n % 2 ≡ 1 = omega (arith, some) in
         let sum : minus (minus w.acc (2 * (n / 2))) 1 ≡ minus w.acc n = omega (arith, uneven, lt, acc) in
         record {
-          runs = record { ready = (tt, (tt, tt)); reaches = same_acc w _ _ (ap (λ m. minus (minus w.acc m) 1) two ∙ sum); outputs = refl }; accesses = (tt, (tt, tt));
+          runs = record { ready = (tt, (tt, tt)); reaches = same_acc w _ _ (ap (λ m. minus (minus w.acc m) 1) two ∙ sum); outputs = refl };
+          accesses = (tt, (tt, tt));
           few = omega arith;
         }
 
@@ -84,7 +86,8 @@ put_back w n acc lt = byte (nat_lt n 256) refl
         let even : n % 2 ≡ 0 = eqb-true (n % 2) 0 e in
         let two : wrap32 (extended w.sxm (n / 2) * 2 ^ 1) ≡ 2 * (n / 2) = twice w.sxm (n / 2) (omega (arith, lt)) in
         record {
-          runs = record { ready = (tt, tt); reaches = same_acc w _ _ (ap (plus w.acc) two ∙ ap (plus w.acc) (let h : 2 * (n / 2) ≡ n = omega (arith, even) in h)); outputs = refl }; accesses = (tt, tt);
+          runs = record { ready = (tt, tt); reaches = same_acc w _ _ (ap (plus w.acc) two ∙ ap (plus w.acc) (let h : 2 * (n / 2) ≡ n = omega (arith, even) in h)); outputs = refl };
+          accesses = (tt, tt);
           few = omega arith;
         }
     odd false e =
@@ -93,7 +96,8 @@ put_back w n acc lt = byte (nat_lt n 256) refl
         let uneven : n % 2 ≡ 1 = omega (arith, some) in
         let sum : plus (plus w.acc (2 * (n / 2))) 1 ≡ plus w.acc n = omega (arith, uneven, lt, acc) in
         record {
-          runs = record { ready = (tt, (tt, tt)); reaches = same_acc w _ _ (ap (λ m. plus (plus w.acc m) 1) two ∙ sum); outputs = refl }; accesses = (tt, (tt, tt));
+          runs = record { ready = (tt, (tt, tt)); reaches = same_acc w _ _ (ap (λ m. plus (plus w.acc m) 1) two ∙ sum); outputs = refl };
+          accesses = (tt, (tt, tt));
           few = omega arith;
         }
 

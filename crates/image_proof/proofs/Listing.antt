@@ -24,12 +24,13 @@ use Rattle.c25_isa.proofs.KnownSteps.{OnState, row}
 use Rattle.c25_isa.proofs.StretchWays.{on_repeated, on_trap, on_more}
 use Rattle.c25_isa.proofs.StretchCode.{range_is_entered, walk_tells}
 use Rattle.c25_isa.proofs.FrameWays.{frame_tells}
+use Rattle.c25_code.specs.Accesses.{next_state, state_behind}
 use Rattle.image_proof.specs.Directs.{HasDirect, own_words, place_words, given_words}
 use Rattle.image_proof.specs.Emissions.{Emission}
 use Rattle.image_proof.specs.FrameWords.{place_of}
 use Rattle.image_proof.specs.FunctionWalks.{HasWalk}
 use Rattle.image_proof.specs.Keeping.{all_pieces}
-use Rattle.image_proof.specs.Listing.{next_state, state_behind, ListsFrame}
+use Rattle.image_proof.specs.Listing.{ListsFrame}
 use Rattle.image_proof.proofs.ExecWords.{words_fit}
 
 -- a step leaves the program memory as it is

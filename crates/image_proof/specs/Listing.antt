@@ -1,5 +1,5 @@
 -- The data accesses of runs of an image along the range of a function: those that a walk of the range lists, and no other to a word of its frame.
-use Rattle.std.specs.Prelude.{◌≡◌, ℕ, zero, suc, true, List, [], map, slice_get, Option, Some, None, option_and_then}
+use Rattle.std.specs.Prelude.{◌≡◌, ℕ, true, List, [], map, slice_get, Some}
 use Rattle.std.specs.List.{IsAmong}
 use Rattle.word_base.specs.Ports.{Input}
 use Rattle.tree_code.specs.WordTree.{FunctionCode}
@@ -9,26 +9,14 @@ use Rattle.mem_plan.specs.declared.data_plan.FramePlan.{FramePlan}
 use Rattle.c25_isa.specs.declared.image.FunctionRange.{FunctionRange}
 use Rattle.c25_isa.specs.Image.{Contents}
 use Rattle.c25_isa.specs.State.{State, Start, BeginsWith}
-use Rattle.c25_isa.specs.Step.{Event, Ran, Put, Over, Trapped, step}
 use Rattle.c25_isa.specs.MachineRun.{reset}
 use Rattle.c25_isa.specs.StretchRuns.{accesses_of, begins, listed_in, way, AreListedOrBeside, IsEntry, Tells}
 use Rattle.c25_isa.specs.Walk.{Blocks, Code, Placed, code_of, stretches, walk}
+use Rattle.c25_code.specs.Accesses.{state_behind}
 use Rattle.image_proof.specs.Directs.{own_words}
 use Rattle.image_proof.specs.Emissions.{Emission}
 use Rattle.image_proof.specs.FrameWords.{place_of}
 use Rattle.image_proof.specs.FunctionWalks.{IsFunctionOf}
-
--- the state that an event goes on to
-abbrev pub next_state : Event → Option State
-next_state (Ran t) = Some t
-next_state (Put word t) = Some t
-next_state (Over ending) = None
-next_state (Trapped kind at) = None
-
--- the state behind so many steps, if the machine goes on so far
-abbrev pub state_behind : ℕ → State → Option State
-state_behind zero s = Some s
-state_behind (suc steps) s = option_and_then (state_behind steps) (next_state (step s))
 
 -- a run of an image, from a reset of any board on any input, is at the first word of a stretch of code in this state
 pub record ComesToStretch (image : Contents) (code : Code) (stretch : List Placed) (s : State) : Type 0 where
