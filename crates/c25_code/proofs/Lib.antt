@@ -1,6 +1,7 @@
 pub mod Rows
 pub mod Straight
 pub mod Accesses
+mod AccessExamples
 pub mod Pieces
 pub mod Jumps
 pub mod Writes
