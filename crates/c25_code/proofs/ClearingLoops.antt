@@ -192,6 +192,3 @@ module _ (may : DataAccess → Bool) (mark n : ℕ) (w : Work) (count : w.acc �
 -- wherever it accesses
 pub clears_at_one-runs : (mark n : ℕ) (w : Work) → w.acc ≡ n → 1 ≤ n → w.arp ≡ 1 → 0x300 ≤ w.ar 1 → w.ar 1 + n ≤ 65536 → ItemsRun (clears_at_one mark) (3 * n) w (behind_clearing n w) []
 clears_at_one-runs mark n w count some arp low high = runs_of (λ a. true) (clears_at_one-within (λ a. true) mark n w count some low high (λ a from to. refl) arp)
-
-pub clears_at_any-runs : (mark n : ℕ) (w : Work) → w.acc ≡ n → 1 ≤ n → 0x300 ≤ w.ar 1 → w.ar 1 + n ≤ 65536 → ItemsRun (clears_at_any mark) (4 * n) w (behind_clearing n w) []
-clears_at_any-runs mark n w count some low high = runs_of (λ a. true) (clears_at_any-within (λ a. true) mark n w count some low high (λ a from to. refl))
