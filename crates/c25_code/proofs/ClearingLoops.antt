@@ -1,5 +1,5 @@
 -- Loops that clear words lead behind themselves, in a step more a word than a turn has instructions.
-use Rattle.std.proofs.Common.{◌≡◌, ◌≢◌, ◌⊎◌, inl, inr, ℕ, zero, suc, ◌+◌, ◌*◌, ◌/◌, ◌^◌, ◌<◌, ◌≤◌, true, false, not, List, [], ◌∷◌, ◌++◌, length, Some, refl, sym, ap, ◌∙◌, subst, cond, arith, ⊎_elim}
+use Rattle.std.proofs.Common.{◌≡◌, ◌≢◌, ◌⊎◌, inl, inr, ℕ, zero, suc, ◌+◌, ◌*◌, ◌/◌, ◌^◌, ◌<◌, ◌≤◌, Bool, true, false, not, List, [], ◌∷◌, ◌++◌, length, Some, refl, sym, ap, ◌∙◌, subst, cond, arith, ⊎_elim}
 use Rattle.std.specs.Prelude.{nat_lt, nat_le, ◌==◌, ◌||◌}
 use Rattle.std.proofs.lemmas.Bool.{and_from, and_left, and_right, ne_eqb, lt-leb, le-leb, lt-ltb, le-ltb, cases_lt}
 use mathlib.Core.Path.{fun_ext}
@@ -14,18 +14,20 @@ use Rattle.c25_isa.specs.declared.piece.PieceItem.TheVariants.{Jump}
 use Rattle.c25_isa.specs.State.{Memory, write}
 use Rattle.c25_isa.specs.Step.{wrap16, wrap32, minus}
 use Rattle.c25_isa.specs.CodeAt.{StandsAt, CodeAt}
-use Rattle.c25_isa.specs.Leads.{Leads}
+use Rattle.c25_isa.specs.StretchRuns.{DataAccess}
 use Rattle.c25_isa.specs.Pieces.{items_size, ItemsAt}
-use Rattle.c25_isa.proofs.Leads.{leads_on}
 use Rattle.c25_code.specs.Work.{Work, calm}
-use Rattle.c25_code.specs.Straight.{is_taken, code_size}
+use Rattle.c25_code.specs.Straight.{behind_instr, is_taken, code_size}
+use Rattle.c25_code.specs.Accesses.{Accesses, LeadsWithin, CodeMay}
 use Rattle.c25_code.specs.CodeRuns.{CodeRuns}
 use Rattle.c25_code.specs.Items.{no_change, plain_items}
-use Rattle.c25_code.specs.ItemRuns.{ItemsRun}
+use Rattle.c25_code.specs.ItemRuns.{ItemsRun, ItemsRunWithin}
 use Rattle.c25_code.specs.ClearingLoops.{zeroed, behind_clearing, turn_at_one, turn_at_any, loop_items, clears_at_one, clears_at_any}
 use Rattle.c25_code.proofs.Writes.{write_same, write_other, write_twice, write_back}
-use Rattle.c25_code.proofs.CodeRuns.{runs_on, runs_lead}
-use Rattle.c25_code.proofs.Items.{items_size-append, plain_items-size, items_front, items_back, code_of_items, jump_taken, jump_passed}
+use Rattle.c25_code.proofs.Accesses.{within_on, runs_within}
+use Rattle.c25_code.proofs.AccessRuns.{jump_taken_within, jump_passed_within, runs_of}
+use Rattle.c25_code.proofs.CodeRuns.{runs_on}
+use Rattle.c25_code.proofs.Items.{items_size-append, plain_items-size, items_front, items_back, code_of_items}
 
 -- words among those that are cleared, and the others
 pub zeroed_in : (start n : ℕ) (ram : Memory) (a : ℕ) → start ≤ a → a < start + n → zeroed start n ram a ≡ 0
@@ -86,40 +88,48 @@ next_turn n w count few high =
     ∙ ap (λ s. zeroed s (suc n) (write w.ram (w.ar 1) 0)) next
     ∙ more_zeroed (w.ar 1) (suc n) w.ram)
 
+-- so many words from an address on may be stored to through AR1
+abbrev pub cleared_at : ℕ → DataAccess
+cleared_at a = record { address = a; through = Some 1; stores = true }
+
+abbrev pub WordsMay : (DataAccess → Bool) → ℕ → ℕ → Type 0
+WordsMay may start n = (a : ℕ) → start ≤ a → a < start + n → may (cleared_at a) ≡ true
+
 -- each turn is one, where work is fit for it, as it is at ARP 1, and its jump is taken while words are left
 record Turns (turn : List Instr) (op : JumpOp) (Fit : Work → Type 0) : Type 0 where
   pub runs : (w : Work) → Fit w → 0x300 ≤ w.ar 1 → CodeRuns turn w (turned w) []
   pub again : (w : Work) → w.arp ≡ 1 → Fit w
   pub stops : is_taken op 0 ≡ false
   pub goes_on : (n : ℕ) → suc n < 65536 → is_taken op (suc n) ≡ true
+  pub stores : (may : DataAccess → Bool) (w : Work) → Fit w → may (cleared_at (w.ar 1)) ≡ true → CodeMay may turn w
 
-module _ (turn : List Instr) (op : JumpOp) (Fit : Work → Type 0) (t : Turns turn op Fit) where
+module _ (may : DataAccess → Bool) (turn : List Instr) (op : JumpOp) (Fit : Work → Type 0) (t : Turns turn op Fit) where
   module _ (program : Memory) (at : ℕ) (room : at + code_size turn + 2 < 65536) (stands : CodeAt program at turn) (jumps : StandsAt program (at + code_size turn) (Branch op at no_change)) where
     abbrev each : ℕ
     each = length turn + 1
 
-    turn_leads : (w : Work) → Fit w → 0x300 ≤ w.ar 1 → Leads (length turn) (calm program at w) (calm program (at + code_size turn) (turned w)) []
-    turn_leads w fit low = runs_lead program turn at w (turned w) [] stands (t.runs w fit low) (omega arith)
+    turn_leads : (w : Work) → Fit w → 0x300 ≤ w.ar 1 → may (cleared_at (w.ar 1)) ≡ true → LeadsWithin (Accesses may) (length turn) (calm program at w) (calm program (at + code_size turn) (turned w)) []
+    turn_leads w fit low allowed = runs_within may program turn at w (turned w) [] stands (t.runs w fit low) (t.stores may w fit allowed) (omega arith)
 
-    loop_leads : (n : ℕ) (w : Work) → w.acc ≡ suc n → Fit w → 0x300 ≤ w.ar 1 → w.ar 1 + suc n ≤ 65536 → Leads (each * suc n) (calm program at w) (calm program (at + code_size turn + 2) (behind_clearing (suc n) w)) []
-    loop_leads zero w count fit low high =
+    loop_leads : (n : ℕ) (w : Work) → w.acc ≡ suc n → Fit w → 0x300 ≤ w.ar 1 → w.ar 1 + suc n ≤ 65536 → WordsMay may (w.ar 1) (suc n) → LeadsWithin (Accesses may) (each * suc n) (calm program at w) (calm program (at + code_size turn + 2) (behind_clearing (suc n) w)) []
+    loop_leads zero w count fit low high allowed =
         let none : minus w.acc 1 ≡ 0 = omega arith in
-        subst (λ m. Leads m (calm program at w) (calm program (at + code_size turn + 2) (behind_clearing 1 w)) []) (let e : each ≡ each * 1 = omega arith in e) (
-        subst (λ u. Leads each (calm program at w) (calm program (at + code_size turn + 2) u) []) (last_turn w count) (
-        leads_on (length turn) 1 _ _ _ [] [] (turn_leads w fit low) (jump_passed program (at + code_size turn) op at (turned w) jumps room (ap (is_taken op) none ∙ t.stops))))
-    loop_leads (suc n) w count fit low high =
+        subst (λ m. LeadsWithin (Accesses may) m (calm program at w) (calm program (at + code_size turn + 2) (behind_clearing 1 w)) []) (let e : each ≡ each * 1 = omega arith in e) (
+        subst (λ u. LeadsWithin (Accesses may) each (calm program at w) (calm program (at + code_size turn + 2) u) []) (last_turn w count) (
+        within_on (Accesses may) (length turn) 1 _ _ _ [] [] (turn_leads w fit low (allowed (w.ar 1) (omega arith) (omega arith))) (jump_passed_within may program (at + code_size turn) op at (turned w) jumps room (ap (is_taken op) none ∙ t.stops))))
+    loop_leads (suc n) w count fit low high allowed =
         let left : minus w.acc 1 ≡ suc n = omega arith in
         let next : (turned w).ar 1 ≡ w.ar 1 + 1 = let e : wrap16 (w.ar 1 + 1) ≡ w.ar 1 + 1 = omega arith in e in
-        let first = leads_on (length turn) 1 _ _ _ [] [] (turn_leads w fit low) (jump_taken program (at + code_size turn) op at (turned w) jumps (ap (is_taken op) left ∙ t.goes_on n (omega arith))) in
-        let rest = loop_leads n (turned w) left (t.again (turned w) refl) (omega (arith, next)) (omega (arith, next)) in
-        subst (λ m. Leads m (calm program at w) (calm program (at + code_size turn + 2) (behind_clearing (suc (suc n)) w)) []) (let e : each + each * suc n ≡ each * suc (suc n) = omega arith in e) (
-        subst (λ u. Leads (each + each * suc n) (calm program at w) (calm program (at + code_size turn + 2) u) []) (next_turn n w count (omega arith) high) (
-        leads_on each (each * suc n) _ _ _ [] [] first rest))
+        let first = within_on (Accesses may) (length turn) 1 _ _ _ [] [] (turn_leads w fit low (allowed (w.ar 1) (omega arith) (omega arith))) (jump_taken_within may program (at + code_size turn) op at (turned w) jumps (ap (is_taken op) left ∙ t.goes_on n (omega arith))) in
+        let rest = loop_leads n (turned w) left (t.again (turned w) refl) (omega (arith, next)) (omega (arith, next)) (λ a from to. allowed a (omega (arith, next, from)) (omega (arith, next, to))) in
+        subst (λ m. LeadsWithin (Accesses may) m (calm program at w) (calm program (at + code_size turn + 2) (behind_clearing (suc (suc n)) w)) []) (let e : each + each * suc n ≡ each * suc (suc n) = omega arith in e) (
+        subst (λ u. LeadsWithin (Accesses may) (each + each * suc n) (calm program at w) (calm program (at + code_size turn + 2) u) []) (next_turn n w count (omega arith) high) (
+        within_on (Accesses may) each (each * suc n) _ _ _ [] [] first rest))
 
   -- where its items stand
-  loop_runs : (mark n : ℕ) (w : Work) → w.acc ≡ n → 1 ≤ n → Fit w → 0x300 ≤ w.ar 1 → w.ar 1 + n ≤ 65536 → ItemsRun (loop_items turn op mark) ((length turn + 1) * n) w (behind_clearing n w) []
-  loop_runs mark zero w count some fit low high = absurd (omega arith)
-  loop_runs mark (suc n) w count some fit low high = record { by = by }
+  loop_runs : (mark n : ℕ) (w : Work) → w.acc ≡ n → 1 ≤ n → Fit w → 0x300 ≤ w.ar 1 → w.ar 1 + n ≤ 65536 → WordsMay may (w.ar 1) n → ItemsRunWithin may (loop_items turn op mark) ((length turn + 1) * n) w (behind_clearing n w) []
+  loop_runs mark zero w count some fit low high allowed = absurd (omega arith)
+  loop_runs mark (suc n) w count some fit low high allowed = record { by = by }
     where
       end : List PieceItem
       end = Jump op mark no_change ∷ []
@@ -127,17 +137,20 @@ module _ (turn : List Instr) (op : JumpOp) (Fit : Work → Type 0) (t : Turns tu
       size_is : items_size (plain_items turn ++ end) ≡ code_size turn + 2
       size_is = omega (arith, items_size-append (plain_items turn) end, plain_items-size turn)
 
-      by : (program : Memory) (marks : ℕ → ℕ) (names : List ℕ → ℕ) (pc : ℕ) → ItemsAt program marks names pc (loop_items turn op mark) → pc + items_size (loop_items turn op mark) < 65536 → Leads ((length turn + 1) * suc n) (calm program pc w) (calm program (pc + items_size (loop_items turn op mark)) (behind_clearing (suc n) w)) []
+      by : (program : Memory) (marks : ℕ → ℕ) (names : List ℕ → ℕ) (pc : ℕ) → ItemsAt program marks names pc (loop_items turn op mark) → pc + items_size (loop_items turn op mark) < 65536 → LeadsWithin (Accesses may) ((length turn + 1) * suc n) (calm program pc w) (calm program (pc + items_size (loop_items turn op mark)) (behind_clearing (suc n) w)) []
       by program marks names pc at below =
           let front = code_of_items program marks names turn pc (items_front program marks names (plain_items turn) end pc at.1) in
           let back = items_back program marks names (plain_items turn) end pc at.1 in
           let jumps = subst (λ k. StandsAt program (pc + code_size turn) (Branch op k no_change)) at.0 (subst (λ k. StandsAt program (pc + k) (Branch op (marks mark) no_change)) (plain_items-size turn) back.0) in
-          subst (λ k. Leads ((length turn + 1) * suc n) (calm program pc w) (calm program k (behind_clearing (suc n) w)) []) (let e : pc + code_size turn + 2 ≡ pc + items_size (loop_items turn op mark) = omega (arith, size_is) in e) (
-          loop_leads program pc (omega (arith, below, size_is)) front jumps n w count fit low high)
+          subst (λ k. LeadsWithin (Accesses may) ((length turn + 1) * suc n) (calm program pc w) (calm program k (behind_clearing (suc n) w)) []) (let e : pc + code_size turn + 2 ≡ pc + items_size (loop_items turn op mark) = omega (arith, size_is) in e) (
+          loop_leads program pc (omega (arith, below, size_is)) front jumps n w count fit low high allowed)
 
 -- at ARP 1
 one_runs : (w : Work) → 0x300 ≤ w.ar 1 → CodeRuns turn_at_one (record w { arp = 1 }) (turned w) []
 one_runs w low = record { ready = (low, (tt, tt)); reaches = refl; outputs = refl }
+
+one_stores : (may : DataAccess → Bool) (w : Work) → w.arp ≡ 1 → may (cleared_at (w.ar 1)) ≡ true → CodeMay may turn_at_one w
+one_stores may w fit allowed = (ap (λ r. may (record { address = w.ar r; through = Some r; stores = true })) fit ∙ allowed, (tt, tt))
 
 turns_at_one : Turns turn_at_one Bnz (λ w. w.arp ≡ 1)
 turns_at_one = record {
@@ -145,6 +158,7 @@ turns_at_one = record {
   again = λ w e. e;
   stops = refl;
   goes_on = λ n lt. let some : suc n ≢ 0 = omega arith in ap not (ne_eqb (suc n) 0 some);
+  stores = one_stores;
 }
 
 -- at any ARP
@@ -163,10 +177,18 @@ turns_at_any = record {
   again = λ w e. tt;
   stops = refl;
   goes_on = more_than_none;
+  stores = λ may w fit allowed.
+      let i : Indirect = record { change = Stay; next = Some 1 } in
+      (tt, one_stores may (behind_instr (Mar i) w) refl (ap (λ (m : Memory). may (cleared_at (m 1))) (write_back w.ar w.arp (w.ar w.arp) refl) ∙ allowed));
 }
 
-pub clears_at_one-runs : (mark n : ℕ) (w : Work) → w.acc ≡ n → 1 ≤ n → w.arp ≡ 1 → 0x300 ≤ w.ar 1 → w.ar 1 + n ≤ 65536 → ItemsRun (clears_at_one mark) (3 * n) w (behind_clearing n w) []
-clears_at_one-runs mark n w count some arp low high = loop_runs turn_at_one Bnz (λ w. w.arp ≡ 1) turns_at_one mark n w count some arp low high
+module _ (may : DataAccess → Bool) (mark n : ℕ) (w : Work) (count : w.acc ≡ n) (some : 1 ≤ n) (low : 0x300 ≤ w.ar 1) (high : w.ar 1 + n ≤ 65536) (allowed : WordsMay may (w.ar 1) n) where
+  pub clears_at_one-within : w.arp ≡ 1 → ItemsRunWithin may (clears_at_one mark) (3 * n) w (behind_clearing n w) []
+  clears_at_one-within arp = loop_runs may turn_at_one Bnz (λ w. w.arp ≡ 1) turns_at_one mark n w count some arp low high allowed
 
-pub clears_at_any-runs : (mark n : ℕ) (w : Work) → w.acc ≡ n → 1 ≤ n → 0x300 ≤ w.ar 1 → w.ar 1 + n ≤ 65536 → ItemsRun (clears_at_any mark) (4 * n) w (behind_clearing n w) []
-clears_at_any-runs mark n w count some low high = loop_runs turn_at_any Bgz (λ w. Unit {0}) turns_at_any mark n w count some tt low high
+  pub clears_at_any-within : ItemsRunWithin may (clears_at_any mark) (4 * n) w (behind_clearing n w) []
+  clears_at_any-within = loop_runs may turn_at_any Bgz (λ w. Unit {0}) turns_at_any mark n w count some tt low high allowed
+
+-- wherever it accesses
+pub clears_at_one-runs : (mark n : ℕ) (w : Work) → w.acc ≡ n → 1 ≤ n → w.arp ≡ 1 → 0x300 ≤ w.ar 1 → w.ar 1 + n ≤ 65536 → ItemsRun (clears_at_one mark) (3 * n) w (behind_clearing n w) []
+clears_at_one-runs mark n w count some arp low high = runs_of (λ a. true) (clears_at_one-within (λ a. true) mark n w count some low high (λ a from to. refl) arp)

@@ -1,5 +1,5 @@
 -- Sixteen steps of a division: RPTK 15 and SUBC give the quotient and the remainder.
-use Rattle.std.proofs.Common.{◌≡◌, ℕ, zero, suc, false, cond, ◌+◌, ◌-◌, ◌*◌, ◌/◌, ◌%◌, ◌^◌, ◌<◌, ◌≤◌, [], ◌∷◌, refl, sym, ap, ◌∙◌, subst, arith, leb-true, leb-false, ⊎_elim}
+use Rattle.std.proofs.Common.{◌≡◌, ℕ, zero, suc, Bool, true, false, cond, ◌+◌, ◌-◌, ◌*◌, ◌/◌, ◌%◌, ◌^◌, ◌<◌, ◌≤◌, [], ◌∷◌, None, refl, sym, ap, ◌∙◌, subst, arith, leb-true, leb-false, ⊎_elim}
 use Rattle.std.specs.Prelude.{nat_le}
 use Rattle.std.proofs.lemmas.Bool.{cond_both, cases_lt}
 use Rattle.std.proofs.Math.Nat.{mod-eq-sub-div-mul, mul_assoc, pow-suc}
@@ -9,10 +9,12 @@ use Rattle.c25_isa.specs.declared.instruction.Instr.TheVariants.{Subc, Rptk}
 use Rattle.c25_isa.specs.State.{Memory}
 use Rattle.c25_isa.specs.Step.{wrap32, divided}
 use Rattle.c25_isa.specs.CodeAt.{CodeAt}
-use Rattle.c25_isa.specs.Leads.{Leads}
+use Rattle.c25_isa.specs.StretchRuns.{DataAccess}
 use Rattle.c25_code.specs.Work.{Work, calm}
-use Rattle.c25_code.specs.Straight.{behind_repeats, RepeatsReady}
-use Rattle.c25_code.proofs.Repeats.{repeat_leads, may_repeat}
+use Rattle.c25_code.specs.Straight.{behind_instr, behind_repeats, RepeatsReady}
+use Rattle.c25_code.specs.Accesses.{Accesses, LeadsWithin, RepeatsMay}
+use Rattle.c25_code.proofs.AccessRuns.{repeat_within}
+use Rattle.c25_code.proofs.Repeats.{may_repeat}
 
 -- behind some steps, where p is the power of two of their count: ACC is q + p s, where q is the quotient so far, and s has the remainder so far and
 -- behind it the bits of the dividend a that are left
@@ -137,24 +139,29 @@ done (suc n) p a m offset w power ram at lt d =
     let more = done n (2 * p) a m offset (record w { acc = divided w.acc (w.ram (w.dp * 128 + offset)) }) more_left ram at lt one in
     record { ready = ((ram, omega (arith, at, lt), bound p a m w.acc (power_most p h left) lt d), more.ready); divides = more.divides; keeps = more.keeps }
 
--- RPTK 15 and SUBC of a word below 8000h: the quotient in the low half of ACC, the remainder in the high half
-pub division_leads : (program : Memory) (pc offset : ℕ) (w : Work) → CodeAt program pc (Rptk 15 ∷ Subc (Direct offset) ∷ []) → 0x300 ≤ w.dp * 128 + offset → 1 ≤ w.ram (w.dp * 128 + offset) → w.ram (w.dp * 128 + offset) < 32768 → w.acc < 65536 → pc + 2 < 65536 → (acc : ℕ) × Leads 17 (calm program pc w) (calm program (pc + 2) (record w { acc = acc })) [] × (acc % 65536 ≡ w.acc / w.ram (w.dp * 128 + offset)) × (acc / 65536 ≡ w.acc % w.ram (w.dp * 128 + offset))
-division_leads program pc offset w at ram positive lt fits behind = by 15 refl
+-- each step is at the divisor's word
+at_divisor : (may : DataAccess → Bool) (n offset : ℕ) (w : Work) → may (record { address = w.dp * 128 + offset; through = None; stores = false }) ≡ true → RepeatsMay may n (Subc (Direct offset)) w
+at_divisor may zero offset w allowed = tt
+at_divisor may (suc n) offset w allowed = (allowed, at_divisor may n offset (behind_instr (Subc (Direct offset)) w) allowed)
+
+-- RPTK 15 and SUBC of a word below 8000h: the quotient in the low half of ACC, the remainder in the high half. No other word is accessed
+pub division_within : (may : DataAccess → Bool) (program : Memory) (pc offset : ℕ) (w : Work) → may (record { address = w.dp * 128 + offset; through = None; stores = false }) ≡ true → CodeAt program pc (Rptk 15 ∷ Subc (Direct offset) ∷ []) → 0x300 ≤ w.dp * 128 + offset → 1 ≤ w.ram (w.dp * 128 + offset) → w.ram (w.dp * 128 + offset) < 32768 → w.acc < 65536 → pc + 2 < 65536 → (acc : ℕ) × LeadsWithin (Accesses may) 17 (calm program pc w) (calm program (pc + 2) (record w { acc = acc })) [] × (acc % 65536 ≡ w.acc / w.ram (w.dp * 128 + offset)) × (acc / 65536 ≡ w.acc % w.ram (w.dp * 128 + offset))
+division_within may program pc offset w allowed at ram positive lt fits behind = by 15 refl
   where
     m : ℕ
     m = w.ram (w.dp * 128 + offset)
 
-    by : (n : ℕ) → n ≡ 15 → (acc : ℕ) × Leads 17 (calm program pc w) (calm program (pc + 2) (record w { acc = acc })) [] × (acc % 65536 ≡ w.acc / m) × (acc / 65536 ≡ w.acc % m)
+    by : (n : ℕ) → n ≡ 15 → (acc : ℕ) × LeadsWithin (Accesses may) 17 (calm program pc w) (calm program (pc + 2) (record w { acc = acc })) [] × (acc % 65536 ≡ w.acc / m) × (acc / 65536 ≡ w.acc % m)
     by n e =
         let bits : 1 * 2 ^ suc n ≡ 65536 = ap (λ k. 1 * 2 ^ suc k) e in
         let d = done (suc n) 1 w.acc m offset w bits ram refl lt (starts w.acc m fits positive) in
         let at' = subst (λ k. CodeAt program pc (Rptk k ∷ Subc (Direct offset) ∷ [])) (sym e) at in
-        let lead = repeat_leads program pc n (Subc (Direct offset)) w at' (may_repeat (Subc (Direct offset)) refl) d.ready behind in
+        let lead = repeat_within may program pc n (Subc (Direct offset)) w at' (may_repeat (Subc (Direct offset)) refl) d.ready (at_divisor may (suc n) offset w allowed) behind in
         let q = quotient_is w.acc m (behind_repeats (suc n) (Subc (Direct offset)) w).acc positive d.divides in
         let steps : n + 2 ≡ 17 = omega arith in (
           (behind_repeats (suc n) (Subc (Direct offset)) w).acc,
-          subst (λ k. Leads k (calm program pc w) (calm program (pc + 2) (record w { acc = (behind_repeats (suc n) (Subc (Direct offset)) w).acc })) []) steps (
-              subst (λ u. Leads (n + 2) (calm program pc w) (calm program (pc + 2) u) []) d.keeps lead),
+          subst (λ k. LeadsWithin (Accesses may) k (calm program pc w) (calm program (pc + 2) (record w { acc = (behind_repeats (suc n) (Subc (Direct offset)) w).acc })) []) steps (
+              subst (λ u. LeadsWithin (Accesses may) (n + 2) (calm program pc w) (calm program (pc + 2) u) []) d.keeps lead),
           q.0,
           q.1,
         )

@@ -1,5 +1,7 @@
 pub mod Rows
 pub mod Straight
+pub mod Accesses
+mod AccessExamples
 pub mod Pieces
 pub mod Jumps
 pub mod Writes
@@ -11,6 +13,7 @@ pub mod Ranges
 pub mod Repeats
 pub mod Division
 pub mod Items
+pub mod AccessRuns
 pub mod ItemRuns
 pub mod Returns
 pub mod Links

@@ -1,5 +1,5 @@
--- A repeat of the next word leads from a calm state to a calm state, in one step more than the word runs.
-use Rattle.std.proofs.Common.{◌≡◌, ℕ, zero, suc, true, ◌+◌, ◌-◌, ◌*◌, ◌<◌, [], ◌∷◌, Some, None, refl, ap, ◌∙◌, subst, cond, arith}
+-- Words that may be repeated: what a step of one does while a repeat is pending.
+use Rattle.std.proofs.Common.{◌≡◌, ℕ, zero, suc, true, ◌+◌, ◌-◌, ◌*◌, ◌<◌, Some, None, refl, ap, ◌∙◌, cond, arith}
 use Rattle.std.specs.Prelude.{nat_lt}
 use Rattle.std.proofs.lemmas.Bool.{le-ltb, lt-ltb}
 use Rattle.c25_isa.specs.declared.operand.Operand.{Operand}
@@ -10,12 +10,11 @@ use Rattle.c25_isa.specs.declared.trap.TrapKind.TheVariants.{Divide, NoRam}
 use Rattle.c25_isa.specs.State.{State, Memory}
 use Rattle.c25_isa.specs.Table.{second_word, length_of}
 use Rattle.c25_isa.specs.Step.{Ran, address, can_repeat, wrap16, effect, step, trap_of, trap_where, unless_trapped, repeated, ran_once}
-use Rattle.c25_isa.specs.CodeAt.{StandsAt, CodeAt}
+use Rattle.c25_isa.specs.CodeAt.{StandsAt}
 use Rattle.c25_isa.proofs.CodeAt.{step_at}
-use Rattle.c25_isa.specs.Leads.{Leads}
-use Rattle.c25_isa.proofs.Leads.{leads_on, ran_leads, runs, onward_pc}
+use Rattle.c25_isa.proofs.Leads.{onward_pc}
 use Rattle.c25_code.specs.Work.{Work, calm}
-use Rattle.c25_code.specs.Straight.{InRam, behind_instr, operand_word, InstrReady, behind_repeats, RepeatsReady}
+use Rattle.c25_code.specs.Straight.{InRam, behind_instr, operand_word, InstrReady}
 use Rattle.c25_code.proofs.Rows.{both_below}
 
 -- the word at PC still runs so often
@@ -106,39 +105,17 @@ may_repeat (Branch op to i) e = absurd cc
 may_repeat (Call to i) e = absurd cc
 
 -- whether it was the last time
-ran_again : (m pc n : ℕ) (program : Memory) (w : Work) → ran_once (suc (suc m)) pc (pending (suc (suc m)) program n w) ≡ pending (suc m) program pc w
+pub ran_again : (m pc n : ℕ) (program : Memory) (w : Work) → ran_once (suc (suc m)) pc (pending (suc (suc m)) program n w) ≡ pending (suc m) program pc w
 ran_again m pc n program w =
     let more : 1 < suc (suc m) = omega arith in
     let fewer : suc (suc m) - 1 ≡ suc m = omega arith in
     ap (λ b. cond b (pending (suc (suc m) - 1) program pc w) (calm program n w)) (lt-ltb 1 (suc (suc m)) more) ∙ ap (λ k. pending k program pc w) fewer
 
 module _ (program : Memory) (pc : ℕ) (i : Instr) (at : StandsAt program pc i) (may : MayRepeat i) (behind : pc + 1 < 65536) where
-  once : (times : ℕ) (w : Work) → InstrReady i w → step (pending times program pc w) ≡ Ran (ran_once times pc (pending times program (pc + 1) (behind_instr i w)))
+  pub once : (times : ℕ) (w : Work) → InstrReady i w → step (pending times program pc w) ≡ Ran (ran_once times pc (pending times program (pc + 1) (behind_instr i w)))
   once times w ready =
       step_at (pending times program pc w) i at
       ∙ ap (λ t. unless_trapped t (pending times program pc w) (repeated (Some times) pc (effect (pending times program pc w) (length_of (second_word i)) i))) (may.no_trap times program pc w ready)
       ∙ ap (λ o. repeated (Some times) pc (effect (pending times program pc w) (length_of o) i)) may.one
       ∙ ap (repeated (Some times) pc) (may.row times program pc w ready)
       ∙ ap (λ n. Ran (ran_once times pc (pending times program n (behind_instr i w)))) (onward_pc pc 1 behind)
-
-  pub times_lead : (n : ℕ) (w : Work) → RepeatsReady (suc n) i w → Leads (n + 1) (pending (suc n) program pc w) (calm program (pc + 1) (behind_repeats (suc n) i w)) []
-  times_lead zero w ready = ran_leads _ _ (once 1 w ready.0)
-  times_lead (suc m) w ready =
-      let first : Leads 1 (pending (suc (suc m)) program pc w) (pending (suc m) program pc (behind_instr i w)) [] =
-      ran_leads _ _ (once (suc (suc m)) w ready.0 ∙ ap Ran (ran_again m pc (pc + 1) program (behind_instr i w))) in
-      let rest = times_lead m (behind_instr i w) ready.1 in
-      let e : 1 + (m + 1) ≡ suc m + 1 = omega arith in
-      subst (λ n. Leads n (pending (suc (suc m)) program pc w) (calm program (pc + 1) (behind_repeats (suc (suc m)) i w)) []) e (leads_on 1 (m + 1) _ _ _ _ _ first rest)
-
--- RPTK and the word behind it
-pub repeat_leads : (program : Memory) (pc n : ℕ) (i : Instr) (w : Work) → CodeAt program pc (Rptk n ∷ i ∷ []) → MayRepeat i → RepeatsReady (suc n) i w → pc + 2 < 65536 → Leads (n + 2) (calm program pc w) (calm program (pc + 2) (behind_repeats (suc n) i w)) []
-repeat_leads program pc n i w at may ready behind =
-    let k : n + 1 ≡ suc n = omega arith in
-    let first : Leads 1 (calm program pc w) (pending (suc n) program (pc + 1) w) [] =
-    ran_leads _ _ (runs (calm program pc w) (Rptk n) refl at.0 refl ∙ ap (λ m. Ran (pending (n + 1) program m w)) (onward_pc pc 1 (omega arith)) ∙ ap (λ m. Ran (pending m program (pc + 1) w)) k) in
-    let rest = times_lead program (pc + 1) i at.1.0 may (omega arith) n w ready in
-    let e : 1 + (n + 1) ≡ n + 2 = omega arith in
-    let f : pc + 1 + 1 ≡ pc + 2 = omega arith in
-    subst (λ m. Leads m (calm program pc w) (calm program (pc + 2) (behind_repeats (suc n) i w)) []) e (
-    subst (λ a. Leads (1 + (n + 1)) (calm program pc w) (calm program a (behind_repeats (suc n) i w)) []) f (
-    leads_on 1 (n + 1) _ _ _ _ _ first rest))

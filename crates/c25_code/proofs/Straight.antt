@@ -20,7 +20,7 @@ abbrev pub as_outputs : Option (ℕ × ℕ) → Outputs
 as_outputs None = []
 as_outputs (Some word) = word ∷ []
 
-prepended-listed : (put : Option (ℕ × ℕ)) (outs : Outputs) → as_outputs put ++ outs ≡ prepended put outs
+pub prepended-listed : (put : Option (ℕ × ℕ)) (outs : Outputs) → as_outputs put ++ outs ≡ prepended put outs
 prepended-listed None outs = refl
 prepended-listed (Some word) outs = refl
 
@@ -51,7 +51,7 @@ listed_alone (Some word) = refl
 
 module _ (modes : Modes) (program : Memory) where
   -- one instruction, behind which PC may wrap
-  instr_event : (pc : ℕ) (i : Instr) (w : Work) → FitModes modes (minds_modes i) → StandsAt program pc i → InstrReady i w → step (at_modes modes program pc w) ≡ event_of (output_of i w) modes program (wrap16 (pc + length_of (second_word i))) (behind_instr i w)
+  pub instr_event : (pc : ℕ) (i : Instr) (w : Work) → FitModes modes (minds_modes i) → StandsAt program pc i → InstrReady i w → step (at_modes modes program pc w) ≡ event_of (output_of i w) modes program (wrap16 (pc + length_of (second_word i))) (behind_instr i w)
   instr_event pc i w fits at ready =
       runs (at_modes modes program pc w) i refl at (no_trap modes program pc 0 w i fits ready)
       ∙ row modes program pc (length_of (second_word i)) w i fits ready

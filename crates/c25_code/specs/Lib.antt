@@ -1,5 +1,6 @@
 pub mod Work
 pub mod Straight
+pub mod Accesses
 pub mod CodeRuns
 pub mod Items
 pub mod ItemRuns

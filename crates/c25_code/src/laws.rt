@@ -1,12 +1,12 @@
 //! What emitted code does, as laws: each call does nothing, its clauses are what crates above cite.
-ghost use Rattle.std.specs.Prelude.{◌≡◌, false, ℕ, ◌+◌, ◌<◌, ◌≤◌, List, [], ◌∷◌, length, None};
+ghost use Rattle.std.specs.Prelude.{◌≡◌, Bool, true, false, ℕ, suc, ◌+◌, ◌<◌, ◌≤◌, List, [], ◌∷◌, ◌++◌, length, None};
 ghost use Rattle.word_base.specs.declared.outcome.Ending.{Ending};
 ghost use Rattle.word_base.specs.declared.outcome.Ending.TheVariants.{Returned};
 ghost use Rattle.word_base.specs.Ports.{Input, IsInput, Outputs};
 ghost use Rattle.word_base.specs.declared.outcome.Outcome.TheVariants as source;
 ghost use Rattle.word_base.specs.Keeps.{Outcomes, Keeps};
 ghost use Rattle.c25_isa.specs.declared.instruction.Instr.{Instr};
-ghost use Rattle.c25_isa.specs.declared.instruction.Instr.TheVariants.{Rovm, Spm, Idle, Ret, Branch, Call};
+ghost use Rattle.c25_isa.specs.declared.instruction.Instr.TheVariants.{Rovm, Rptk, Spm, Idle, Ret, Branch, Call};
 ghost use Rattle.c25_isa.specs.declared.instruction.JumpOp.{JumpOp};
 ghost use Rattle.c25_isa.specs.declared.operand.Indirect.{Indirect};
 ghost use Rattle.c25_isa.specs.declared.operand.Operand.TheVariants.{Indirect as Through};
@@ -14,13 +14,16 @@ ghost use Rattle.c25_isa.specs.Agrees.{SourceRuns, Steps, any_number, at_most, E
 ghost use Rattle.c25_isa.specs.Image.{Contents};
 ghost use Rattle.c25_isa.specs.Pieces.{Piece, Linked, PiecesFit};
 ghost use Rattle.c25_isa.specs.State.{State, Memory, Start, BeginsWith};
-ghost use Rattle.c25_isa.specs.Step.{Over, wrap16, step};
+ghost use Rattle.c25_isa.specs.Step.{Over, can_repeat, wrap16, step};
 ghost use Rattle.c25_isa.specs.MachineRun.{HasStopped, machine_run};
 ghost use Rattle.c25_isa.specs.Table.{IsInstr};
 ghost use Rattle.c25_isa.specs.CodeAt.{StandsAt, CodeAt};
 ghost use Rattle.c25_isa.specs.Leads.{Leads};
+ghost use Rattle.c25_isa.specs.StretchRuns.{DataAccess};
 ghost use Rattle.c25_code.specs.Work.{Work, Modes, at_modes, calm, modes_of, work_of, InRange};
-ghost use Rattle.c25_code.specs.Straight.{behind_operand, first_of, rest_of, NonEmpty, behind_instr, InstrReady, code_size, code_minds_modes, FitModes, is_taken, branch_target};
+ghost use Rattle.c25_code.specs.Straight.{behind_operand, first_of, rest_of, NonEmpty, behind_instr, InstrReady, code_size, code_minds_modes, FitModes, is_taken, branch_target, behind_repeats, RepeatsReady};
+ghost use Rattle.c25_code.specs.Accesses.{Accesses, LeadsWithin, CodeMay, RepeatsMay};
+ghost use Rattle.c25_code.specs.Items.{no_change};
 ghost use Rattle.c25_code.specs.CodeRuns.{CodeRuns, EndsAtInput, RunsInPart};
 ghost use Rattle.c25_code.specs.Links.{address_of, EachStands, AllStand};
 
@@ -69,6 +72,24 @@ pub fn jumps_lead()
     ensures end { (program : Memory) (pc : ℕ) (w : Work) → StandsAt program pc Idle → step (calm program pc w) ≡ Over (Returned (wrap16 w.acc)) }
     // ROVM and SPM make each state calm where no repeat is pending.
     ensures calms { (s : State) → s.repeats ≡ None → CodeAt s.program s.pc (Rovm ∷ Spm ∷ []) → s.pc + 2 < 65536 → Leads 2 s (calm s.program (s.pc + 1 + 1) (work_of s)) [] }
+{}
+
+/// On the way of straight code, data memory is accessed only as the instructions may, and on that of jumps, calls and returns it isn't.
+pub fn code_leads_within()
+    ensures straight { (may : DataAccess → Bool) (program : Memory) (code : List Instr) (pc : ℕ) (w u : Work) (put : Outputs) → CodeAt program pc code → CodeRuns code w u put → CodeMay may code w → pc + code_size code < 65536
+        → LeadsWithin (Accesses may) (length code) (calm program pc w) (calm program (pc + code_size code) u) put }
+    ensures taken { (may : DataAccess → Bool) (program : Memory) (pc : ℕ) (op : JumpOp) (to : ℕ) (w : Work) → StandsAt program pc (Branch op to no_change) → is_taken op w.acc ≡ true → LeadsWithin (Accesses may) 1 (calm program pc w) (calm program to w) [] }
+    ensures passed { (may : DataAccess → Bool) (program : Memory) (pc : ℕ) (op : JumpOp) (to : ℕ) (w : Work) → StandsAt program pc (Branch op to no_change) → pc + 2 < 65536 → is_taken op w.acc ≡ false
+        → LeadsWithin (Accesses may) 1 (calm program pc w) (calm program (pc + 2) w) [] }
+    ensures call { (may : DataAccess → Bool) (program : Memory) (pc to : ℕ) (w : Work) → StandsAt program pc (Call to no_change) → length w.stack < 8 → pc + 2 < 65536
+        → LeadsWithin (Accesses may) 1 (calm program pc w) (calm program to (record w { stack = (pc + 2) ∷ w.stack })) [] }
+    ensures back { (may : DataAccess → Bool) (program : Memory) (pc : ℕ) (w : Work) → StandsAt program pc Ret → NonEmpty w.stack
+        → LeadsWithin (Accesses may) 1 (calm program pc w) (calm program (first_of w.stack) (record w { stack = rest_of w.stack })) [] }
+    // An instruction that is repeated accesses data memory as it would once, so many times.
+    ensures again { (may : DataAccess → Bool) (program : Memory) (pc times : ℕ) (i : Instr) (w : Work) → CodeAt program pc (Rptk times ∷ i ∷ []) → can_repeat i ≡ true → RepeatsReady (suc times) i w → RepeatsMay may (suc times) i w → pc + 2 < 65536
+        → LeadsWithin (Accesses may) (times + 2) (calm program pc w) (calm program (pc + 2) (behind_repeats (suc times) i w)) [] }
+    // One way stands behind another.
+    ensures on { (may : DataAccess → Bool) (n m : ℕ) (s t u : State) (p q : Outputs) → LeadsWithin (Accesses may) n s t p → LeadsWithin (Accesses may) m t u q → LeadsWithin (Accesses may) (n + m) s u (p ++ q) }
 {}
 
 /// Pieces whose instructions stand in program memory each at its address stand there with their marks at their addresses.

@@ -5,7 +5,7 @@ mod laws;
 mod starting;
 
 pub use laws::{
-    agreement_composes, code_leads_at_modes, jumps_lead, linked_pieces_stand, stopped_runs_stay,
-    straight_code_leads,
+    agreement_composes, code_leads_at_modes, code_leads_within, jumps_lead, linked_pieces_stand,
+    stopped_runs_stay, straight_code_leads,
 };
 pub use starting::startups_arrive;

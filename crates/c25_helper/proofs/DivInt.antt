@@ -10,7 +10,7 @@ use Rattle.c25_isa.specs.State.{Memory, write}
 use Rattle.c25_isa.specs.Step.{wrap16, minus}
 use Rattle.c25_helper.specs.declared.routine.Routine.TheVariants.{DivInt}
 use Rattle.c25_helper.specs.Routines.{no_change, divint_items}
-use Rattle.c25_helper.specs.Results.{HelperResult}
+use Rattle.c25_helper.specs.Results.{HelperWithin}
 use Rattle.c25_helper.proofs.Quotients.{size, negated, size_most}
 use Rattle.c25_helper.proofs.Loads.{loaded, loaded_word, loaded_negated, is_negative, is_positive}
 use Rattle.c25_helper.proofs.Signs.{sign_word, SignedQuotient, signed_quotient}
@@ -71,30 +71,30 @@ module _ (v : Visit) (entry : ℕ) (stands : StandThere v entry divint_items) (l
   -- the quotient of the sizes is in 0300h
   plain_back : (m : Memory) → SameOutside m v.caller.ram → m 0x300 < 65536 → m 0x300 ≡ v.value → (acc : ℕ) → Back v plain 3 (busy v acc m)
   plain_back m same lt answers acc =
-      code_back v (Lac 0 (Direct 0) ∷ []) (Do Ret ∷ Mark 3 ∷ turned) 2 (busy v acc m) (omega arith) (search arith) refl
+      code_back v (Lac 0 (Direct 0) ∷ []) (Do Ret ∷ Mark 3 ∷ turned) 2 (busy v acc m) (omega arith) (search arith) (refl, tt) refl
       (return_back v (Mark 3 ∷ turned) 1 true v.caller.t (loaded (m 0x300)) m (loaded_word (m 0x300) lt ∙ answers) same)
 
   turned_back : (m : Memory) → SameOutside m v.caller.ram → m 0x300 < 65536 → negated (m 0x300) ≡ v.value → (acc : ℕ) → FromMark v 3 3 (busy v acc m)
   turned_back m same lt answers acc =
       from_mark v to_turned turned 3 3 entry (busy v acc m) stands
-      (code_back v (Lac 0 (Direct 0) ∷ Neg ∷ []) (Do Ret ∷ Mark 4 ∷ greatest) 1 (busy v acc m) (omega arith) (search arith) refl
+      (code_back v (Lac 0 (Direct 0) ∷ Neg ∷ []) (Do Ret ∷ Mark 4 ∷ greatest) 1 (busy v acc m) (omega arith) (search arith) (refl, (tt, tt)) refl
       (return_back v (Mark 4 ∷ greatest) 0 true v.caller.t (minus 0 (loaded (m 0x300))) m (loaded_negated (m 0x300) lt ∙ answers) same))
 
   -- the divisor is of the greatest size
   one_back : (m : Memory) → SameOutside m v.caller.ram → 1 ≡ v.value → (acc : ℕ) → FromMark v 5 2 (busy v acc m)
   one_back m same answers acc =
       from_mark v to_one one 5 2 entry (busy v acc m) stands
-      (code_back v (Lack 1 ∷ []) (Do Ret ∷ []) 1 (busy v acc m) (omega arith) (search arith) refl (return_back v [] 0 true v.caller.t 1 m answers same))
+      (code_back v (Lack 1 ∷ []) (Do Ret ∷ []) 1 (busy v acc m) (omega arith) (search arith) (tt, tt) refl (return_back v [] 0 true v.caller.t 1 m answers same))
 
   greatest_back : (m : Memory) → SameOutside m v.caller.ram → m 0x300 ≡ size l → 32768 ≤ size r → (acc : ℕ) → FromMark v 4 4 (busy v acc m)
   greatest_back m same size_is great acc =
       let lt : m 0x300 < 65536 = omega (arith, size_most l left, size_is) in
       from_mark v to_greatest greatest 4 4 entry (busy v acc m) stands
-      (code_back v (Lac 0 (Direct 0) ∷ []) (Jump Blz 5 no_change ∷ Do (Lack 0) ∷ Do Ret ∷ Mark 5 ∷ one) 3 (busy v acc m) (omega arith) (search arith) refl
+      (code_back v (Lac 0 (Direct 0) ∷ []) (Jump Blz 5 no_change ∷ Do (Lack 0) ∷ Do Ret ∷ Mark 5 ∷ one) 3 (busy v acc m) (omega arith) (search arith) (refl, tt) refl
       (jump_back v Blz 5 (Do (Lack 0) ∷ Do Ret ∷ Mark 5 ∷ one) 2 (busy v (loaded (m 0x300)) m) (omega arith)
       (λ e. one_back m same (is.one great (omega (arith, is_negative (m 0x300) lt e, size_is))) (loaded (m 0x300)))
       (λ e.
-      code_back v (Lack 0 ∷ []) (Do Ret ∷ Mark 5 ∷ one) 1 (busy v (loaded (m 0x300)) m) (omega arith) (search arith) refl
+      code_back v (Lack 0 ∷ []) (Do Ret ∷ Mark 5 ∷ one) 1 (busy v (loaded (m 0x300)) m) (omega arith) (search arith) (tt, tt) refl
       (return_back v (Mark 5 ∷ one) 0 true v.caller.t 0 m (is.none great (omega (arith, is_positive (m 0x300) lt e, size_is))) same))))
 
   -- ACC is the quotient of the sizes
@@ -103,15 +103,15 @@ module _ (v : Visit) (entry : ℕ) (stands : StandThere v entry divint_items) (l
       let q : wrap16 (after * 2 ^ 0) ≡ size l / size r = omega (arith, quotient) in
       let kept : SameOutside (write m 0x300 (wrap16 (after * 2 ^ 0))) v.caller.ram = scratch_written m v.caller.ram 0x300 (wrap16 (after * 2 ^ 0)) (omega arith) (omega arith) same in
       let lt : m 0x302 < 65536 = omega (arith, sign, sign_is) in
-      code_back v (Sacl 0 (Direct 0) ∷ Lac 0 (Direct 2) ∷ []) (Jump Blz 3 no_change ∷ plain) 4 (busy v after m) (omega arith) (search arith) refl
+      code_back v (Sacl 0 (Direct 0) ∷ Lac 0 (Direct 2) ∷ []) (Jump Blz 3 no_change ∷ plain) 4 (busy v after m) (omega arith) (search arith) (refl, (refl, tt)) refl
       (jump_back v Blz 3 plain 3 (busy v (loaded (m 0x302)) (write m 0x300 (wrap16 (after * 2 ^ 0)))) (omega arith)
       (λ e. turned_back _ kept (omega arith) (ap negated q ∙ is.turned (omega (arith, is_negative (m 0x302) lt e, sign_is))) (loaded (m 0x302)))
       (λ e. plain_back _ kept (omega arith) (q ∙ is.plain (omega (arith, is_positive (m 0x302) lt e, sign_is))) (loaded (m 0x302))))
 
   divides_back : (m : Memory) → SameOutside m v.caller.ram → m 0x300 ≡ size l → m 0x302 ≡ x → m 0x303 ≡ size r → size r < 32768 → (acc : ℕ) → Back v divides 24 (busy v acc m)
   divides_back m same left_is sign_is right_is low acc =
-      code_back v (Zals (Direct 0) ∷ []) (Do (Rptk 15) ∷ Do (Subc (Direct 3)) ∷ divided) 23 (busy v acc m) (omega arith) (search arith) refl
-      (division_back v 3 divided 6 (m 0x300) m (omega arith) (omega arith) (omega (arith, size_most l left, left_is)) (omega (arith, is.some, right_is)) (omega (arith, low, right_is))
+      code_back v (Zals (Direct 0) ∷ []) (Do (Rptk 15) ∷ Do (Subc (Direct 3)) ∷ divided) 23 (busy v acc m) (omega arith) (search arith) (refl, tt) refl
+      (division_back v 3 divided 6 (m 0x300) m (omega arith) refl (omega arith) (omega (arith, size_most l left, left_is)) (omega (arith, is.some, right_is)) (omega (arith, low, right_is))
       (λ after quotient rest. divided_back m same sign_is after (quotient ∙ ap (λ n. n / m 0x303) left_is ∙ ap (λ n. size l / n) right_is)))
 
   -- ACC is the size of the left word, and then of the right one
@@ -120,7 +120,7 @@ module _ (v : Visit) (entry : ℕ) (stands : StandThere v entry divint_items) (l
       let kept : SameOutside (write m 0x300 (wrap16 (acc * 2 ^ 0))) v.caller.ram = scratch_written m v.caller.ram 0x300 (wrap16 (acc * 2 ^ 0)) (omega arith) (omega arith) same in
       let lt : m 0x303 < 65536 = omega (arith, size_most r right, right_is) in
       from_mark v to_sized sized 2 27 entry (busy v acc m) stands
-      (code_back v (Sacl 0 (Direct 0) ∷ Lac 0 (Direct 3) ∷ []) (Jump Blz 4 no_change ∷ divides) 25 (busy v acc m) (omega arith) (search arith) refl
+      (code_back v (Sacl 0 (Direct 0) ∷ Lac 0 (Direct 3) ∷ []) (Jump Blz 4 no_change ∷ divides) 25 (busy v acc m) (omega arith) (search arith) (refl, (refl, tt)) refl
       (jump_back v Blz 4 divides 24 (busy v (loaded (m 0x303)) (write m 0x300 (wrap16 (acc * 2 ^ 0)))) (omega arith)
       (λ e. wider v 4 24 (omega arith) (greatest_back _ kept left_is (omega (arith, is_negative (m 0x303) lt e, right_is)) (loaded (m 0x303))))
       (λ e. divides_back _ kept left_is sign_is right_is (omega (arith, is_positive (m 0x303) lt e, right_is)) (loaded (m 0x303)))))
@@ -128,7 +128,7 @@ module _ (v : Visit) (entry : ℕ) (stands : StandThere v entry divint_items) (l
   left_sized_back : (m : Memory) → SameOutside m v.caller.ram → m 0x300 ≡ l → m 0x302 ≡ x → (acc : ℕ) → wrap16 (acc * 2 ^ 0) ≡ size r → FromMark v 1 31 (busy v acc m)
   left_sized_back m same left_is sign_is acc right_is =
       from_mark v to_left left_sized 1 31 entry (busy v acc m) stands
-      (code_back v (Sacl 0 (Direct 3) ∷ Lac 0 (Direct 0) ∷ []) (Jump Bgez 2 no_change ∷ Do Neg ∷ Mark 2 ∷ sized) 29 (busy v acc m) (omega arith) (search arith) refl
+      (code_back v (Sacl 0 (Direct 3) ∷ Lac 0 (Direct 0) ∷ []) (Jump Bgez 2 no_change ∷ Do Neg ∷ Mark 2 ∷ sized) 29 (busy v acc m) (omega arith) (search arith) (refl, (refl, tt)) refl
       (size_back v 2 sized 27 (m 0x300) (write m 0x303 (wrap16 (acc * 2 ^ 0))) (omega arith) (omega (arith, left, left_is))
       (λ a e. sized_back _ (scratch_written m v.caller.ram 0x303 (wrap16 (acc * 2 ^ 0)) (omega arith) (omega arith) same) sign_is right_is a (e ∙ ap size left_is))))
 
@@ -137,12 +137,12 @@ all_back v entry stands left right is =
     let l : ℕ = v.caller.ram 0x300 in
     let r : ℕ = v.caller.ram 0x301 in
     let x : ℕ = sign_word l r in
-    code_back v (Ldpk 6 ∷ Ssxm ∷ Lac 0 (Direct 0) ∷ Xor (Direct 1) ∷ Sacl 0 (Direct 2) ∷ Lac 0 (Direct 1) ∷ []) (Jump Bgez 1 no_change ∷ Do Neg ∷ Mark 1 ∷ left_sized) 33 (begun v) (omega arith) (search arith) refl
+    code_back v (Ldpk 6 ∷ Ssxm ∷ Lac 0 (Direct 0) ∷ Xor (Direct 1) ∷ Sacl 0 (Direct 2) ∷ Lac 0 (Direct 1) ∷ []) (Jump Bgez 1 no_change ∷ Do Neg ∷ Mark 1 ∷ left_sized) 33 (begun v) (omega arith) (search arith) (tt, (tt, (refl, (refl, (refl, (refl, tt)))))) refl
     (size_back v 1 left_sized 31 r (write v.caller.ram 0x302 x) (omega arith) right
     (λ acc e. left_sized_back v entry stands left right x (omega arith) (signed_quotient l r v.value left right is) _ (scratch_written v.caller.ram v.caller.ram 0x302 x (omega arith) (omega arith) (λ a out. refl)) refl refl acc e))
     entry stands
 
-pub div_int : HelperResult DivInt divint_items
+pub div_int : HelperWithin DivInt divint_items
 div_int = record {
   by = λ program marks names entry pc w value stands here below short left right is.
       let v : Visit = record { program = program; marks = marks; names = names; caller = w; back = pc + 2; value = value } in

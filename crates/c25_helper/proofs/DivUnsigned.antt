@@ -11,7 +11,7 @@ use Rattle.c25_isa.specs.State.{Memory}
 use Rattle.c25_isa.specs.Step.{minus}
 use Rattle.c25_helper.specs.declared.routine.Routine.TheVariants.{DivUnsigned}
 use Rattle.c25_helper.specs.Routines.{no_change, divuns_items}
-use Rattle.c25_helper.specs.Results.{HelperResult}
+use Rattle.c25_helper.specs.Results.{HelperWithin}
 use Rattle.c25_helper.proofs.Quotients.{unsigned_quotient_is}
 use Rattle.c25_helper.proofs.Loads.{loaded, is_negative, is_positive, is_less, is_not_less}
 use Rattle.c25_helper.proofs.Ways.{Visit, StandThere, begun, busy, GoesBack, Back, FromMark, wider, code_back, jump_back, from_mark, division_back, return_back, call_back}
@@ -53,37 +53,37 @@ module _ (v : Visit) (entry : ℕ) (stands : StandThere v entry divuns_items) (l
   none_back : l < r → (acc : ℕ) → FromMark v 2 2 (busy v acc ram)
   none_back less acc =
       from_mark v before_none none 2 2 entry (busy v acc ram) stands
-      (code_back v (Lack 0 ∷ []) (Do Ret ∷ []) 1 (busy v acc ram) (omega arith) (search arith) refl
+      (code_back v (Lack 0 ∷ []) (Do Ret ∷ []) 1 (busy v acc ram) (omega arith) (search arith) (tt, tt) refl
       (return_back v [] 0 true v.caller.t 0 ram (sym (div-eq_of_lt less) ∙ is) (λ a out. refl)))
 
   one_back : r ≤ l → 32768 ≤ r → (acc : ℕ) → Back v one 2 (busy v acc ram)
   one_back le high acc =
-      code_back v (Lack 1 ∷ []) (Do Ret ∷ Mark 2 ∷ none) 1 (busy v acc ram) (omega arith) (search arith) refl
+      code_back v (Lack 1 ∷ []) (Do Ret ∷ Mark 2 ∷ none) 1 (busy v acc ram) (omega arith) (search arith) (tt, tt) refl
       (return_back v (Mark 2 ∷ none) 0 true v.caller.t 1 ram (sym (once l r le high left) ∙ is) (λ a out. refl))
 
   large_back : 32768 ≤ r → (acc : ℕ) → FromMark v 1 5 (busy v acc ram)
   large_back high acc =
       from_mark v before_large large 1 5 entry (busy v acc ram) stands
-      (code_back v (Zals (Direct 0) ∷ Subs (Direct 1) ∷ []) (Jump Blz 2 no_change ∷ one) 3 (busy v acc ram) (omega arith) (search arith) refl
+      (code_back v (Zals (Direct 0) ∷ Subs (Direct 1) ∷ []) (Jump Blz 2 no_change ∷ one) 3 (busy v acc ram) (omega arith) (search arith) (refl, (refl, tt)) refl
       (jump_back v Blz 2 one 2 (busy v (minus l r) ram) (omega arith)
       (λ e. none_back (is_less l r left right e) (minus l r))
       (λ e. one_back (is_not_less l r left right e) high (minus l r))))
 
   small_back : r < 32768 → (acc : ℕ) → Back v small 19 (busy v acc ram)
   small_back low acc =
-      code_back v (Zals (Direct 0) ∷ []) (Do (Rptk 15) ∷ Do (Subc (Direct 1)) ∷ Do Ret ∷ Mark 1 ∷ large) 18 (busy v acc ram) (omega arith) (search arith) refl
-      (division_back v 1 (Do Ret ∷ Mark 1 ∷ large) 1 l ram (omega arith) (omega arith) left some low
+      code_back v (Zals (Direct 0) ∷ []) (Do (Rptk 15) ∷ Do (Subc (Direct 1)) ∷ Do Ret ∷ Mark 1 ∷ large) 18 (busy v acc ram) (omega arith) (search arith) (refl, tt) refl
+      (division_back v 1 (Do Ret ∷ Mark 1 ∷ large) 1 l ram (omega arith) refl (omega arith) left some low
       (λ after quotient rest. return_back v (Mark 1 ∷ large) 0 true v.caller.t after ram (quotient ∙ is) (λ a out. refl)))
 
   all_back : GoesBack v entry 23 (begun v)
   all_back =
-      code_back v (Ldpk 6 ∷ Ssxm ∷ Lac 0 (Direct 1) ∷ []) (Jump Blz 1 no_change ∷ small) 20 (begun v) (omega arith) (search arith) refl
+      code_back v (Ldpk 6 ∷ Ssxm ∷ Lac 0 (Direct 1) ∷ []) (Jump Blz 1 no_change ∷ small) 20 (begun v) (omega arith) (search arith) (tt, (tt, (refl, tt))) refl
       (jump_back v Blz 1 small 19 (busy v (loaded r) ram) (omega arith)
       (λ e. wider v 5 19 (omega arith) (large_back (is_negative r right e) (loaded r)))
       (λ e. small_back (is_positive r right e) (loaded r)))
       entry stands
 
-pub div_unsigned : HelperResult DivUnsigned divuns_items
+pub div_unsigned : HelperWithin DivUnsigned divuns_items
 div_unsigned = record {
   by = λ program marks names entry pc w value stands here below short left right is.
       let parts = unsigned_quotient_is (w.ram 0x300) (w.ram 0x301) value is in

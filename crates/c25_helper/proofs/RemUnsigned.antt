@@ -11,7 +11,7 @@ use Rattle.c25_isa.specs.State.{Memory, write}
 use Rattle.c25_isa.specs.Step.{wrap16, wrap32, minus}
 use Rattle.c25_helper.specs.declared.routine.Routine.TheVariants.{RemUnsigned}
 use Rattle.c25_helper.specs.Routines.{no_change, remuns_items}
-use Rattle.c25_helper.specs.Results.{HelperResult}
+use Rattle.c25_helper.specs.Results.{HelperWithin}
 use Rattle.c25_helper.proofs.Quotients.{unsigned_remainder_is}
 use Rattle.c25_helper.proofs.Loads.{loaded, loaded_word, high_word, at_least_taken, at_least_passed, is_negative, is_positive, is_less, is_not_less}
 use Rattle.c25_helper.proofs.Ways.{Visit, StandThere, begun, busy, scratch_written, GoesBack, Back, FromMark, wider, code_back, jump_back, mark_back, from_mark, division_back, return_back, call_back}
@@ -55,13 +55,13 @@ module _ (v : Visit) (entry : ℕ) (stands : StandThere v entry remuns_items) (l
 
   less_back : l < r → (acc : ℕ) → Back v less 2 (busy v acc ram)
   less_back lt acc =
-      code_back v (Lac 0 (Direct 0) ∷ []) (Mark 2 ∷ Do Ret ∷ []) 1 (busy v acc ram) (omega arith) (search arith) refl
+      code_back v (Lac 0 (Direct 0) ∷ []) (Mark 2 ∷ Do Ret ∷ []) 1 (busy v acc ram) (omega arith) (search arith) (refl, tt) refl
       (mark_back v 2 (Do Ret ∷ []) 1 (busy v (loaded l) ram) (end_back (loaded l) (loaded_word l left ∙ sym (mod-eq_of_lt lt) ∙ is)))
 
   large_back : 32768 ≤ r → (acc : ℕ) → FromMark v 1 5 (busy v acc ram)
   large_back high acc =
       from_mark v before_large large 1 5 entry (busy v acc ram) stands
-      (code_back v (Zals (Direct 0) ∷ Subs (Direct 1) ∷ []) (Jump Bgez 2 no_change ∷ less) 3 (busy v acc ram) (omega arith) (search arith) refl
+      (code_back v (Zals (Direct 0) ∷ Subs (Direct 1) ∷ []) (Jump Bgez 2 no_change ∷ less) 3 (busy v acc ram) (omega arith) (search arith) (refl, (refl, tt)) refl
       (jump_back v Bgez 2 less 2 (busy v (minus l r) ram) (omega arith)
       (λ e. let le : r ≤ l = is_not_less l r left right (at_least_taken (minus l r) e) in
       let difference : wrap16 (minus l r) ≡ l - r = omega (arith, left) in
@@ -70,23 +70,23 @@ module _ (v : Visit) (entry : ℕ) (stands : StandThere v entry remuns_items) (l
 
   small_back : r < 32768 → (acc : ℕ) → Back v small 21 (busy v acc ram)
   small_back low acc =
-      code_back v (Zals (Direct 0) ∷ []) (Do (Rptk 15) ∷ Do (Subc (Direct 1)) ∷ stored) 20 (busy v acc ram) (omega arith) (search arith) refl
-      (division_back v 1 stored 3 l ram (omega arith) (omega arith) left some low
+      code_back v (Zals (Direct 0) ∷ []) (Do (Rptk 15) ∷ Do (Subc (Direct 1)) ∷ stored) 20 (busy v acc ram) (omega arith) (search arith) (refl, tt) refl
+      (division_back v 1 stored 3 l ram (omega arith) refl (omega arith) left some low
       (λ after quotient rest.
-      code_back v (Sach 0 (Direct 2) ∷ Lac 0 (Direct 2) ∷ []) (Do Ret ∷ Mark 1 ∷ large) 1 (busy v after ram) (omega arith) (search arith) refl
+      code_back v (Sach 0 (Direct 2) ∷ Lac 0 (Direct 2) ∷ []) (Do Ret ∷ Mark 1 ∷ large) 1 (busy v after ram) (omega arith) (search arith) (refl, (refl, tt)) refl
       (return_back v (Mark 1 ∷ large) 0 true v.caller.t (loaded (wrap32 (after * 2 ^ 0) / 65536)) (write ram 0x302 (wrap32 (after * 2 ^ 0) / 65536))
       (high_word after (l % r) rest (omega (arith, mod-le l r, left)) ∙ is)
       (scratch_written ram ram 0x302 (wrap32 (after * 2 ^ 0) / 65536) (omega arith) (omega arith) (λ a out. refl)))))
 
   all_back : GoesBack v entry 25 (begun v)
   all_back =
-      code_back v (Ldpk 6 ∷ Ssxm ∷ Lac 0 (Direct 1) ∷ []) (Jump Blz 1 no_change ∷ small) 22 (begun v) (omega arith) (search arith) refl
+      code_back v (Ldpk 6 ∷ Ssxm ∷ Lac 0 (Direct 1) ∷ []) (Jump Blz 1 no_change ∷ small) 22 (begun v) (omega arith) (search arith) (tt, (tt, (refl, tt))) refl
       (jump_back v Blz 1 small 21 (busy v (loaded r) ram) (omega arith)
       (λ e. wider v 5 21 (omega arith) (large_back (is_negative r right e) (loaded r)))
       (λ e. small_back (is_positive r right e) (loaded r)))
       entry stands
 
-pub rem_unsigned : HelperResult RemUnsigned remuns_items
+pub rem_unsigned : HelperWithin RemUnsigned remuns_items
 rem_unsigned = record {
   by = λ program marks names entry pc w value stands here below short left right is.
       let parts = unsigned_remainder_is (w.ram 0x300) (w.ram 0x301) value is in

@@ -11,7 +11,7 @@ use Rattle.c25_code.specs.Routines.{shift_body}
 use Rattle.c25_code.proofs.Shift.{shift_ready, shift_means}
 use Rattle.c25_helper.specs.declared.routine.Routine.TheVariants.{ShrInt}
 use Rattle.c25_helper.specs.Routines.{shift_items}
-use Rattle.c25_helper.specs.Results.{HelperResult}
+use Rattle.c25_helper.specs.Results.{HelperWithin}
 use Rattle.c25_helper.proofs.Ways.{Visit, StandThere, begun, GoesBack, scratch_written, code_back, return_back, call_back}
 
 -- a value by a count: it is below 16
@@ -27,11 +27,11 @@ all_back v entry stands left is =
     let count = counted (v.caller.ram 0x301) v.value _ is in
     let good : Good (wrap16 (behind_code shift_body (begun v)).acc) ≡ Good v.value = sym (shift_means (begun v) left count.0) ∙ is in
     let answers : wrap16 (behind_code shift_body (begun v)).acc ≡ v.value = cc in
-    code_back v shift_body (Do Ret ∷ []) 1 (begun v) (omega arith) (shift_ready (begun v)) refl
+    code_back v shift_body (Do Ret ∷ []) 1 (begun v) (omega arith) (shift_ready (begun v)) (tt, (tt, (tt, (refl, (refl, (refl, (refl, (refl, (refl, tt))))))))) refl
     (return_back v [] 0 true _ _ _ answers (scratch_written _ v.caller.ram 0x302 _ (omega arith) (omega arith) (scratch_written v.caller.ram v.caller.ram 0x302 _ (omega arith) (omega arith) (λ a out. refl))))
     entry stands
 
-pub shr_int : HelperResult ShrInt (shift_items Ssxm)
+pub shr_int : HelperWithin ShrInt (shift_items Ssxm)
 shr_int = record {
   by = λ program marks names entry pc w value stands here below short left right is.
       let v : Visit = record { program = program; marks = marks; names = names; caller = w; back = pc + 2; value = value } in

@@ -10,7 +10,7 @@ use Rattle.c25_isa.specs.declared.piece.PieceItem.TheVariants.{Do}
 use Rattle.c25_isa.specs.Step.{wrap16, wrap32, minus}
 use Rattle.c25_helper.specs.declared.routine.Routine.TheVariants.{ShrUnsigned}
 use Rattle.c25_helper.specs.Routines.{shift_items}
-use Rattle.c25_helper.specs.Results.{HelperResult}
+use Rattle.c25_helper.specs.Results.{HelperWithin}
 use Rattle.c25_helper.proofs.ShrInt.{counted}
 use Rattle.c25_helper.proofs.Ways.{Visit, StandThere, begun, GoesBack, scratch_written, code_back, return_back, call_back}
 
@@ -67,11 +67,11 @@ module _ (v : Visit) (entry : ℕ) (stands : StandThere v entry (shift_items Rsx
 
   all_back : count < 16 → word / 2 ^ count ≡ v.value → GoesBack v entry 10 (begun v)
   all_back lt is =
-      code_back v body (Do Ret ∷ []) 1 (begun v) (omega arith) (search arith) refl
+      code_back v body (Do Ret ∷ []) 1 (begun v) (omega arith) (search arith) (tt, (tt, (tt, (refl, (refl, (refl, (refl, (refl, (refl, tt))))))))) refl
       (return_back v [] 0 false _ _ _ (answers lt is) (scratch_written _ v.caller.ram 0x302 _ (omega arith) (omega arith) (scratch_written v.caller.ram v.caller.ram 0x302 _ (omega arith) (omega arith) (λ a out. refl))))
       entry stands
 
-pub shr_unsigned : HelperResult ShrUnsigned (shift_items Rsxm)
+pub shr_unsigned : HelperWithin ShrUnsigned (shift_items Rsxm)
 shr_unsigned = record {
   by = λ program marks names entry pc w value stands here below short left right is.
       let parts = counted (w.ram 0x301) value (Good (w.ram 0x300 / 2 ^ w.ram 0x301)) is in

@@ -25,5 +25,5 @@ size_back v mark rest most word ram some lt next =
     jump_back v Bgez mark (Do Neg ∷ Mark mark ∷ rest) (1 + most) (busy v (loaded word) ram) (omega arith)
     (λ e. wider v most (1 + most) (omega arith) (next (loaded word) (positive_stored word (is_positive word lt (at_least_taken (loaded word) e)))))
     (λ e.
-    code_back v (Neg ∷ []) (Mark mark ∷ rest) most (busy v (loaded word) ram) (omega (arith, some)) (search arith) refl
+    code_back v (Neg ∷ []) (Mark mark ∷ rest) most (busy v (loaded word) ram) (omega (arith, some)) (search arith) (tt, tt) refl
     (mark_back v mark rest most (busy v (minus 0 (loaded word)) ram) (next (minus 0 (loaded word)) (negative_stored word (is_negative word lt (at_least_passed (loaded word) e)) lt))))

@@ -10,6 +10,7 @@ use Rattle.c25_isa.specs.Pieces.{Piece, ItemsAt}
 use Rattle.c25_isa.specs.State.{Memory}
 use Rattle.c25_isa.specs.Step.{wrap16}
 use Rattle.c25_code.specs.Work.{Work, calm, InRange}
+use Rattle.c25_code.specs.Accesses.{Accesses, LeadsWithin, at_scratch}
 use Rattle.c25_helper.specs.declared.routine.Routine.{Routine}
 use Rattle.c25_helper.specs.declared.routine.Routine.TheVariants.{DivInt, DivUnsigned, RemInt, RemUnsigned, ShrInt, ShrUnsigned}
 use Rattle.c25_helper.specs.Routines.{no_change, routine_name}
@@ -40,10 +41,19 @@ pub record ComesBack (program : Memory) (pc : ℕ) (w : Work) (value : ℕ) : Ty
   pub keeps : HelperKeeps w work
   pub ranges : InRange w → InRange work
 
+-- and no word of data memory is accessed on the way but scratch words
+pub record ComesBackWithin (program : Memory) (pc : ℕ) (w : Work) (value : ℕ) : Type 0 where
+  pub back : ComesBack program pc w value
+  pub within : LeadsWithin (Accesses at_scratch) back.steps (calm program pc w) (calm program (pc + 2) back.work) []
+
 -- wherever the items of a routine stand, and from wherever they are called with a word free on the hardware stack: with the left operand in 0300h
 -- and the right one in 0301h for which C has a value, it comes back with that
 pub record HelperResult (r : Routine) (items : List PieceItem) : Type 0 where
   pub by : (program : Memory) (marks : ℕ → ℕ) (names : List ℕ → ℕ) (entry pc : ℕ) (w : Work) (value : ℕ) → ItemsAt program marks names entry items → StandsAt program pc (Call entry no_change) → pc + 2 < 65536 → length w.stack < 8 → w.ram 0x300 < 65536 → w.ram 0x301 < 65536 → routine_value r (w.ram 0x300) (w.ram 0x301) ≡ Good value → ComesBack program pc w value
+
+-- so it does, and accesses scratch words alone
+pub record HelperWithin (r : Routine) (items : List PieceItem) : Type 0 where
+  pub by : (program : Memory) (marks : ℕ → ℕ) (names : List ℕ → ℕ) (entry pc : ℕ) (w : Work) (value : ℕ) → ItemsAt program marks names entry items → StandsAt program pc (Call entry no_change) → pc + 2 < 65536 → length w.stack < 8 → w.ram 0x300 < 65536 → w.ram 0x301 < 65536 → routine_value r (w.ram 0x300) (w.ram 0x301) ≡ Good value → ComesBackWithin program pc w value
 
 -- a piece that is that of a routine by its name
 pub record IsHelper (p : Piece) : Type 0 where

@@ -6,7 +6,7 @@ ghost use Rattle.c25_helper.specs.Routines.{helper_pieces, routine_items};
 ghost use Rattle.c25_code.specs.Naming.{HasItsMarks};
 ghost use Rattle.c25_helper.specs.Names.{CallsNone, NamesDiffer};
 ghost use Rattle.c25_helper.specs.declared.routine.Routine.{Routine};
-ghost use Rattle.c25_helper.specs.Results.{HelperResult, IsHelper};
+ghost use Rattle.c25_helper.specs.Results.{HelperResult, HelperWithin, IsHelper};
 ghost use Rattle.c25_helper.specs.Calls.{called_helper_pieces};
 ghost use Rattle.c25_helper.specs.Answering.{AnswersCalls};
 
@@ -25,6 +25,8 @@ pub fn helper_pieces_fit()
 /// A call of each routine comes back with the value that C has, wherever its items stand. The call does nothing.
 pub fn routines_answer()
     ensures each { (r : Routine) → HelperResult r (routine_items r) }
+    // On the way it accesses no word of data memory but scratch words.
+    ensures within { (r : Routine) → HelperWithin r (routine_items r) }
     ensures pieces { All IsHelper helper_pieces }
     // So those that pieces call answer them.
     ensures called { (pieces : List Piece) → AnswersCalls pieces (called_helper_pieces pieces) }

@@ -21,7 +21,8 @@ use Rattle.image_proof.specs.Keeping.{all_pieces as emission_pieces, own_pieces 
 use Rattle.image_proof.specs.Directs.{AreDirect}
 use Rattle.image_proof.specs.Emissions.{Emission}
 use Rattle.image_proof.specs.Leading.{AllHaveTargets}
-use Rattle.cc_compile.specs.Images.{FrameJobs, HasImage, IsDirect, IsPlanOf, LeadsRight, layouts}
+use Rattle.image_proof.specs.Listing.{AllListFrames}
+use Rattle.cc_compile.specs.Images.{FrameJobs, HasImage, IsDirect, IsPlanOf, LeadsRight, ListsFrames, layouts}
 use Rattle.cc_compile.proofs.AgreementLemmas.{image_short}
 use Rattle.cc_compile.proofs.OneImage.{one_plan}
 
@@ -76,3 +77,14 @@ pub image_leads : ForTargets → (o : FrameJobs) (t : ProgramTree) (p : ProgramC
 image_leads law = image_holds Leads (λ t plan arrangements step image is words arranged planned emittable low linked fit short other.
     let own = emission_own (emission_of t plan arrangements step) in
     law t plan arrangements step (called_helper_pieces own) image is words arranged planned emittable low (called_answer own) other fit short)
+
+-- how words of frames are accessed
+abbrev ForListing : Type 0
+ForListing = (t : ProgramTree) (plan : DataPlan) (arrangements : List (List (List ℕ))) (step : ℕ) (routines : List Piece) (image : Contents) → IsProgram t → ProgramHasWords t → AreArranged (lowered_program t).functions arrangements → IsPlan (lowered_program t) arrangements plan
+    → IsEmittable (lowered_program t) (selected (lowered_program t)) → step < 256 → Linked (emission_pieces (emission_of t plan arrangements step) routines) image → PiecesFit (emission_pieces (emission_of t plan arrangements step) routines) → length image.words ≤ 65536
+    → AllListFrames (emission_of t plan arrangements step) image
+
+pub image_lists : ForListing → (o : FrameJobs) (t : ProgramTree) (p : ProgramCode) (gs : List FunctionItems) → o.step ≤ 8 → p ≡ lowered_program t → ∥ IsProgram t ∥₁ → ProgramHasWords t → AreArranged p.functions (layouts o) → IsEmittable p gs → gs ≡ selected p
+    → (image : Contents) → HasImage o t image → ∥ ListsFrames o t image ∥₁
+image_lists law = image_holds AllListFrames (λ t plan arrangements step image is words arranged planned emittable low linked fit short.
+    law t plan arrangements step (called_by (emission_of t plan arrangements step)) image is words arranged planned emittable low linked fit short)

@@ -19,6 +19,7 @@ use Rattle.image_proof.specs.PlanPlaces.{places_of}
 use Rattle.image_proof.specs.Agreeing.{emission_of}
 use Rattle.image_proof.specs.Directs.{AreDirect}
 use Rattle.image_proof.specs.Leading.{AllHaveTargets}
+use Rattle.image_proof.specs.Listing.{AllListFrames}
 use Rattle.frame_layouts.specs.lay_cert.Frames.{Frame}
 use Rattle.frame_layouts.specs.declared.options.Options.{Options}
 use Rattle.frame_layouts.specs.Frames.{IsJob, job_with, layout_of, frames_of}
@@ -100,6 +101,11 @@ IsDirect o t image = (plan : DataPlan) → IsPlanOf o t plan → AreDirect (emis
 abbrev pub LeadsRight : FrameJobs → ProgramTree → Contents → Type 0
 LeadsRight o t image = (plan : DataPlan) → IsPlanOf o t plan → (linked : Linked (all_pieces o (lowered_program t) plan) image)
     → AllHaveTargets (emission_of t plan (layouts o) o.step) (called_helper_pieces (own_pieces o (lowered_program t) plan)) linked.place image
+
+-- in each run of the image, each access to a word of a function's frame along the function's code is one that a walk lists, or goes through another
+-- address register than AR2 to AR5
+abbrev pub ListsFrames : FrameJobs → ProgramTree → Contents → Type 0
+ListsFrames o t image = (plan : DataPlan) → IsPlanOf o t plan → AllListFrames (emission_of t plan (layouts o) o.step) image
 
 -- its data need so many words, which are too many
 abbrev pub HasTooMuchData : ProgramTree → ℕ → Type 0

@@ -4,7 +4,7 @@ use Rattle.c_tree.specs.TypedTree.{ProgramTree}
 use Rattle.c25_isa.specs.Image.{Contents}
 use Rattle.frame_layouts.specs.lay_cert.Frames.{Frame}
 use Rattle.frame_layouts.specs.declared.options.Options.{Options}
-use Rattle.cc_compile.specs.Images.{HasFrames, HasImage, KeepsRuns, LeadsRight, TreeKeepsRuns, source_jobs}
+use Rattle.cc_compile.specs.Images.{HasFrames, HasImage, KeepsRuns, LeadsRight, ListsFrames, TreeKeepsRuns, source_jobs}
 use Rattle.cc_compile.specs.SourceFaults.{HasProgram}
 
 pub record IsMade (o : Options) (bytes : List ℕ) (image : Contents) (frames : List Frame) : Type 0 where
@@ -19,3 +19,5 @@ pub record IsMade (o : Options) (bytes : List ℕ) (image : Contents) (frames : 
   pub keeps : ∥ KeepsRuns (source_jobs o program) program ∥₁
   -- jumps lead to first words of instructions of their ranges, and calls to those of ranges and of routines
   pub leads : ∥ LeadsRight (source_jobs o program) program image ∥₁
+  -- in each run, words of frames are accessed as walks list it, or through another address register than AR2 to AR5
+  pub listed : ∥ ListsFrames (source_jobs o program) program image ∥₁

@@ -13,7 +13,7 @@ ghost use Rattle.image_proof.specs.Agreeing.{EndsInTime};
 ghost use Rattle.image_proof.specs.acc_select_proof.SourceSequences.{source_sequence};
 ghost use Rattle.cc_compile.specs.Apart.{LieApart};
 ghost use Rattle.cc_compile.specs.TranslationFaults.{Says, SaysOfPieces, SaysOfTree};
-ghost use Rattle.cc_compile.specs.Images.{AreJobs, HasFrames, HasImage, IsDirect, KeepsRuns, LeadsRight, TreeKeepsRuns, all_pieces, jobs_at, source_jobs, with_helpers as with_called};
+ghost use Rattle.cc_compile.specs.Images.{AreJobs, HasFrames, HasImage, IsDirect, KeepsRuns, LeadsRight, ListsFrames, TreeKeepsRuns, all_pieces, jobs_at, source_jobs, with_helpers as with_called};
 ghost use Rattle.cc_compile.specs.Walked.{AccessAs, AreWalked, AreWalkedAs};
 ghost use Rattle.cc_compile.specs.Selections.{IsSelection, IsSelectionOf, IsPlanned};
 ghost use Rattle.frame_layouts.specs.lay_cert.Frames.{Frame};
@@ -232,6 +232,8 @@ pub fn translate_by_jobs<R: Threads + Sync, G: Gate + Sync>(
     ensures direct { (t : ProgramTree) → IsSelectionOf selection.now t → IfOk result (λ made. ∥ IsDirect (jobs_at step jobs.items) t made.image ∥₁) }
     // Jumps lead to first words of instructions of their ranges, and calls to those of ranges and of routines.
     ensures leads { (t : ProgramTree) → IsSelectionOf selection.now t → IfOk result (λ made. ∥ LeadsRight (jobs_at step jobs.items) t made.image ∥₁) }
+    // In each run, words of frames are accessed as walks list it, or through another address register than AR2 to AR5.
+    ensures listed { (t : ProgramTree) → IsSelectionOf selection.now t → IfOk result (λ made. ∥ ListsFrames (jobs_at step jobs.items) t made.image ∥₁) }
     // Words of data memory that can be in use at once are apart, those of the frames' lists as they are stored.
     ensures apart { (t : ProgramTree) → IsSelectionOf selection.now t → IfOk result (λ made. LieApart t made.certificate) }
     // Each frame is laid out for what its job searches.
@@ -247,6 +249,7 @@ pub fn translate_by_jobs<R: Threads + Sync, G: Gate + Sync>(
     image_proof::programs_walk();
     image_proof::programs_are_direct();
     image_proof::programs_lead_right();
+    image_proof::programs_list_frames();
     finished(rt, alloc, gate, step, selection, jobs)
 }
 
@@ -276,6 +279,8 @@ pub fn translate<R: Threads + Sync, G: Gate + Sync>(
     ensures direct { IfOk result (λ made. ∥ IsDirect (source_jobs options (program_of program.now)) (program_of program.now) made.image ∥₁) }
     // Jumps lead to first words of instructions of their ranges, and calls to those of ranges and of routines.
     ensures leads { IfOk result (λ made. ∥ LeadsRight (source_jobs options (program_of program.now)) (program_of program.now) made.image ∥₁) }
+    // In each run, words of frames are accessed as walks list it, or through another address register than AR2 to AR5.
+    ensures listed { IfOk result (λ made. ∥ ListsFrames (source_jobs options (program_of program.now)) (program_of program.now) made.image ∥₁) }
     // Words of data memory that can be in use at once are apart, those of the frames' lists as they are stored.
     ensures apart { IfOk result (λ made. LieApart (program_of program.now) made.certificate) }
     // Each frame is laid out for the accesses of its function in the source.

@@ -1,6 +1,6 @@
 -- A Clear on the machine, whichever cells it has.
 use Rattle.std.proofs.Common.{◌≡◌, ◌⊎◌, inl, inr, ⊎_elim, ℕ, suc, ◌+◌, ◌-◌, ◌*◌, ◌<◌, ◌≤◌, Bool, true, false, List, [], map, Option, Some, None, refl, sym, ap, ◌∙◌, subst, arith}
-use Rattle.std.specs.Prelude.{◌==◌, ◌%◌, if◌then◌else◌, slice_get}
+use Rattle.std.specs.Prelude.{◌==◌, ◌%◌, ◌||◌, if◌then◌else◌, slice_get}
 use mathlib.Core.Path.{fun_ext}
 use Rattle.std.proofs.lemmas.Bool.{eqb-true, eqb-false}
 use Rattle.std.proofs.lemmas.Bool.Decides.{leb_tells}
@@ -11,9 +11,9 @@ use Rattle.c_tree.specs.declared.program.VarRef.TheVariants.{Scalar, Local, Stat
 use Rattle.c_tree.specs.TypedTree.{ObjectTree}
 use Rattle.c25_isa.specs.State as machine
 use Rattle.c25_isa.specs.State.{Memory}
-use Rattle.c25_isa.specs.Leads.{Leads}
 use Rattle.c25_isa.specs.Pieces.{items_size, ItemsAt}
 use Rattle.c25_code.specs.Work.{Work, calm}
+use Rattle.c25_code.specs.Accesses.{Accesses, LeadsWithin}
 use Rattle.c25_code.specs.ClearingLoops.{zeroed, behind_clearing}
 use Rattle.c25_code.proofs.ClearingLoops.{zeroed_out}
 use Rattle.ir_semantics.specs.Parts.{Res, Gives, Finished, TooMany, Fails, after, Flow, Next}
@@ -23,6 +23,7 @@ use Rattle.emit_blocks.specs.Places.{or_zero, address_in, object_address}
 use Rattle.emit_control.specs.Entries.{Wipe}
 use Rattle.emit_control.specs.Cuts.{State, naming, shut, behind_place, place_items, wipe_items, entry_items}
 use Rattle.emit_control.specs.Settings.{Setting}
+use Rattle.emit_proof.specs.Accessing.{is_place, site_may}
 use Rattle.emit_proof.specs.Sites.{Site, IsSite, Beside}
 use Rattle.emit_proof.specs.Entries.{Passes, EntryAt}
 use Rattle.emit_proof.specs.Code.{ClearArrives, IsPresent, WipeMeets}
@@ -93,7 +94,7 @@ module _ (start : machine.State) (program : Memory) (names : List ℕ → ℕ) (
     state_same : u ≡ behind_wiping (with_cells is.mid.outside.memory begun)
     state_same = is.is ∙ ap behind_wiping done.1.is
 
-    arrives_so : (steps to : ℕ) (w2 : Work) → Leads steps (calm program pc w) (calm program to w2) [] → Beside k (behind_wiping (with_cells is.mid.outside.memory begun)) w2 → steps ≤ 2 + 4 * is.n → ClearArrives program k pc to v w u
+    arrives_so : (steps to : ℕ) (w2 : Work) → LeadsWithin (Accesses (site_may k)) steps (calm program pc w) (calm program to w2) [] → Beside k (behind_wiping (with_cells is.mid.outside.memory begun)) w2 → steps ≤ 2 + 4 * is.n → ClearArrives program k pc to v w u
     arrives_so steps to w2 leads b few =
         let worked : u.work ≡ v.work + (9 + 64 * is.n) = ap (λ x. x.work) state_same in
         record {
@@ -111,7 +112,7 @@ module _ (start : machine.State) (program : Memory) (names : List ℕ → ℕ) (
         let to = done.1.to in
         let lt : is.n < 32768 = short (Local j) is.n is.long in
         arrives_so (2 + 4 * count) (pc + items_size (wipe_items first count l)) (behind_clearing count (before_loop first count w))
-        ((loop_runs first count l w some (omega (arith, lt)) (omega (arith, from_here)) to).by program marks names pc items room)
+        ((loop_runs (site_may k) first count l w some (omega (arith, lt)) (omega (arith, from_here)) to (λ a low high. ap (λ b. b || is_place k.places.scalars 1 a) (done.1.lived a low high))).by program marks names pc items room)
         (wiped_beside k site first count begun is.mid done.1 w (behind_clearing count (before_loop first count w)) begun_beside (record {
           t = refl;
           p = refl;
@@ -126,7 +127,7 @@ module _ (start : machine.State) (program : Memory) (names : List ℕ → ℕ) (
     -- where no cell is cleared
     nothing : count ≡ 0 → ItemsAt program marks names pc (place_items (s.named l) s.before l) → ClearArrives program k pc (pc + items_size (place_items (s.named l) s.before l)) v w u
     nothing none items =
-        let there = place_leads program marks names (s.named l) s.before l pc w passes items in
+        let there = place_leads (site_may k) program marks names (s.named l) s.before l pc w passes items in
         let few = there.few in
         arrives_so there.steps (pc + items_size (place_items (s.named l) s.before l)) w there.leads
         (wiped_beside k site first count begun is.mid done.1 w w begun_beside (record {

@@ -73,7 +73,7 @@ module _ (g : Ground) (f : Founded g) (o : VarRef) (from l pc : ℕ) (es : List 
       by : (r : Res Machine Flow) → clear (cells_of g.context.locals o) (g.context.at o) from v ≡ r → Quiet v.outside.outs r → MeetsAt g b (going_on behind_clear e) 0 0 r
       by (Gives flow u) is quiet =
           let q = f.wipe.by o from l pc s.state v u w flow s.at.0 s.passes h.beside is in
-          let there = goes_on g b q.1.steps pc behind_clear v u w q.1.work h q.1.leads q.1.outputs q.1.beside in
+          let there = goes_on g b q.1.steps pc behind_clear v u w q.1.work h q.1.leads.leads q.1.outputs q.1.beside in
           subst (λ x. MeetsAt g b (going_on behind_clear e) 0 0 (Gives x u)) (sym q.0) (comes_here g b (begun_at (b.steps + q.1.steps) u) (record { address = behind_clear; reached = true }) 0 0 u q.1.work refl (omega arith) (omega (arith, q.1.within, h.work)) there)
       by (Finished ending put total) is quiet = absurd quiet
       by (TooMany put) is quiet = absurd quiet

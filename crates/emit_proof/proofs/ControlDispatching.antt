@@ -58,7 +58,7 @@ module _ (g : Ground) (cs : List CaseLabel) (body : ItemList) (ways : Ways) (bas
   dispatches b u w (Some z) e h =
       let d = f.dispatch.by cs (base + 1) ways.onward pc w words h.beside.range s.at.0.items s.at.0.jumps in
       let b' : Begun = begun_at (b.steps + d.steps) (without_acc u) in
-      let there = goes_on g b d.steps pc (g.label (Chosen (label_of w.acc cs))) u (without_acc u) w (record w { acc = d.acc }) h d.leads refl (acc_moved g.site u w d.acc d.range h.beside) in
+      let there = goes_on g b d.steps pc (g.label (Chosen (label_of w.acc cs))) u (without_acc u) w (record w { acc = d.acc }) h d.leads.leads refl (acc_moved g.site u w d.acc d.range h.beside) in
       enters b b' (5 + 64 * labels_weight cs) (without_acc u) (record w { acc = d.acc }) z (label_of z cs) refl (omega (arith, d.some)) (omega (arith, d.few, h.work))
       (subst (λ x. Arrived g b' (g.label (Chosen (label_of x cs))) (without_acc u) (record w { acc = d.acc })) (whole_alike u.registers.acc w.acc z e h.beside.registers.acc) there)
 

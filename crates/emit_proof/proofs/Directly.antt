@@ -8,6 +8,7 @@ use Rattle.c25_isa.specs.Step.{changes}
 use Rattle.c25_code.specs.Work.{Work}
 use Rattle.c25_code.specs.Straight.{operand_address, registers_behind, behind_instr, prepended, behind_code, outputs_of_code, CodeReady}
 use Rattle.c25_code.specs.CodeRuns.{CodeRuns}
+use Rattle.c25_code.specs.Accesses.{CodeMay}
 use Rattle.c25_code.proofs.Writes.{write_other}
 use Rattle.c25_code.proofs.CodeRuns.{runs_on}
 use Rattle.acc_code.specs.declared.operation.AccOp.{AccOp}
@@ -20,6 +21,9 @@ use Rattle.emit_blocks.specs.Runs.{Known, row_code, known_behind, steps_code}
 use Rattle.emit_proof.specs.Reaching.{IsOverList, AreOverLists, before_row, row_operand, row_instr, brought, LeavesRegisters}
 use Rattle.emit_proof.specs.KnownAlike.{KnownAlike}
 use Rattle.emit_proof.specs.Direct.{takes_word, TakesReach, TakeReaches, direct_row, row_at, behind_step, behind_steps, StepsReady, outputs_of_steps, AlikeOutside}
+use Rattle.emit_proof.specs.Accessing.{site_may, ReachMay, StepsMay}
+use Rattle.emit_proof.specs.Sites.{Site}
+use Rattle.emit_proof.proofs.Accessing.{may_append, before_may, row_may}
 use Rattle.emit_proof.proofs.Bringing.{code_is, before_runs}
 use Rattle.emit_proof.proofs.Counting.{row_few}
 use Rattle.emit_proof.proofs.ReachStanding.{address_is, pointer_stays, pointer_loads, known_stays, above_1}
@@ -100,11 +104,13 @@ pub record FrontRuns (d : ℕ) (k : Known) (front rest : List Step) (w v : Work)
   pub alike : AlikeOutside work (behind_steps front v)
   pub beside : KnownAlike d known rest work
   pub few : length code ≤ 3 * length front
+  pub allowed : (site : Site) → StepsMay site front v → CodeMay (site_may site) code w
 
 module _ (d : ℕ) where
   step_then : (k : Known) (x : Step) (front rest : List Step) (w v u : Work) (put : Outputs) → CodeRuns (row_code d k x.row x.reach (front ++ rest)) w u put → put ≡ outputs_of_code (direct_row x.row x.reach v) v
+      → ((site : Site) → ReachMay site v x.reach → CodeMay (site_may site) (row_code d k x.row x.reach (front ++ rest)) w)
       → FrontRuns d (known_behind d k x.reach (front ++ rest)) front rest u (behind_step x v) → FrontRuns d k (x ∷ front) rest w v
-  step_then k x front rest w v u put runs outs f =
+  step_then k x front rest w v u put runs outs first_may f =
       let first : List Instr = row_code d k x.row x.reach (front ++ rest) in
       record {
         code = first ++ f.code;
@@ -115,6 +121,7 @@ module _ (d : ℕ) where
         alike = f.alike;
         beside = f.beside;
         few = let one = row_few d k x.row x.reach (front ++ rest) in let others = f.few in let both = length-append first f.code in omega (arith, one, others, both);
+        allowed = λ site m. may_append (site_may site) first f.code w (first_may site m.0) (subst (CodeMay (site_may site) f.code) (sym runs.reaches) (f.allowed site m.1));
       }
 
   pub front_runs : (k : Known) (front rest : List Step) (w v : Work) → KnownAlike d k (front ++ rest) w → AlikeOutside w v → AreOverLists front → HaveWords (front ++ rest) → TakeReaches front → StepsReady front v → FrontRuns d k front rest w v
@@ -127,6 +134,7 @@ module _ (d : ℕ) where
     alike = same;
     beside = beside;
     few = lit≤ tt;
+    allowed = λ site m. tt;
   }
   front_runs k (x ∷ front) rest w v beside same lists words takes ready =
       let r : Reach = x.reach in
@@ -136,7 +144,11 @@ module _ (d : ℕ) where
       let row = row_runs d x.row r xs w v takes.0 lists.0 same ready.0 in
       let u : Work = behind_instr i (brought r w) in
       let put : Outputs = outputs_of_code (direct_row x.row r v) v in
-      let both = runs_on (before_row k r) (i ∷ []) w (brought r w) u [] put (before_runs d k x xs w beside lists.0 words.0) row.runs in
+      let before = before_runs d k x xs w beside lists.0 words.0 in
+      let both = runs_on (before_row k r) (i ∷ []) w (brought r w) u [] put before row.runs in
       let runs = subst (λ c. CodeRuns c w u put) (sym (code_is d k x.row r xs)) both in
       step_then k x front rest w v u put runs refl
+      (λ site m.
+      subst (λ c. CodeMay (site_may site) c w) (sym (code_is d k x.row r xs))
+      (may_append (site_may site) (before_row k r) (i ∷ []) w (before_may (site_may site) k r w) (subst (CodeMay (site_may site) (i ∷ [])) (sym before.reaches) (row_may site d x.row r xs w v same m, tt))))
       (front_runs (known_behind d k r xs) front rest u (behind_step x v) (known_stays d k x xs w u beside lists.0 words row.leaves) row.alike lists.1 words.1 takes.1 ready.1)

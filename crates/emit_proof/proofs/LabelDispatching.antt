@@ -8,13 +8,13 @@ use Rattle.c25_isa.specs.declared.instruction.JumpOp.TheVariants as jump
 use Rattle.c25_isa.specs.State.{Memory}
 use Rattle.c25_isa.specs.Step.{minus}
 use Rattle.c25_isa.specs.CodeAt.{StandsAt}
-use Rattle.c25_isa.specs.Leads.{Leads}
 use Rattle.c25_isa.specs.Pieces.{items_size, ItemsAt}
-use Rattle.c25_isa.proofs.Leads.{leads_on}
 use Rattle.c25_code.specs.Work.{Work, InRange, calm}
 use Rattle.c25_code.specs.Items.{no_change, plain_items}
-use Rattle.c25_code.proofs.Items.{items_size-append, items_front, items_back, straight_leads, jump_taken, jump_passed}
-use Rattle.c25_code.proofs.Straight.{stays_here}
+use Rattle.c25_code.specs.Accesses.{Accesses, LeadsWithin}
+use Rattle.c25_code.proofs.Accesses.{within_on, stays_within}
+use Rattle.c25_code.proofs.AccessRuns.{jump_taken_within, jump_passed_within, straight_runs_within}
+use Rattle.c25_code.proofs.Items.{items_size-append, items_front, items_back}
 use Rattle.acc_code.specs.declared.item.CaseLabel.{CaseLabel}
 use Rattle.acc_code.specs.declared.item.CaseLabel.TheVariants.{Value, Default}
 use Rattle.ir_semantics.specs.AccRun.{value_label, or_else, label_of, labels_weight}
@@ -23,6 +23,7 @@ use Rattle.emit_control.specs.Cuts.{less_by, jump_item, case_items, default_labe
 use Rattle.emit_proof.specs.Calls.{IsJumpTo}
 use Rattle.emit_proof.proofs.Entries.{front_jump, back_jump}
 use Rattle.emit_proof.specs.Code.{AreWordLabels, DispatchArrives, chosen}
+use Rattle.emit_proof.specs.Accessing.{no_access}
 use Rattle.emit_proof.proofs.Taking.{with_acc, MakesAcc, less_made}
 
 -- how many values there are
@@ -46,7 +47,7 @@ module _ (program : Memory) (marks : ℕ → ℕ) (names : List ℕ → ℕ) (z 
   -- it goes on in a few steps, and only the accumulator changes, to this
   pub record Arrived (pc to least most : ℕ) (w : Work) (acc : ℕ) : Type 0 where
     pub steps : ℕ
-    pub leads : Leads steps (calm program pc w) (calm program to (with_acc acc w)) []
+    pub leads : LeadsWithin (Accesses no_access) steps (calm program pc w) (calm program to (with_acc acc w)) []
     pub range : acc < 4294967296
     pub some : least ≤ steps
     pub few : steps ≤ most
@@ -65,7 +66,7 @@ module _ (program : Memory) (marks : ℕ → ℕ) (names : List ℕ → ℕ) (z 
       let few = a.few in
       let few2 = b.few in
       let some2 = b.some in
-      record { steps = a.steps + b.steps; leads = leads_on a.steps b.steps _ _ _ [] [] a.leads b.leads; range = b.range; some = omega (arith, some2); few = omega (arith, few, few2) }
+      record { steps = a.steps + b.steps; leads = within_on (Accesses no_access) a.steps b.steps _ _ _ [] [] a.leads b.leads; range = b.range; some = omega (arith, some2); few = omega (arith, few, few2) }
 
   wider : (pc to least most more : ℕ) (w : Work) (x : ℕ) → most ≤ more → Arrived pc to least most w x → Arrived pc to least more w x
   wider pc to least most more w x le a = let few = a.few in record { steps = a.steps; leads = a.leads; range = a.range; some = a.some; few = omega (arith, few, le) }
@@ -77,7 +78,7 @@ module _ (program : Memory) (marks : ℕ → ℕ) (names : List ℕ → ℕ) (z 
       let made = less_made w z before v low lb lv is in
       record {
         steps = length (less_by before v);
-        leads = straight_leads program marks names (less_by before v) pc w (with_acc (minus z v) w) [] (items_front program marks names (plain_items (less_by before v)) rest pc at) fits made.runs;
+        leads = (straight_runs_within no_access (less_by before v) w (with_acc (minus z v) w) [] made.runs made.accesses).by program marks names pc (items_front program marks names (plain_items (less_by before v)) rest pc at) fits;
         range = omega arith;
         some = omega arith;
         few = made.few;
@@ -86,12 +87,12 @@ module _ (program : Memory) (marks : ℕ → ℕ) (names : List ℕ → ℕ) (z 
   case_jumps : (v i at : ℕ) (w : Work) → StandsAt program at (Branch jump.Bz (marks (l + i)) no_change) → v ≡ z → Arrived at (marks (l + i)) 1 1 (with_acc (minus z v) w) (minus z v)
   case_jumps v i at w stands same =
       let none : minus z v ≡ 0 = omega (arith, same, low) in
-      record { steps = 1; leads = jump_taken program at jump.Bz (marks (l + i)) (with_acc (minus z v) w) stands (eq-eqb (minus z v) 0 none); range = omega arith; some = omega arith; few = omega arith }
+      record { steps = 1; leads = jump_taken_within no_access program at jump.Bz (marks (l + i)) (with_acc (minus z v) w) stands (eq-eqb (minus z v) 0 none); range = omega arith; some = omega arith; few = omega arith }
 
   case_passes : (v i at : ℕ) (w : Work) → StandsAt program at (Branch jump.Bz (marks (l + i)) no_change) → at + 2 < 65536 → v < 65536 → v ≢ z → Arrived at (at + 2) 1 1 (with_acc (minus z v) w) (minus z v)
   case_passes v i at w stands fits lv other =
       let some : minus z v ≢ 0 = λ e. other (omega (arith, e, low, lv)) in
-      record { steps = 1; leads = jump_passed program at jump.Bz (marks (l + i)) (with_acc (minus z v) w) stands fits (ne_eqb (minus z v) 0 some); range = omega arith; some = omega arith; few = omega arith }
+      record { steps = 1; leads = jump_passed_within no_access program at jump.Bz (marks (l + i)) (with_acc (minus z v) w) stands fits (ne_eqb (minus z v) 0 some); range = omega arith; some = omega arith; few = omega arith }
 
   pub cases_go : (cs : List CaseLabel) (i before pc : ℕ) (w : Work) → AreWordLabels cs → before < 65536 → w.acc ≡ minus z before → ItemsAt program marks names pc (case_items cs (l + i) before)
       → pc + items_size (case_items cs (l + i) before) < 65536 → Cased (value_label z cs i) (case_items cs (l + i) before) pc (pc + items_size (case_items cs (l + i) before)) (3 * values cs) w
@@ -101,7 +102,7 @@ module _ (program : Memory) (marks : ℕ → ℕ) (names : List ℕ → ℕ) (z 
         acc = w.acc;
         so = record {
           steps = 0;
-          leads = subst (λ k. Leads 0 (calm program pc w) (calm program k w) []) here (stays_here (calm program pc w));
+          leads = subst (λ k. LeadsWithin (Accesses no_access) 0 (calm program pc w) (calm program k w) []) here (stays_within (Accesses no_access) (calm program pc w));
           range = omega (arith, is);
           some = omega arith;
           few = omega arith;
@@ -194,7 +195,7 @@ module _ (program : Memory) (marks : ℕ → ℕ) (names : List ℕ → ℕ) (la
           record {
             steps = a.steps;
             acc = c.0.acc;
-            leads = subst (λ k. Leads a.steps (calm program pc w) (calm program k (with_acc c.0.acc w)) []) (jumps (l + i) (front_jump (l + i) (case_items cs l 0) (last ∷ []) c.1)) a.leads;
+            leads = subst (λ k. LeadsWithin (Accesses no_access) a.steps (calm program pc w) (calm program k (with_acc c.0.acc w)) []) (jumps (l + i) (front_jump (l + i) (case_items cs l 0) (last ∷ []) c.1)) a.leads;
             range = a.range;
             some = a.some;
             few = omega (arith, few, weight);
@@ -207,8 +208,8 @@ module _ (program : Memory) (marks : ℕ → ℕ) (names : List ℕ → ℕ) (la
           record {
             steps = a.steps + 1;
             acc = c.acc;
-            leads = subst (λ k. Leads (a.steps + 1) (calm program pc w) (calm program k (with_acc c.acc w)) []) there
-                (leads_on a.steps 1 _ _ _ [] [] a.leads (jump_taken program (pc + items_size (case_items cs l 0)) jump.B (marks (default_label cs l behind)) (with_acc c.acc w) stands refl));
+            leads = subst (λ k. LeadsWithin (Accesses no_access) (a.steps + 1) (calm program pc w) (calm program k (with_acc c.acc w)) []) there
+                (within_on (Accesses no_access) a.steps 1 _ _ _ [] [] a.leads (jump_taken_within no_access program (pc + items_size (case_items cs l 0)) jump.B (marks (default_label cs l behind)) (with_acc c.acc w) stands refl));
             range = a.range;
             some = omega arith;
             few = omega (arith, few, weight);

@@ -19,6 +19,8 @@ mod RowExamples
 pub mod Bringing
 pub mod Counting
 pub mod ReachStanding
+pub mod Accessing
+mod AccessExamples
 pub mod Operands
 pub mod Constants
 pub mod Directly

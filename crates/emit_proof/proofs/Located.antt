@@ -14,7 +14,9 @@ use Rattle.emit_blocks.specs.Places.{SCRATCH, object_address, reach_of}
 use Rattle.emit_proof.specs.Reaching.{is_word, reach_address}
 use Rattle.emit_proof.specs.Direct.{row_at, direct_row}
 use Rattle.emit_proof.specs.Standing.{IsNamed, place_of, scalar_address, parameter_address}
+use Rattle.emit_proof.specs.Accessing.{ReachMay}
 use Rattle.emit_proof.specs.Sites.{Site, IsSite, Beside}
+use Rattle.emit_proof.proofs.Accessing.{place_there}
 
 pub record Located (k : Site) (w : Work) (m : AccOperand) : Type 0 where
   pub address : ℕ
@@ -24,6 +26,7 @@ pub record Located (k : Site) (w : Work) (m : AccOperand) : Type 0 where
   pub over_word : is_word (reach_of k.places m) ≡ true
   pub low : 0x300 ≤ address
   pub word : address < 65536
+  pub may : ReachMay k w (reach_of k.places m)
 
 -- behind the scratch words there is RAM
 in_ram : (a : ℕ) → 0x310 ≤ a → 0x300 ≤ a
@@ -48,25 +51,25 @@ module _ (k : Site) (site : IsSite k) (w : Work) where
   scalar_located n few =
       let a : ℕ = scalar_address k.places n in
       let bounds = site.scalars n few in
-      record { address = a; place = refl; rows = λ o. refl; there = refl; over_word = refl; low = in_ram a bounds.0; word = bounds.1 }
+      record { address = a; place = refl; rows = λ o. refl; there = refl; over_word = refl; low = in_ram a bounds.0; word = bounds.1; may = place_there k.places.scalars n few }
 
   pub parameter_located : (f i : ℕ) → i < k.counts f → Located k w (operand.Param f i)
   parameter_located f i few =
       let a : ℕ = parameter_address k.places f i in
       let bounds = site.parameters f i few in
-      record { address = a; place = refl; rows = λ o. refl; there = refl; over_word = refl; low = in_ram a bounds.0; word = bounds.1 }
+      record { address = a; place = refl; rows = λ o. refl; there = refl; over_word = refl; low = in_ram a bounds.0; word = bounds.1; may = tt }
 
   pub scratch_located : (n : ℕ) → n < 15 → Located k w (operand.Scratch n)
   scratch_located n few =
       let low : 0x300 ≤ 768 + n = omega arith in
       let word : 768 + n < 65536 = omega (arith, few) in
-      record { address = SCRATCH + n; place = refl; rows = λ o. refl; there = refl; over_word = refl; low = low; word = word }
+      record { address = SCRATCH + n; place = refl; rows = λ o. refl; there = refl; over_word = refl; low = low; word = word; may = tt }
 
   pub object_located : (o : VarRef) → 0x300 ≤ object_address k.places o → object_address k.places o < 65536 → Located k w (operand.Direct o)
-  object_located o low word = record { address = object_address k.places o; place = refl; rows = λ p. refl; there = refl; over_word = refl; low = low; word = word }
+  object_located o low word = record { address = object_address k.places o; place = refl; rows = λ p. refl; there = refl; over_word = refl; low = low; word = word; may = tt }
 
-  pub pointer_located : 0x300 ≤ w.ar 1 → w.ar 1 < 65536 → Located k w operand.Pointed
-  pointer_located low word = record { address = w.ar 1; place = refl; rows = λ o. refl; there = refl; over_word = refl; low = low; word = word }
+  pub pointer_located : 0x300 ≤ w.ar 1 → w.ar 1 < 65536 → k.lives (w.ar 1) ≡ true → Located k w operand.Pointed
+  pointer_located low word lives = record { address = w.ar 1; place = refl; rows = λ o. refl; there = refl; over_word = refl; low = low; word = word; may = lives }
 
   module _ (v : Machine) (h : Beside k v w) where
     -- an object at an address where something lives
@@ -80,7 +83,7 @@ module _ (k : Site) (site : IsSite k) (w : Work) where
     pointer_there q is lives =
         let bounds = site.objects q (living k v w q h lives) in
         let same : q ≡ w.ar 1 = h.pointed q is in
-        pointer_located (subst (λ b. 0x300 ≤ b) same (in_ram q bounds.0)) (subst (λ b. b < 65536) same bounds.1)
+        pointer_located (subst (λ b. 0x300 ≤ b) same (in_ram q bounds.0)) (subst (λ b. b < 65536) same bounds.1) (subst (λ b. k.lives b ≡ true) same (living k v w q h lives))
 
     object_by : (o : VarRef) (b : Option ℕ) (x : ℕ) → k.at o ≡ b → word_at b v.outside.memory ≡ Some x → Located k w (operand.Direct o)
     object_by o None x is e = absurd (none-some x e)

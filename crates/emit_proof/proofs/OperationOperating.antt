@@ -31,6 +31,7 @@ use Rattle.emit_proof.proofs.Located.{Located, scalar_located, parameter_located
 use Rattle.emit_proof.proofs.Stored.{StoreComes, store_comes}
 use Rattle.emit_proof.proofs.Rows.{RowDoes, word_does, constant_does, put_does}
 use Rattle.emit_proof.proofs.StoreRows.{low_does, high_does, taken_state, taken_work, beside_taken, take_does}
+use Rattle.emit_proof.proofs.Accessing.{may_alike}
 use Rattle.emit_proof.proofs.Meeting.{InputStops, OperationMeets}
 
 -- a row's step means the same wherever AR1 is the same
@@ -95,7 +96,7 @@ module _ (k : Site) (site : IsSite k) (v : Machine) (w : Work) (h : Beside k v w
       acted_by x e None is = refl
       acted_by x e (Some s) is =
           let located = read_located k site w v h m x read named e in
-          (refl, by_row o located (record v { registers = s }) (word_does k v w h o located.address x s reads has located.low located.word (word_there x e located) is), refl)
+          (refl, by_row o located (record v { registers = s }) (word_does k v w h o located.address x s reads has located.low located.word (word_there x e located) is), refl, located.may)
 
       read_by : (b : Option ℕ) → held k.at m v ≡ b → OperationMeets k (the_step o) v w (act_on o b v)
       read_by None e = refl
@@ -109,12 +110,12 @@ module _ (k : Site) (site : IsSite k) (v : Machine) (w : Work) (h : Beside k v w
     put_by port few read None e = refl
     put_by port few read (Some x) e =
         let located = read_located k site w v h m x read named e in
-        (refl, by_row (row.Out port) located _ (put_does k v w h port located.address x few located.low located.word (word_there x e located)), refl)
+        (refl, by_row (row.Out port) located _ (put_does k v w h port located.address x few located.low located.word (word_there x e located)), refl, located.may)
 
     -- rows that store one
     module _ (written : IsTaken Written_word m) where
       low_by : (shift x : ℕ) → shift < 8 → low_stored (low_half v.registers.acc) shift ≡ Some x → (r : Res Machine Flow) → store_to k.at m x v ≡ r → StoreComes k v w m r → OperationMeets k (the_step (row.Sacl shift)) v w r
-      low_by shift x few word (Gives flow u) e s = (s.0, by_row (row.Sacl shift) s.1.located u (low_does k site v w h m named shift x flow u few word e s.1), s.1.work)
+      low_by shift x few word (Gives flow u) e s = (s.0, by_row (row.Sacl shift) s.1.located u (low_does k site v w h m named shift x flow u few word e s.1), s.1.work, s.1.located.may)
       low_by shift x few word (Finished ending outs total) e s = absurd s
       low_by shift x few word (TooMany outs) e s = absurd s
       low_by shift x few word (Fails outs) e s = s
@@ -124,7 +125,7 @@ module _ (k : Site) (site : IsSite k) (v : Machine) (w : Work) (h : Beside k v w
       stores_low shift few (Some x) e = low_by shift x few e (store_to k.at m x v) refl (store_comes k site w v h x m written named)
 
       high_by : (shift x : ℕ) → shift < 8 → high_stored (whole_of v.registers.acc) shift ≡ Some x → (r : Res Machine Flow) → store_to k.at m x v ≡ r → StoreComes k v w m r → OperationMeets k (the_step (row.Sach shift)) v w r
-      high_by shift x few word (Gives flow u) e s = (s.0, by_row (row.Sach shift) s.1.located u (high_does k site v w h m named shift x flow u few word e s.1), s.1.work)
+      high_by shift x few word (Gives flow u) e s = (s.0, by_row (row.Sach shift) s.1.located u (high_does k site v w h m named shift x flow u few word e s.1), s.1.work, s.1.located.may)
       high_by shift x few word (Finished ending outs total) e s = absurd s
       high_by shift x few word (TooMany outs) e s = absurd s
       high_by shift x few word (Fails outs) e s = s
@@ -137,7 +138,7 @@ module _ (k : Site) (site : IsSite k) (v : Machine) (w : Work) (h : Beside k v w
       take_by port x xs few is (Gives flow u) e s =
           let o : AccOp = row.In port in
           let rows = sym (rows_alike o (reach_of k.places m) w (taken_work w port xs) refl) ∙ s.1.located.rows o in
-          (s.0, subst (λ code. RowDoes k code v.outside.outs w u) (sym rows) (take_does k site v w h m named port x xs flow u few is e s.1), s.1.work)
+          (s.0, subst (λ code. RowDoes k code v.outside.outs w u) (sym rows) (take_does k site v w h m named port x xs flow u few is e s.1), s.1.work, may_alike k (reach_of k.places m) (taken_work w port xs) w refl s.1.located.may)
       take_by port x xs few is (Finished ending outs total) e s = absurd s
       take_by port x xs few is (TooMany outs) e s = absurd s
       take_by port x xs few is (Fails outs) e s = s
@@ -154,7 +155,7 @@ module _ (k : Site) (site : IsSite k) (v : Machine) (w : Work) (h : Beside k v w
   module _ (o : AccOp) (takes : TakesConstant o) (has : HasRange o) where
     constant_by : (c : ℕ) → IsConstantOf o c → c < 65536 → (s : Option Registers) → acted o c v.registers ≡ s → OperationMeets k (step o (reach.Constant c)) v w (registers_become s v)
     constant_by c of_row word None is = refl
-    constant_by c of_row word (Some s) is = (refl, constant_does k v w h o c s takes has of_row word is, refl)
+    constant_by c of_row word (Some s) is = (refl, constant_does k v w h o c s takes has of_row word is, refl, tt)
 
     constant_on : (c : ℕ) → IsConstantOf o c → c < 65536 → OperationMeets k (step o (reach.Constant c)) v w (act_on o (Some c) v)
     constant_on c of_row word = constant_by c of_row word (acted o c v.registers) refl

@@ -17,7 +17,8 @@ use Rattle.emit_proof.specs.Reaching.{IsOverList, AreOverLists, is_word, reach_a
 use Rattle.emit_proof.specs.Direct.{TakeReaches, StepsReady, behind_steps, outputs_of_steps, AlikeOutside, CanRun, RunsAlike}
 use Rattle.emit_proof.proofs.Counting.{all_few}
 use Rattle.emit_proof.proofs.Directly.{alike_itself}
-use Rattle.emit_proof.proofs.Whole.{steps_run, input_ends_soon, part_runs}
+use Rattle.emit_proof.specs.Accessing.{StepsMay}
+use Rattle.emit_proof.proofs.Whole.{steps_run, steps_may, input_ends_soon, part_runs, part_may}
 use Rattle.emit_proof.proofs.TakingBeside.{steps_take, steps_over}
 use Rattle.emit_proof.proofs.Wording.{steps_words}
 use Rattle.emit_proof.proofs.Made.{alike_again}
@@ -75,28 +76,30 @@ module _ (k : Site) (d : ℕ) (v : Machine) (w : Work) where
         work = r.work;
         put = outputs_of_steps xs w;
         runs = r.runs;
+        accesses = steps_may d xs w w (alike_itself w) can k does.may;
         beside = alike_beside k u (behind_steps xs w) r.work does.beside r.alike ranged;
         outputs = does.outputs;
         within = omega (arith, few, within);
       }
 
-  front_ends : (front : List Step) (port : ℕ) (r : Reach) (rest : List Step) → AreSteps (front ++ step (row.In port) r ∷ rest) → StepsReady front w → is_word r ≡ true → 0x300 ≤ reach_address (behind_steps front w) r → (behind_steps front w).input port ≡ []
-      → (all : Outputs) (total : ℕ) → all ≡ v.outside.outs ++ outputs_of_steps front w → suc (length front) + 2 * v.work ≤ 2 * total → CodeEnds (all_steps_code d (front ++ step (row.In port) r ∷ rest)) v w (InputEnded port) all total
-  front_ends front port r rest are ready over_word low none all total outputs within =
+  front_ends : (front : List Step) (port : ℕ) (r : Reach) (rest : List Step) → AreSteps (front ++ step (row.In port) r ∷ rest) → StepsReady front w → StepsMay k front w → is_word r ≡ true → 0x300 ≤ reach_address (behind_steps front w) r → (behind_steps front w).input port ≡ []
+      → (all : Outputs) (total : ℕ) → all ≡ v.outside.outs ++ outputs_of_steps front w → suc (length front) + 2 * v.work ≤ 2 * total → CodeEnds k (all_steps_code d (front ++ step (row.In port) r ∷ rest)) v w (InputEnded port) all total
+  front_ends front port r rest are ready may over_word low none all total outputs within =
       let x : Step = step (row.In port) r in
       let soon = input_ends_soon d front port r rest w w (alike_itself w) (can_run front (x ∷ rest) w are ready) over_word (list_at front x rest are.lists) low none in
       let few = soon.1 in
-      record { put = outputs_of_steps front w; ends = soon.0; outputs = outputs; within = omega (arith, few, within) }
+      record { put = outputs_of_steps front w; ends = soon.0; accesses = soon.2 k may; outputs = outputs; within = omega (arith, few, within) }
 
-  ends_run : (xs : List Step) → AreSteps xs → (ending : Ending) (all : Outputs) (total : ℕ) → StepsEnd xs v.outside.outs v.work w ending all total → CodeEnds (all_steps_code d xs) v w ending all total
+  ends_run : (xs : List Step) → AreSteps xs → (ending : Ending) (all : Outputs) (total : ℕ) → StepsEnd k xs v.outside.outs v.work w ending all total → CodeEnds k (all_steps_code d xs) v w ending all total
   ends_run xs are ending all total e =
-      let there = front_ends e.front e.port e.reached e.rest (subst AreSteps e.is are) e.ready e.over_word e.low e.none all total e.outputs e.within in
-      subst (λ i. CodeEnds (all_steps_code d xs) v w i all total) e.ends (subst (λ ys. CodeEnds (all_steps_code d ys) v w (InputEnded e.port) all total) (sym e.is) there)
+      let there = front_ends e.front e.port e.reached e.rest (subst AreSteps e.is are) e.ready e.may e.over_word e.low e.none all total e.outputs e.within in
+      subst (λ i. CodeEnds k (all_steps_code d xs) v w i all total) e.ends (subst (λ ys. CodeEnds k (all_steps_code d ys) v w (InputEnded e.port) all total) (sym e.is) there)
 
-  stops_run : (xs : List Step) → AreSteps xs → (all : Outputs) → StepsStop xs v.outside.outs w all → CodeStops (all_steps_code d xs) v w all
+  stops_run : (xs : List Step) → AreSteps xs → (all : Outputs) → StepsStop k xs v.outside.outs w all → CodeStops k (all_steps_code d xs) v w all
   stops_run xs are all s =
-      let part = part_runs d s.front s.rest w w (alike_itself w) (can_run s.front s.rest w (subst AreSteps s.is are) s.ready) in
-      subst (λ ys. CodeStops (all_steps_code d ys) v w all) (sym s.is) (record { put = outputs_of_steps s.front w; part = part; outputs = s.outputs })
+      let can = can_run s.front s.rest w (subst AreSteps s.is are) s.ready in
+      let part = part_runs d s.front s.rest w w (alike_itself w) can in
+      subst (λ ys. CodeStops k (all_steps_code d ys) v w all) (sym s.is) (record { put = outputs_of_steps s.front w; part = part; accesses = part_may d s.front s.rest w w (alike_itself w) can k s.may; outputs = s.outputs })
 
   code_meets : (xs : List Step) → AreSteps xs → AreInstrs (all_steps_code d xs) → InRange w → (r : Res Machine Flow) → StepsMeet k xs v.outside.outs v.work w r → CodeMeets k (all_steps_code d xs) v w r
   code_meets xs are instrs range (Gives flow u) m = (m.0, whole_runs xs are instrs range u m.1)

@@ -22,6 +22,7 @@ use Rattle.emit_proof.specs.Direct.{direct_row, behind_step}
 use Rattle.emit_proof.specs.Registers.{RegistersAlike}
 use Rattle.emit_proof.specs.Standing.{IsNamed}
 use Rattle.emit_proof.proofs.Holding.{operand_read}
+use Rattle.emit_proof.specs.Accessing.{ReachMay}
 use Rattle.emit_proof.specs.Sites.{Site, IsSite, Beside}
 use Rattle.emit_proof.specs.Operations.{operate, AreNamed, IsUsable, AreUsable}
 use Rattle.emit_proof.proofs.Knowing.{more_work_beside}
@@ -57,7 +58,7 @@ module _ (k : Site) (site : IsSite k) (v : Machine) (w : Work) (h : Beside k v w
   pointing_alike : (x : ℕ) → RegistersAlike (pointing x v.registers) w
   pointing_alike x = let r = h.registers in record { acc = tt; t = r.t; p = r.p; sxm = r.sxm }
 
-  module _ (r : Reach) (x : ℕ) (word : x < 65536) (does : RowDoes k (direct_row row.Point r w) v.outside.outs w (record ticked { registers = pointing x v.registers })) where
+  module _ (r : Reach) (x : ℕ) (word : x < 65536) (does : RowDoes k (direct_row row.Point r w) v.outside.outs w (record ticked { registers = pointing x v.registers })) (may : ReachMay k w r) where
     abbrev the_step : Step
     the_step = step row.Point r
 
@@ -71,7 +72,7 @@ module _ (k : Site) (site : IsSite k) (v : Machine) (w : Work) (h : Beside k v w
         let more : 1 + 2 * begun ≤ 2 * (v.work + 3) = omega (arith, few) in
         let rest = subst (StepsMeet k ys v.outside.outs (v.work + 3) (behind_step the_step w)) (alike u) (others (without_acc u) (behind_step the_step w) does.beside) in
         subst (λ z. StepsMeet k (the_step ∷ ys) v.outside.outs begun w (next (record ticked { registers = record loaded { pointed = Some z } }))) (sym (same_Some y x e))
-        (step_before k the_step v.outside.outs begun (v.work + 3) w (without_acc u) does more ys (next u) rest)
+        (step_before k the_step v.outside.outs begun (v.work + 3) w (without_acc u) does may more ys (next u) rest)
 
     loads_then : StepsMeet k (the_step ∷ ys) v.outside.outs begun w (point_then k operand.Nothing next (record v { registers = loaded }))
     loads_then = pointed_then (low_half (scaled v.registers.sxm x 0)) (loaded_low v.registers.sxm x word)
@@ -85,11 +86,11 @@ module _ (k : Site) (site : IsSite k) (v : Machine) (w : Work) (h : Beside k v w
       let is : w.ram located.address ≡ x = operand_read k.places k.counts k.kept v w.ram h.stands k.at m (w.ar 1) located.address x site.addresses h.pointed e located.place in
       let word : x < 65536 = subst (λ n. n < 65536) is (h.range.ram located.address) in
       let does = point_does k ticked w ticked_beside (pointing x v.registers) (pointing_alike x) x refl located.address located.low located.word is in
-      loads_then (reach_of k.places m) x word (subst (λ code. RowDoes k code v.outside.outs w (record ticked { registers = pointing x v.registers })) (sym (located.rows row.Point)) does)
+      loads_then (reach_of k.places m) x word (subst (λ code. RowDoes k code v.outside.outs w (record ticked { registers = pointing x v.registers })) (sym (located.rows row.Point)) does) located.may
 
   -- from a constant
   number_then : (x : ℕ) → x < 65536 → StepsMeet k (step row.Point (reach.Constant x) ∷ ys) v.outside.outs begun w (after (act_on (row.Lalk 0) (Some x) v) (λ flow. in_order flow (point_then k operand.Nothing next)))
-  number_then x word = loads_then (reach.Constant x) x word (address_does k ticked w ticked_beside (pointing x v.registers) (pointing_alike x) x refl word)
+  number_then x word = loads_then (reach.Constant x) x word (address_does k ticked w ticked_beside (pointing x v.registers) (pointing_alike x) x refl word) tt
 
   cell_then : (i base : ℕ) (b : Option ℕ) → ((a : ℕ) → b ≡ Some a → base ≡ a)
       → StepsMeet k (step row.Point (reach.Constant (wrap16 (base + i))) ∷ ys) v.outside.outs begun w (after (act_on (row.Lalk 0) (cell_at b i) v) (λ flow. in_order flow (point_then k operand.Nothing next)))
@@ -134,8 +135,8 @@ module _ (k : Site) (site : IsSite k) (v : Machine) (w : Work) (h : Beside k v w
       let second = point_does k t z beside s (record { acc = r.acc; t = r.t; p = r.p; sxm = r.sxm }) x refl POINT_WORD (lit≤ tt) (lit< tt) (point_stored k site v w h x e) in
       let one : 1 + 2 * v.work ≤ 2 * (v.work + 1) = omega arith in
       let two : 1 + 2 * (v.work + 1) ≤ 2 * (v.work + 3) = omega arith in
-      step_before k stores v.outside.outs v.work (v.work + 1) w v first one (points ∷ ys) (next u)
-      (step_before k points v.outside.outs (v.work + 1) (v.work + 3) z u second two ys (next u) (others u (behind_step points z) second.beside))
+      step_before k stores v.outside.outs v.work (v.work + 1) w v first tt one (points ∷ ys) (next u)
+      (step_before k points v.outside.outs (v.work + 1) (v.work + 3) z u second tt two ys (next u) (others u (behind_step points z) second.beside))
 
   point_meets : (m : AccOperand) → m ≡ operand.Nothing → StepsMeet k (stores ∷ points ∷ ys) v.outside.outs v.work w (point_then k m next v)
   point_meets m e = subst (λ n. StepsMeet k (stores ∷ points ∷ ys) v.outside.outs v.work w (point_then k n next v)) (sym e) (point_by (low_half v.registers.acc) refl)

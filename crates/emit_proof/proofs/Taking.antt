@@ -6,7 +6,9 @@ use Rattle.c25_isa.specs.declared.instruction.Instr.{Instr}
 use Rattle.c25_isa.specs.declared.instruction.Instr.TheVariants as instr
 use Rattle.c25_isa.specs.Step.{wrap32, extended, plus, minus}
 use Rattle.c25_code.specs.Work.{Work}
+use Rattle.c25_code.specs.Accesses.{CodeMay}
 use Rattle.c25_code.specs.CodeRuns.{CodeRuns}
+use Rattle.emit_proof.specs.Accessing.{no_access}
 use Rattle.emit_control.specs.Cuts.{taken_away, added, less_by}
 
 abbrev pub with_acc : ℕ → Work → Work
@@ -27,9 +29,10 @@ once sxm n lt = let e : extended sxm n ≡ n = small sxm n lt in omega (arith, e
 twice : (sxm : Bool) (n : ℕ) → n < 32768 → wrap32 (extended sxm n * 2 ^ 1) ≡ 2 * n
 twice sxm n lt = let e : extended sxm n ≡ n = small sxm n lt in omega (arith, e, lt)
 
--- code that makes the accumulator this, in at most two instructions
+-- code that makes the accumulator this, in at most two instructions, which access no data memory
 pub record MakesAcc (code : List Instr) (w : Work) (a : ℕ) : Type 0 where
   pub runs : CodeRuns code w (with_acc a w) []
+  pub accesses : CodeMay no_access code w
   pub few : length code ≤ 2
 
 same_acc : (w : Work) (a b : ℕ) → a ≡ b → with_acc a w ≡ with_acc b w
@@ -44,6 +47,7 @@ taken w n acc lt = by (n == 0) refl
         let two : wrap32 (extended w.sxm (n / 2) * 2 ^ 1) ≡ 2 * (n / 2) = twice w.sxm (n / 2) (omega (arith, lt)) in
         record {
           runs = record { ready = (tt, tt); reaches = same_acc w _ _ (ap (minus w.acc) two ∙ ap (minus w.acc) (let h : 2 * (n / 2) ≡ n = omega (arith, even) in h)); outputs = refl };
+          accesses = (tt, tt);
           few = omega arith;
         }
     odd false e ge =
@@ -53,24 +57,25 @@ taken w n acc lt = by (n == 0) refl
         let sum : minus (minus w.acc (2 * (n / 2))) 1 ≡ minus w.acc n = omega (arith, uneven, lt, acc) in
         record {
           runs = record { ready = (tt, (tt, tt)); reaches = same_acc w _ _ (ap (λ m. minus (minus w.acc m) 1) two ∙ sum); outputs = refl };
+          accesses = (tt, (tt, tt));
           few = omega arith;
         }
 
     large : (b : Bool) → nat_lt n 32768 ≡ b → MakesAcc (if b then instr.Sblk 0 n ∷ [] else instr.Sblk 1 (n / 2) ∷ (if n % 2 == 0 then [] else instr.Subk 1 ∷ [])) w (minus w.acc n)
     large true e =
         let one : wrap32 (extended w.sxm n * 2 ^ 0) ≡ n = once w.sxm n (ltb-true n 32768 e) in
-        record { runs = record { ready = (tt, tt); reaches = same_acc w _ _ (ap (minus w.acc) one); outputs = refl }; few = omega arith }
+        record { runs = record { ready = (tt, tt); reaches = same_acc w _ _ (ap (minus w.acc) one); outputs = refl }; accesses = (tt, tt); few = omega arith }
     large false e = odd (n % 2 == 0) refl (ltb-false n 32768 e)
 
     byte : (b : Bool) → nat_lt n 256 ≡ b → MakesAcc (if b then instr.Subk n ∷ [] else (if nat_lt n 32768 then instr.Sblk 0 n ∷ [] else instr.Sblk 1 (n / 2) ∷ (if n % 2 == 0 then [] else instr.Subk 1 ∷ []))) w (minus w.acc n)
-    byte true e = record { runs = record { ready = (tt, tt); reaches = refl; outputs = refl }; few = omega arith }
+    byte true e = record { runs = record { ready = (tt, tt); reaches = refl; outputs = refl }; accesses = (tt, tt); few = omega arith }
     byte false e = large (nat_lt n 32768) refl
 
     by : (b : Bool) → (n == 0) ≡ b → MakesAcc (if b then [] else (if nat_lt n 256 then instr.Subk n ∷ [] else (if nat_lt n 32768 then instr.Sblk 0 n ∷ [] else instr.Sblk 1 (n / 2) ∷ (if n % 2 == 0 then [] else instr.Subk 1 ∷ [])))) w (minus w.acc n)
     by true e =
         let none : n ≡ 0 = eqb-true n 0 e in
         let stays : w.acc ≡ minus w.acc n = omega (arith, none, acc) in
-        record { runs = record { ready = tt; reaches = same_acc w w.acc (minus w.acc n) stays; outputs = refl }; few = omega arith }
+        record { runs = record { ready = tt; reaches = same_acc w w.acc (minus w.acc n) stays; outputs = refl }; accesses = tt; few = omega arith }
     by false e = byte (nat_lt n 256) refl
 
 put_back : (w : Work) (n : ℕ) → w.acc < 4294967296 → n < 65536 → MakesAcc (added n) w (plus w.acc n)
@@ -82,6 +87,7 @@ put_back w n acc lt = byte (nat_lt n 256) refl
         let two : wrap32 (extended w.sxm (n / 2) * 2 ^ 1) ≡ 2 * (n / 2) = twice w.sxm (n / 2) (omega (arith, lt)) in
         record {
           runs = record { ready = (tt, tt); reaches = same_acc w _ _ (ap (plus w.acc) two ∙ ap (plus w.acc) (let h : 2 * (n / 2) ≡ n = omega (arith, even) in h)); outputs = refl };
+          accesses = (tt, tt);
           few = omega arith;
         }
     odd false e =
@@ -91,17 +97,18 @@ put_back w n acc lt = byte (nat_lt n 256) refl
         let sum : plus (plus w.acc (2 * (n / 2))) 1 ≡ plus w.acc n = omega (arith, uneven, lt, acc) in
         record {
           runs = record { ready = (tt, (tt, tt)); reaches = same_acc w _ _ (ap (λ m. plus (plus w.acc m) 1) two ∙ sum); outputs = refl };
+          accesses = (tt, (tt, tt));
           few = omega arith;
         }
 
     large : (b : Bool) → nat_lt n 32768 ≡ b → MakesAcc (if b then instr.Adlk 0 n ∷ [] else instr.Adlk 1 (n / 2) ∷ (if n % 2 == 0 then [] else instr.Addk 1 ∷ [])) w (plus w.acc n)
     large true e =
         let one : wrap32 (extended w.sxm n * 2 ^ 0) ≡ n = once w.sxm n (ltb-true n 32768 e) in
-        record { runs = record { ready = (tt, tt); reaches = same_acc w _ _ (ap (plus w.acc) one); outputs = refl }; few = omega arith }
+        record { runs = record { ready = (tt, tt); reaches = same_acc w _ _ (ap (plus w.acc) one); outputs = refl }; accesses = (tt, tt); few = omega arith }
     large false e = odd (n % 2 == 0) refl
 
     byte : (b : Bool) → nat_lt n 256 ≡ b → MakesAcc (if b then instr.Addk n ∷ [] else (if nat_lt n 32768 then instr.Adlk 0 n ∷ [] else instr.Adlk 1 (n / 2) ∷ (if n % 2 == 0 then [] else instr.Addk 1 ∷ []))) w (plus w.acc n)
-    byte true e = record { runs = record { ready = (tt, tt); reaches = refl; outputs = refl }; few = omega arith }
+    byte true e = record { runs = record { ready = (tt, tt); reaches = refl; outputs = refl }; accesses = (tt, tt); few = omega arith }
     byte false e = large (nat_lt n 32768) refl
 
 -- from a number less one word to the number less another
@@ -117,10 +124,10 @@ less_made w z before n lt lb ln is = by (nat_le before n) refl
         let made = taken w (n - before) acc (omega (arith, ln)) in
         let same : minus w.acc (n - before) ≡ minus z n = omega (arith, is, le, lt, lb, ln) in
         let runs = made.runs in
-        record { runs = record { ready = runs.ready; reaches = runs.reaches ∙ same_acc w _ _ same; outputs = runs.outputs }; few = made.few }
+        record { runs = record { ready = runs.ready; reaches = runs.reaches ∙ same_acc w _ _ same; outputs = runs.outputs }; accesses = made.accesses; few = made.few }
     by false e =
         let le : n < before = leb-false before n e in
         let made = put_back w (before - n) acc (omega (arith, lb)) in
         let same : plus w.acc (before - n) ≡ minus z n = omega (arith, is, le, lt, lb, ln) in
         let runs = made.runs in
-        record { runs = record { ready = runs.ready; reaches = runs.reaches ∙ same_acc w _ _ same; outputs = runs.outputs }; few = made.few }
+        record { runs = record { ready = runs.ready; reaches = runs.reaches ∙ same_acc w _ _ same; outputs = runs.outputs }; accesses = made.accesses; few = made.few }

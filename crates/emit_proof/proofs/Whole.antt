@@ -6,7 +6,8 @@ use Rattle.c25_isa.specs.declared.instruction.Instr.TheVariants.{In}
 use Rattle.c25_isa.specs.declared.operand.Operand.{Operand}
 use Rattle.c25_isa.specs.State.{write}
 use Rattle.c25_code.specs.Work.{Work}
-use Rattle.c25_code.specs.Straight.{operand_address}
+use Rattle.c25_code.specs.Straight.{operand_address, behind_code}
+use Rattle.c25_code.specs.Accesses.{CodeMay}
 use Rattle.c25_code.specs.CodeRuns.{CodeRuns, EndsAtInput, RunsInPart}
 use Rattle.c25_code.proofs.CodeRuns.{runs_on}
 use Rattle.acc_code.specs.declared.operation.AccOp.TheVariants as row
@@ -19,6 +20,9 @@ use Rattle.emit_blocks.specs.Right.{HasWords, HaveWords}
 use Rattle.emit_blocks.specs.Runs.{nothing_known, known_behind, index_code, steps_code, all_steps_code}
 use Rattle.emit_proof.specs.Reaching.{is_word, reach_address, IsOverList, before_row, row_operand, row_instr, brought, indexed}
 use Rattle.emit_proof.specs.Direct.{behind_steps, outputs_of_steps, AlikeOutside, RunsAlike, CanRun}
+use Rattle.emit_proof.specs.Accessing.{site_may, StepsMay}
+use Rattle.emit_proof.specs.Sites.{Site}
+use Rattle.emit_proof.proofs.Accessing.{may_append, before_may, index_may}
 use Rattle.emit_proof.proofs.Bringing.{code_is, before_runs}
 use Rattle.emit_proof.proofs.Counting.{before_few, index_few}
 use Rattle.emit_proof.proofs.ReachStanding.{address_is, starts_known, starts_run}
@@ -47,8 +51,17 @@ module _ (d : ℕ) (front rest : List Step) (w v : Work) (same : AlikeOutside w 
   whole_runs : CodeRuns (start ++ done.code) w done.work (outputs_of_steps front v)
   whole_runs = runs_on start done.code w (indexed d (front ++ rest) w) done.work [] (outputs_of_steps front v) (starts_run d (front ++ rest) w) done.runs
 
+  whole_may : (site : Site) → StepsMay site front v → CodeMay (site_may site) (start ++ done.code) w
+  whole_may site m =
+      may_append (site_may site) start done.code w (index_may (site_may site) d (front ++ rest) w)
+      (subst (CodeMay (site_may site) done.code) (sym (starts_run d (front ++ rest) w).reaches) (done.allowed site m))
+
   pub part_runs : RunsInPart (all_steps_code d (front ++ rest)) w (outputs_of_steps front v)
   part_runs = record { front = start ++ done.code; rest = steps_code d done.known rest; is = whole_is; work = done.work; runs = whole_runs }
+
+  pub part_may : (site : Site) → StepsMay site front v → CodeMay (site_may site) part_runs.front w
+  unfolding part_runs
+  part_may = whole_may
 
 pub steps_run : (d : ℕ) (xs : List Step) (w v : Work) → AlikeOutside w v → CanRun xs [] v → RunsAlike (all_steps_code d xs) w (behind_steps xs v) (outputs_of_steps xs v)
 steps_run d xs w v same can =
@@ -60,6 +73,13 @@ steps_run d xs w v same can =
       runs = subst (λ c. CodeRuns c w (done d xs [] w v same can).work (outputs_of_steps xs v)) equal (whole_runs d xs [] w v same can);
       alike = (done d xs [] w v same can).alike;
     }
+
+pub steps_may : (d : ℕ) (xs : List Step) (w v : Work) → AlikeOutside w v → CanRun xs [] v → (site : Site) → StepsMay site xs v → CodeMay (site_may site) (all_steps_code d xs) w
+steps_may d xs w v same can site m =
+    let code : List Instr = start d xs [] w v same can ++ (done d xs [] w v same can).code in
+    let is : all_steps_code d (xs ++ []) ≡ code ++ [] = whole_is d xs [] w v same can in
+    let equal : code ≡ all_steps_code d xs = sym (append-nil code) ∙ sym is ∙ ap (all_steps_code d) (append-nil xs) in
+    subst (λ c. CodeMay (site_may site) c w) equal (whole_may d xs [] w v same can site m)
 
 -- the address of a step is the same outside
 address_alike : (r : Reach) (w v : Work) → AlikeOutside w v → reach_address w r ≡ reach_address v r
@@ -85,7 +105,7 @@ words_at [] x rest words = words.0
 words_at (y ∷ front) x rest words = words_at front x rest words.1
 
 pub input_ends_soon : (d : ℕ) (front : List Step) (port : ℕ) (r : Reach) (rest : List Step) (w v : Work) → AlikeOutside w v → CanRun front (step (row.In port) r ∷ rest) v → is_word r ≡ true → IsOverList r → 0x300 ≤ reach_address (behind_steps front v) r → (behind_steps front v).input port ≡ []
-    → (at : EndsAtInput (all_steps_code d (front ++ step (row.In port) r ∷ rest)) w (outputs_of_steps front v) (InputEnded port)) × (length at.front ≤ 3 * length front + 3)
+    → (at : EndsAtInput (all_steps_code d (front ++ step (row.In port) r ∷ rest)) w (outputs_of_steps front v) (InputEnded port)) × (length at.front ≤ 3 * length front + 3) × ((site : Site) → StepsMay site front v → CodeMay (site_may site) at.front w)
 input_ends_soon d front port r rest w v same can word list low none =
     let x : Step = step (row.In port) r in
     let f = done d front (x ∷ rest) w v same can in
@@ -115,4 +135,7 @@ input_ends_soon d front port r rest w v same can word list low none =
         ends = refl;
       },
       omega (arith, one, two, few, both, all),
+      λ site m.
+          may_append (site_may site) code before w (whole_may d front (x ∷ rest) w v same can site m)
+          (before_may (site_may site) f.known r (behind_code code w)),
     )

@@ -14,6 +14,7 @@ use Rattle.c25_isa.specs.CodeAt.{StandsAt, CodeAt}
 use Rattle.c25_isa.specs.Leads.{Leads}
 use Rattle.c25_isa.specs.Pieces.{items_size, ItemsAt}
 use Rattle.c25_code.specs.Work.{Work, InRange, calm}
+use Rattle.c25_code.specs.Accesses.{Accesses, LeadsWithin}
 use Rattle.c25_code.specs.Items.{no_change, return_code}
 use Rattle.c25_helper.specs.Results.{HelperResult}
 use Rattle.ir_semantics.specs.Parts.{Gives, Does, Flow, Next}
@@ -27,6 +28,7 @@ use Rattle.emit_control.specs.Entries.{Wipe}
 use Rattle.emit_control.specs.Cuts.{State, dispatch_items, entry_items}
 use Rattle.emit_control.specs.Settings.{Setting, function_name, helper_name, routine_of}
 use Rattle.emit_proof.specs.Sites.{Site, IsSite, Beside}
+use Rattle.emit_proof.specs.Accessing.{no_access, site_may}
 use Rattle.emit_proof.specs.Operations.{operate, AreNamed, IsUsable, AreUsable, CodeMeets}
 use Rattle.emit_proof.specs.Arrivals.{Begun, ComesTo, MeetsCall}
 use Rattle.emit_proof.specs.Entries.{Passes, EntryAt}
@@ -49,20 +51,21 @@ abbrev pub chosen : Option ℕ → ℕ → ℕ → ℕ
 chosen None l behind = behind
 chosen (Some i) l behind = l + i
 
--- the machine goes from one address to another, and only the accumulator becomes another one, in a few steps for each value
+-- the machine goes from one address to another, and only the accumulator becomes another one, in a few steps for each value, which
+-- access no data memory
 pub record DispatchArrives (program : Memory) (pc to : ℕ) (w : Work) (cs : List CaseLabel) : Type 0 where
   pub steps : ℕ
   pub acc : ℕ
-  pub leads : Leads steps (calm program pc w) (calm program to (record w { acc = acc })) []
+  pub leads : LeadsWithin (Accesses no_access) steps (calm program pc w) (calm program to (record w { acc = acc })) []
   pub range : acc < 2 ^ 32
   pub some : 1 ≤ steps
   pub few : steps ≤ 64 * labels_weight cs + 1
 
--- the machine goes on to an address, beside the state behind the clearing
+-- the machine goes on to an address, beside the state behind the clearing, and accesses data memory as it may
 pub record ClearArrives (program : Memory) (k : Site) (pc to : ℕ) (v : Machine) (w : Work) (u : Machine) : Type 0 where
   pub steps : ℕ
   pub work : Work
-  pub leads : Leads steps (calm program pc w) (calm program to work) []
+  pub leads : LeadsWithin (Accesses (site_may k)) steps (calm program pc w) (calm program to work) []
   pub beside : Beside k u work
   pub outputs : u.outside.outs ≡ v.outside.outs
   pub within : steps + 64 * v.work ≤ 64 * u.work

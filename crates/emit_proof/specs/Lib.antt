@@ -8,6 +8,7 @@ pub mod Direct
 pub mod Addressed
 pub mod Standing
 pub mod Sites
+pub mod Accessing
 pub mod Operations
 pub mod Arrivals
 pub mod Entries

@@ -8,4 +8,4 @@ mod row_laws;
 
 pub use flow_laws::marks_are_right;
 pub use laws::code_meets;
-pub use row_laws::rows_do_operations;
+pub use row_laws::{rows_do_operations, runs_do_operations};

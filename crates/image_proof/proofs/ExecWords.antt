@@ -3,6 +3,7 @@ use Rattle.std.proofs.Common.{◌≡◌, ◌∙◌, ◌⊎◌, inl, inr, ℕ, ze
 use Rattle.std.specs.Prelude.{◌==◌, nat_lt, slice_index, if◌then◌else◌}
 use Rattle.std.specs.List.{AllByRecursion}
 use Rattle.std.specs.Str.Lines.{lines}
+use Rattle.std.proofs.lemmas.Grind.{get_or_default_zero}
 use Rattle.std.proofs.lemmas.List.Elements.{All-cons, All-nil}
 use Rattle.word_base.specs.Ports.{IsInput, input_of}
 use Rattle.c25_isa.specs.declared.mnemonic.Form.{Form}
@@ -198,6 +199,9 @@ image_low pieces image linked fit a = by (cases_lt a (length image.words))
         let is = (linked.placed k p filled.1.there).stand (a - linked.place k) (omega (arith, from, ends, size)) in
         subst (λ w. w < 65536) (sym is ∙ ap (λ n. slice_index image.words n) same)
         (word_low (code_words (piece_code names (linked.place k) p)) (code_low (piece_code names (linked.place k) p) (piece_fits names (linked.place k) p (λ name. wraps_low (address_in linked.place pieces name)) (one_fits pieces fit k p filled.1.there).0)) (a - linked.place k))
+
+pub words_fit : (pieces : List Piece) (image : Contents) → Linked pieces image → PiecesFit pieces → All (λ w. w < 2 ^ 16) image.words
+words_fit pieces image linked fit a d within = subst (λ w. w < 2 ^ 16) (sym (get_or_default_zero image.words a d within)) (image_low pieces image linked fit a)
 
 pub zero_starts : (pieces : List Piece) (image : Contents) → Linked pieces image → PiecesFit pieces → IsStart (zero_start image.words)
 zero_starts pieces image linked fit = record {

@@ -25,7 +25,7 @@ word_is None a e = absurd (true≢false (sym e))
 word_is (Some b) a e = ap Some (eqb-true b a e)
 
 -- a scalar's word may be kept
-may_scalar : (e : Emission) (g : ℕ) (active : List ℕ) (f n : ℕ) (P : Place) → function_of P ≡ Some f → named e P ≡ Some (Scalar n) → IsAmong active f → MayKeep (g ∷ active) P
+pub may_scalar : (e : Emission) (g : ℕ) (active : List ℕ) (f n : ℕ) (P : Place) → function_of P ≡ Some f → named e P ≡ Some (Scalar n) → IsAmong active f → MayKeep (g ∷ active) P
 may_scalar e g active f n ScratchWords within names among = absurd (none-some f within)
 may_scalar e g active f n (StaticObject m) within names among = absurd (none-some f within)
 may_scalar e g active f n (ScalarWord h k i) within names among = subst (IsAmong active) (sym (same_Some h f within)) among

@@ -101,3 +101,5 @@ pub mod Directs
 pub mod JumpsWithin
 pub mod NamedCalls
 pub mod LeadsRight
+pub mod Listing
+pub mod Sparing

@@ -29,3 +29,4 @@ pub mod FrameWords
 pub mod FunctionWalks
 pub mod Directs
 pub mod Leading
+pub mod Listing

@@ -13,7 +13,7 @@ use Rattle.cc_compile.specs.c_syntax.declared.token.Token.{Token}
 use Rattle.cc_compile.specs.c_tree.SourceRun.{source_run}
 use Rattle.cc_compile.specs.c_tree.TypedTree.{ProgramTree}
 use Rattle.cc_compile.specs.Compiles.{HaveNames}
-use Rattle.cc_compile.specs.Images.{FrameJobs, HasFrames, HasImage, HasLinkFault, HasPlanFault, IsDirect, KeepsRuns, LeadsRight, TreeKeepsRuns}
+use Rattle.cc_compile.specs.Images.{FrameJobs, HasFrames, HasImage, HasLinkFault, HasPlanFault, IsDirect, KeepsRuns, LeadsRight, ListsFrames, TreeKeepsRuns}
 use Rattle.cc_compile.specs.declared.fault.BuildFault.TheVariants as build
 use Rattle.cc_compile.specs.image_proof.Agreeing.{EndsInTime}
 use Rattle.cc_compile.specs.lay_cert.Frames.{Frame}
@@ -63,6 +63,8 @@ pub record IsLaidOut (o : ProfileOptions) (r : Recording) (t : ProgramTree) (ima
   pub direct : ∥ IsDirect (searched o r t) t image ∥₁
   -- jumps lead to first words of instructions of their ranges, and calls to those of ranges and of routines
   pub leads : ∥ LeadsRight (searched o r t) t image ∥₁
+  -- in each run, words of frames are accessed as walks list it, or through another address register than AR2 to AR5
+  pub listed : ∥ ListsFrames (searched o r t) t image ∥₁
   pub is_entered : entered ≡ entered_from r 0 (accesses_of t)
 
 -- the bytes have a tree, and this a typed program that is laid out so

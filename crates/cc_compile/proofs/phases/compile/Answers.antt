@@ -10,7 +10,7 @@ use Rattle.c_tree.specs.TypedTree.{ProgramTree}
 use Rattle.frame_layouts.specs.declared.options.Options.{Options}
 use Rattle.image_proof.specs.Agreeing.{EndsInTime}
 use Rattle.cc_compile.specs.Apart.{LieApart}
-use Rattle.cc_compile.specs.Images.{HasFrames, HasImage, IsDirect, KeepsRuns, LeadsRight, TreeKeepsRuns, source_jobs}
+use Rattle.cc_compile.specs.Images.{HasFrames, HasImage, IsDirect, KeepsRuns, LeadsRight, ListsFrames, TreeKeepsRuns, source_jobs}
 use Rattle.cc_compile.specs.Made.{IsMade}
 use Rattle.cc_compile.specs.Walked.{AccessAs, AreWalked}
 use Rattle.cc_compile.specs.PartFaults.{of_translation_fault}
@@ -37,8 +37,8 @@ walked_too image other frames others e f h = subst (λ i. ∥ AreWalked i frames
 
 -- how it is made
 made_of : (o : Options) (bytes : List ℕ) (t : ProgramTree) (image other : Contents) (frames others : List Frame) → HasProgram bytes t → image ≡ other → frames ≡ others → HasImage (source_jobs o t) t other → HasFrames (source_jobs o t) t others
-    → ∥ TreeKeepsRuns (source_jobs o t) t ∥₁ → ∥ KeepsRuns (source_jobs o t) t ∥₁ → ∥ LeadsRight (source_jobs o t) t other ∥₁ → IsMade o bytes image frames
-made_of o bytes t image other frames others typed same also has framed tree keeps leads = record {
+    → ∥ TreeKeepsRuns (source_jobs o t) t ∥₁ → ∥ KeepsRuns (source_jobs o t) t ∥₁ → ∥ LeadsRight (source_jobs o t) t other ∥₁ → ∥ ListsFrames (source_jobs o t) t other ∥₁ → IsMade o bytes image frames
+made_of o bytes t image other frames others typed same also has framed tree keeps leads listed = record {
   program = t;
   typed = typed;
   has = subst (λ (i : Contents). HasImage (source_jobs o t) t i) (sym same) has;
@@ -46,12 +46,13 @@ made_of o bytes t image other frames others typed same also has framed tree keep
   tree = tree;
   keeps = keeps;
   leads = subst (λ (i : Contents). ∥ LeadsRight (source_jobs o t) t i ∥₁) (sym same) leads;
+  listed = subst (λ (i : Contents). ∥ ListsFrames (source_jobs o t) t i ∥₁) (sym same) listed;
 }
 
 pub returns-clause-made : goal.returns-clause-made
 returns-clause-made g c =
     made_of c.args.options c.args.source.now (program_of c.in_ok-program.program) _ _ _ _ c.in_ok-program.ensures.typed c.in_ok-with_rows.ensures.image c.in_ok-with_rows.ensures.certificate c.in_ok-translated.ensures.image
-    c.in_ok-translated.ensures.frames c.in_ok-translated.ensures.tree c.in_ok-translated.ensures.keeps c.in_ok-translated.ensures.leads
+    c.in_ok-translated.ensures.frames c.in_ok-translated.ensures.tree c.in_ok-translated.ensures.keeps c.in_ok-translated.ensures.leads c.in_ok-translated.ensures.listed
 
 pub returns-clause-built : goal.returns-clause-built
 returns-clause-built g c =

@@ -7,7 +7,7 @@ use Rattle.c_tree.specs.ProgramView.{program_of}
 use Rattle.tree_code.specs.ProgramView.{tree_of}
 use Rattle.frame_layouts.specs.Frames.{job_of}
 use Rattle.cc_compile.specs.TranslationFaults.{Says}
-use Rattle.cc_compile.specs.Images.{FrameJobs, HasFrames, HasImage, IsDirect, KeepsRuns, LeadsRight, TreeKeepsRuns}
+use Rattle.cc_compile.specs.Images.{FrameJobs, HasFrames, HasImage, IsDirect, KeepsRuns, LeadsRight, ListsFrames, TreeKeepsRuns}
 use Rattle.cc_compile.proofs.AgreementLemmas.{ok_of_three}
 use Rattle.cc_compile.proofs.SourceJobs.{are_jobs, are_source_jobs, source_sequences}
 use Rattle.cc_compile.proofs.WalkLemmas.{own_walks}
@@ -64,6 +64,13 @@ returns-clause-leads g c =
     let kept = are_source_jobs c.accesses_are_kept.ensures.sequences c.args.options t (tree_of c.in_ok-selection.selection.tree) (functions_of c.in_ok-selection.selection.code) c.in_ok-jobs.jobs.items c.in_ok-selection.ensures.typed
     c.in_ok-selection.ensures.tree c.in_ok-selection.ensures.code.code (c.in_ok-jobs.ensures.jobs ∙ ap (map (job_of c.args.options)) c.functions.ensures.same) in
     subst (λ (o : FrameJobs). IfOk c.translate_by_jobs.result (λ made. ∥ LeadsRight o t made.image ∥₁)) kept (c.translate_by_jobs.ensures.leads t c.in_ok-selection.ensures)
+
+pub returns-clause-listed : goal.returns-clause-listed
+returns-clause-listed g c =
+    let t = program_of c.args.program.now in
+    let kept = are_source_jobs c.accesses_are_kept.ensures.sequences c.args.options t (tree_of c.in_ok-selection.selection.tree) (functions_of c.in_ok-selection.selection.code) c.in_ok-jobs.jobs.items c.in_ok-selection.ensures.typed
+    c.in_ok-selection.ensures.tree c.in_ok-selection.ensures.code.code (c.in_ok-jobs.ensures.jobs ∙ ap (map (job_of c.args.options)) c.functions.ensures.same) in
+    subst (λ (o : FrameJobs). IfOk c.translate_by_jobs.result (λ made. ∥ ListsFrames o t made.image ∥₁)) kept (c.translate_by_jobs.ensures.listed t c.in_ok-selection.ensures)
 
 pub returns-clause-refused : goal.returns-clause-refused
 returns-clause-refused g c =

@@ -3,7 +3,7 @@ use Rattle.tree_code.specs.ProgramView.{tree_of}
 use Rattle.cc_compile.specs.Images.{jobs_at}
 use Rattle.cc_compile.proofs.AgreementLemmas.{image_agrees, image_in_time, ok_of_both, ok_of_three}
 use Rattle.cc_compile.proofs.ApartLemmas.{frames_apart}
-use Rattle.cc_compile.proofs.DirectLemmas.{image_direct, image_leads}
+use Rattle.cc_compile.proofs.DirectLemmas.{image_direct, image_leads, image_lists}
 use Rattle.cc_compile.proofs.WalkLemmas.{frames_walked}
 use Rattle.cc_compile.proofs.TranslationLemmas.{ok_then, runs_kept, trees_kept}
 use Rattle.cc_compile.proofs.translation.translate_by_jobs.Goals as goal
@@ -79,6 +79,14 @@ returns-clause-leads g c = λ t is.
     let gs = functions_of c.args.selection.now.code in
     ok_of_both c.finished.result (c.finished.ensures.image t is.tree) c.finished.ensures.arranged
     (λ made has arranged. image_leads c.programs_lead_right.ensures.targets o t p gs c.requires.near is.tree is.typed is.words arranged c.requires.selection.emittable c.requires.selection.code made.image has)
+
+pub returns-clause-listed : goal.returns-clause-listed
+returns-clause-listed g c = λ t is.
+    let p = tree_of c.args.selection.now.tree in
+    let o = jobs_at c.args.step c.args.jobs.items in
+    let gs = functions_of c.args.selection.now.code in
+    ok_of_both c.finished.result (c.finished.ensures.image t is.tree) c.finished.ensures.arranged
+    (λ made has arranged. image_lists c.programs_list_frames.ensures.frames o t p gs c.requires.near is.tree is.typed is.words arranged c.requires.selection.emittable c.requires.selection.code made.image has)
 
 pub returns-clause-apart : goal.returns-clause-apart
 returns-clause-apart g c = λ t is.

@@ -2,7 +2,7 @@ use Rattle.std.proofs.Common.{◌≢◌, ◌∙◌, List, map, ap, sym, subst}
 use Rattle.acc_code.specs.AccView.{function_items_of, functions_of}
 use Rattle.acc_code.specs.declared.program.AccFunction.{AccFunction}
 use Rattle.lay_model.specs.Sequences.{Sequence}
-use Rattle.cc_compile.specs.Images.{FrameJobs, HasFrames, HasImage, IsDirect, KeepsRuns, LeadsRight, TreeKeepsRuns}
+use Rattle.cc_compile.specs.Images.{FrameJobs, HasFrames, HasImage, IsDirect, KeepsRuns, LeadsRight, ListsFrames, TreeKeepsRuns}
 use Rattle.cc_compile.specs.TranslationFaults.{Says}
 use Rattle.cc_compile.specs.frame_layouts.Frames.{job_with}
 use Rattle.cc_compile.specs.frame_layouts.lay_par.Jobs.{Job}
@@ -104,5 +104,6 @@ returns-clause-laid_out g c = λ t is.
       walked = c.in_ok-translated.ensures.walked t is;
       direct = subst (λ (x : FrameJobs). ∥ IsDirect x t made.image ∥₁) kept (c.in_ok-translated.ensures.direct t is);
       leads = subst (λ (x : FrameJobs). ∥ LeadsRight x t made.image ∥₁) kept (c.in_ok-translated.ensures.leads t is);
+      listed = subst (λ (x : FrameJobs). ∥ ListsFrames x t made.image ∥₁) kept (c.in_ok-translated.ensures.listed t is);
       is_entered = c.in_ok-recorded.ensures.entered ∙ ap (entered_from r 0) (seqs ∙ alike);
     }
