@@ -3,16 +3,13 @@ use Rattle.std.proofs.Common.{◌≡◌, ℕ, zero, suc, ◌+◌, ◌<◌, ◌�
 use Rattle.std.specs.Prelude.{slice_get}
 use Rattle.std.specs.Str.{bytes_eq}
 use Rattle.std.proofs.lemmas.Option.{same_Some}
-use Rattle.c25_isa.specs.declared.instruction.Instr.{Instr}
 use Rattle.c25_isa.specs.State.{Memory, Start, BeginsWith, words_at}
-use Rattle.c25_isa.specs.Table.{IsInstr, code_words}
+use Rattle.c25_isa.specs.Table.{code_words}
 use Rattle.c25_isa.specs.Image.{Contents}
 use Rattle.c25_isa.proofs.CodeAt.{code_at}
 use Rattle.c25_isa.specs.Step.{wrap16}
-use Rattle.c25_isa.specs.CodeAt.{CodeAt}
-use Rattle.c25_isa.specs.Pieces.{Piece, items_size, mark_address, piece_code, address_in, ItemsAt, IsPlacedAt, Linked, PiecesFit}
+use Rattle.c25_isa.specs.Pieces.{Piece, items_size, mark_address, piece_code, address_in, ItemsAt, Linked, PiecesFit}
 use Rattle.c25_isa.proofs.PieceLemmas.{wraps_low, piece_fits}
-use Rattle.c25_code.specs.Straight.{code_size}
 use Rattle.c25_code.specs.Links.{first_piece, address_of, marks_of, EachStands, AllStand}
 use Rattle.c25_code.proofs.Pieces.{code_words-size}
 use Rattle.c25_code.proofs.Links.{items_stand, items_code-size}
