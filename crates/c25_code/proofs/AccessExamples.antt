@@ -4,7 +4,8 @@ use Rattle.std.proofs.Common.{◌≡◌, refl}
 use Rattle.c25_isa.specs.State.{State, zero_start}
 use Rattle.c25_isa.specs.MachineRun.{reset}
 use Rattle.c25_isa.specs.StretchRuns.{DataAccess, accessed}
-use Rattle.c25_code.specs.Accesses.{state_behind, at_scratch}
+use Rattle.c25_isa.specs.Leads.{state_behind}
+use Rattle.c25_code.specs.Accesses.{at_scratch}
 
 -- LDPK 6; SACL 0300h; LAC 0310h; MAR *,AR1; LAC * through AR1, which holds 0400h; SACL *; OUT 0310h,PA1; IDLE
 abbrev words : List ℕ

@@ -1,5 +1,5 @@
 -- Jumps, calls, returns and repeats access data memory only where their operands are.
-use Rattle.std.proofs.Common.{◌≡◌, ℕ, zero, suc, ◌+◌, ◌<◌, Bool, true, false, List, [], ◌∷◌, ◌++◌, length, refl, sym, ap, ◌∙◌, subst, cond, arith, Some}
+use Rattle.std.proofs.Common.{◌≡◌, ℕ, zero, suc, ◌+◌, ◌<◌, Bool, true, false, List, [], ◌∷◌, ◌++◌, length, refl, sym, ap, ◌∙◌, subst, cond, arith}
 use Rattle.std.proofs.lemmas.Bool.{true≢false}
 use Rattle.word_base.specs.Ports.{Outputs}
 use Rattle.c25_isa.specs.declared.operand.Operand.TheVariants.{Indirect as Through}
@@ -7,14 +7,14 @@ use Rattle.c25_isa.specs.declared.instruction.JumpOp.{JumpOp}
 use Rattle.c25_isa.specs.declared.instruction.Instr.{Instr}
 use Rattle.c25_isa.specs.declared.instruction.Instr.TheVariants.{Rptk, Ret, Branch, Call}
 use Rattle.c25_isa.specs.declared.piece.PieceItem.{PieceItem}
-use Rattle.c25_isa.specs.State.{State, Memory}
+use Rattle.c25_isa.specs.State.{Memory}
 use Rattle.c25_isa.specs.Step.{Ran}
 use Rattle.c25_isa.specs.StretchRuns.{DataAccess}
 use Rattle.c25_isa.specs.CodeAt.{StandsAt, CodeAt}
-use Rattle.c25_isa.specs.Pieces.{items_size, ItemsAt}
+use Rattle.c25_isa.specs.Pieces.{items_size}
 use Rattle.c25_isa.proofs.Leads.{runs, onward_pc}
-use Rattle.c25_code.specs.Work.{Work, Modes, at_modes, calm}
-use Rattle.c25_code.specs.Straight.{behind_operand, behind_instr, behind_repeats, RepeatsReady, NonEmpty, first_of, rest_of, is_taken, code_size}
+use Rattle.c25_code.specs.Work.{Work, calm}
+use Rattle.c25_code.specs.Straight.{behind_operand, behind_instr, behind_repeats, RepeatsReady, NonEmpty, first_of, rest_of, is_taken}
 use Rattle.c25_code.specs.CodeRuns.{CodeRuns}
 use Rattle.c25_code.specs.Items.{no_change, plain_items}
 use Rattle.c25_code.specs.ItemRuns.{ItemsRun, ItemsRunWithin}

@@ -1,53 +1,39 @@
 -- The states on the way of straight code, of repeats, jumps, calls and returns, and where the steps there access data memory.
-use Rattle.std.proofs.Common.{◌≡◌, ℕ, zero, suc, ◌+◌, ◌-◌, ◌*◌, ◌<◌, ◌≤◌, Bool, true, false, List, [], ◌∷◌, ◌++◌, length, Option, Some, None, refl, sym, ap, ◌∙◌, subst, inr, cond, arith, ⊎_elim}
-use Rattle.std.specs.Prelude.{option_and_then, option_map, IfSome}
-use Rattle.std.proofs.lemmas.Bool.{cases_lt, true≢false}
+use Rattle.std.proofs.Common.{◌≡◌, ℕ, zero, suc, ◌+◌, ◌-◌, ◌<◌, Bool, List, [], ◌∷◌, ◌++◌, length, Option, Some, None, refl, sym, ap, ◌∙◌, subst, inr, arith, ⊎_elim}
+use Rattle.std.specs.Prelude.{option_and_then, option_map}
+use Rattle.std.proofs.lemmas.Bool.{cases_lt}
 use Rattle.std.proofs.lemmas.Option.{same_Some}
 use Rattle.word_base.specs.Ports.{Outputs}
 use Rattle.c25_isa.specs.declared.operand.Operand.{Operand}
 use Rattle.c25_isa.specs.declared.operand.Operand.TheVariants.{Direct, Indirect as Through}
-use Rattle.c25_isa.specs.declared.operand.Indirect.{Indirect}
-use Rattle.c25_isa.specs.declared.instruction.JumpOp.{JumpOp}
 use Rattle.c25_isa.specs.declared.instruction.Instr.{Instr}
-use Rattle.c25_isa.specs.declared.instruction.Instr.TheVariants.{Rptk, Subc, Ret, Branch, Call}
 use Rattle.c25_isa.specs.State.{State, Memory}
 use Rattle.c25_isa.specs.Direct.{is_store}
 use Rattle.c25_isa.specs.Step.{Ran, Put, wrap16, data_operand, step}
-use Rattle.c25_isa.specs.StretchRuns.{accessed, accessed_by, DataAccess}
+use Rattle.c25_isa.specs.StretchRuns.{accessed_by, DataAccess}
 use Rattle.c25_isa.specs.Table.{second_word, length_of}
 use Rattle.c25_isa.specs.CodeAt.{StandsAt, CodeAt}
-use Rattle.c25_isa.specs.Leads.{Leads}
+use Rattle.c25_isa.specs.Leads.{state_behind}
 use Rattle.c25_isa.proofs.CodeAt.{decode_at}
 use Rattle.c25_isa.proofs.StretchWays.{access_with}
-use Rattle.c25_isa.proofs.Leads.{leads_on, ran_leads, put_leads, onward_pc}
+use Rattle.c25_isa.proofs.Leads.{leads_on, ran_leads, put_leads, states_on, onward_pc}
 use Rattle.c25_code.specs.Work.{Work, Modes, at_modes, calm_modes, calm, work_of}
-use Rattle.c25_code.specs.Straight.{operand_address, behind_operand, behind_instr, output_of, InstrReady, behind_code, outputs_of_code, CodeReady, code_size, minds_modes, code_minds_modes, FitModes, behind_repeats, RepeatsReady, NonEmpty, first_of, rest_of, is_taken, branch_target}
+use Rattle.c25_code.specs.Straight.{operand_address, behind_instr, output_of, InstrReady, behind_code, outputs_of_code, CodeReady, code_size, minds_modes, code_minds_modes, FitModes}
 use Rattle.c25_code.specs.CodeRuns.{CodeRuns}
-use Rattle.c25_code.specs.Items.{no_change}
-use Rattle.c25_code.specs.Accesses.{state_behind, next_state, Accesses, Allows, LeadsWithin, operand_register, InstrMay, CodeMay, RepeatsMay}
+use Rattle.c25_code.specs.Accesses.{Accesses, Allows, LeadsWithin, operand_register, InstrMay, CodeMay}
 use Rattle.c25_code.proofs.Rows.{event_of}
 use Rattle.c25_code.proofs.Straight.{as_outputs, prepended-listed, stays_here, fits_first, fits_rest, instr_event}
-
--- the states behind steps, and behind more of them
-pub states_on : (n m : ℕ) (s : State) → state_behind (n + m) s ≡ option_and_then (state_behind m) (state_behind n s)
-states_on zero m s = let e : zero + m ≡ m = omega arith in ap (λ j. state_behind j s) e
-states_on (suc n) m s = let e : suc n + m ≡ suc (n + m) = omega arith in ap (λ j. state_behind j s) e ∙ by (next_state (step s)) (states_on n m)
-  where
-    by : (o : Option State) → ((t : State) → state_behind (n + m) t ≡ option_and_then (state_behind m) (state_behind n t)) → option_and_then (state_behind (n + m)) o ≡ option_and_then (state_behind m) (option_and_then (state_behind n) o)
-    by None more = refl
-    by (Some t) more = more t
 
 module _ (fine : State → Type 0) where
   pub within_on : (n m : ℕ) (s t u : State) (p q : Outputs) → LeadsWithin fine n s t p → LeadsWithin fine m t u q → LeadsWithin fine (n + m) s u (p ++ q)
   within_on n m s t u p q a b = record {
     leads = leads_on n m s t u p q a.leads b.leads;
-    reaches = states_on n m s ∙ ap (option_and_then (state_behind m)) a.reaches ∙ b.reaches;
     within = λ j v less there.
         ⊎_elim
         (λ early. a.within j v early there)
         (λ late.
         let e : j ≡ n + (j - n) = omega (arith, late) in
-        b.within (j - n) v (omega (arith, late, less)) (sym (ap (λ i. state_behind i s) e ∙ states_on n (j - n) s ∙ ap (option_and_then (state_behind (j - n))) a.reaches) ∙ there))
+        b.within (j - n) v (omega (arith, late, less)) (sym (ap (λ i. state_behind i s) e ∙ states_on n (j - n) s ∙ ap (option_and_then (state_behind (j - n))) a.leads.reaches) ∙ there))
         (cases_lt j n);
   }
 
@@ -58,23 +44,21 @@ module _ (fine : State → Type 0) where
   pub ran_within : (s t : State) → step s ≡ Ran t → fine s → LeadsWithin fine 1 s t []
   ran_within s t e allowed = record {
     leads = ran_leads s t e;
-    reaches = ap (λ v. option_and_then (state_behind 0) (next_state v)) e;
     within = λ m u less there. first_alone s u m allowed less there;
   }
 
   pub put_within : (s t : State) (word : ℕ × ℕ) → step s ≡ Put word t → fine s → LeadsWithin fine 1 s t (word ∷ [])
   put_within s t word e allowed = record {
     leads = put_leads s t word e;
-    reaches = ap (λ v. option_and_then (state_behind 0) (next_state v)) e;
     within = λ m u less there. first_alone s u m allowed less there;
   }
 
   pub stays_within : (s : State) → LeadsWithin fine 0 s s []
-  stays_within s = record { leads = stays_here s; reaches = refl; within = λ m u less there. absurd (omega (arith, less)) }
+  stays_within s = record { leads = stays_here s; within = λ m u less there. absurd (omega (arith, less)) }
 
 -- where more may be
 pub within_more : (fine other : State → Type 0) (n : ℕ) (s t : State) (put : Outputs) → ((u : State) → fine u → other u) → LeadsWithin fine n s t put → LeadsWithin other n s t put
-within_more fine other n s t put more r = record { leads = r.leads; reaches = r.reaches; within = λ m u less there. more u (r.within m u less there) }
+within_more fine other n s t put more r = record { leads = r.leads; within = λ m u less there. more u (r.within m u less there) }
 
 module _ (may : DataAccess → Bool) where
   -- the access of an instruction, at whatever modes and with whatever repeat is pending

@@ -1,5 +1,5 @@
 -- Linked items that stand in memory are the items with their marks at their addresses, and emitted marks are apart.
-use Rattle.std.proofs.Common.{◌≡◌, ◌⊎◌, inl, inr, ℕ, ◌+◌, ◌<◌, ◌≤◌, List, [], ◌∷◌, ◌++◌, Option, refl, sym, ap, ◌∙◌, subst, cond, arith, ⊎_elim}
+use Rattle.std.proofs.Common.{◌≡◌, ◌⊎◌, inl, inr, ℕ, ◌+◌, ◌<◌, ◌≤◌, List, [], ◌∷◌, ◌++◌, refl, sym, ap, ◌∙◌, subst, cond, arith, ⊎_elim}
 use Rattle.std.proofs.lemmas.Bool.{eq-eqb, ne_eqb}
 use Rattle.c25_isa.specs.declared.piece.PieceItem.{PieceItem}
 use Rattle.c25_isa.specs.declared.piece.PieceItem.TheVariants.{Do, Mark, Jump, CallTo}
@@ -9,10 +9,8 @@ use Rattle.c25_isa.specs.Table.{second_word, length_of}
 use Rattle.c25_isa.specs.CodeAt.{CodeAt}
 use Rattle.c25_isa.specs.Pieces.{items_size, mark_address, items_code, ItemsAt}
 use Rattle.c25_code.specs.Straight.{code_size}
-use Rattle.c25_code.specs.Items.{entry_code, return_code}
-use Rattle.c25_code.specs.Links.{IsMarkOf, MarksDiffer, MarksAtWords, MarksAreFit}
+use Rattle.c25_code.specs.Links.{IsMarkOf, MarksDiffer, MarksAtWords}
 use Rattle.c25_code.proofs.Items.{items_size-append}
-use Rattle.c25_code.proofs.Returns.{return_size}
 
 -- the marks are the addresses
 abbrev Placed : (ℕ → ℕ) → ℕ → List PieceItem → Type 0

@@ -1,5 +1,5 @@
 -- Words that may be repeated: what a step of one does while a repeat is pending.
-use Rattle.std.proofs.Common.{◌≡◌, ℕ, zero, suc, true, ◌+◌, ◌-◌, ◌*◌, ◌<◌, Some, None, refl, ap, ◌∙◌, cond, arith}
+use Rattle.std.proofs.Common.{◌≡◌, ℕ, suc, true, ◌+◌, ◌-◌, ◌*◌, ◌<◌, Some, None, refl, ap, ◌∙◌, cond, arith}
 use Rattle.std.specs.Prelude.{nat_lt}
 use Rattle.std.proofs.lemmas.Bool.{le-ltb, lt-ltb}
 use Rattle.c25_isa.specs.declared.operand.Operand.{Operand}

@@ -26,7 +26,7 @@ prepended-listed (Some word) outs = refl
 
 -- no instruction, no step
 pub stays_here : (s : State) → Leads 0 s s []
-stays_here s = record { by = λ k outs. ap (λ j. run_from j s outs) (let e : 0 + k ≡ k = omega arith in e) ∙ ap (run_from k s) (sym (append-nil outs)) }
+stays_here s = record { by = λ k outs. ap (λ j. run_from j s outs) (let e : 0 + k ≡ k = omega arith in e) ∙ ap (run_from k s) (sym (append-nil outs)); reaches = refl }
 
 -- code behind its first instruction, and code before other code
 pub fits_first : (modes : Modes) (i : Instr) (is : List Instr) → FitModes modes (code_minds_modes (i ∷ is)) → FitModes modes (minds_modes i)

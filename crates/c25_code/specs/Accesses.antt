@@ -1,33 +1,20 @@
 -- The states on the way from one state to another, and where the steps there access data memory.
-use Rattle.std.specs.Prelude.{◌≡◌, ℕ, zero, suc, ◌<◌, Bool, true, List, [], ◌∷◌, Option, Some, None, option_map, option_and_then}
+use Rattle.std.specs.Prelude.{◌≡◌, ℕ, zero, suc, ◌<◌, Bool, true, List, [], ◌∷◌, Option, Some, None, option_map}
 use Rattle.word_base.specs.Ports.{Outputs}
 use Rattle.c25_isa.specs.declared.operand.Operand.{Operand}
 use Rattle.c25_isa.specs.declared.operand.Operand.TheVariants.{Direct, Indirect as Through}
 use Rattle.c25_isa.specs.declared.instruction.Instr.{Instr}
 use Rattle.c25_isa.specs.State.{State}
-use Rattle.c25_isa.specs.Step.{Event, Ran, Put, Over, Trapped, data_operand, step}
+use Rattle.c25_isa.specs.Step.{data_operand}
 use Rattle.c25_isa.specs.Direct.{is_scratch, is_store}
 use Rattle.c25_isa.specs.StretchRuns.{DataAccess, accessed}
-use Rattle.c25_isa.specs.Leads.{Leads}
+use Rattle.c25_isa.specs.Leads.{Leads, state_behind}
 use Rattle.c25_code.specs.Work.{Work}
 use Rattle.c25_code.specs.Straight.{operand_address, behind_instr}
-
--- the state that an event goes on to
-abbrev pub next_state : Event → Option State
-next_state (Ran t) = Some t
-next_state (Put word t) = Some t
-next_state (Over ending) = None
-next_state (Trapped kind at) = None
-
--- the state behind so many steps, if the machine goes on so far
-abbrev pub state_behind : ℕ → State → Option State
-state_behind zero s = Some s
-state_behind (suc steps) s = option_and_then (state_behind steps) (next_state (step s))
 
 -- the machine leads from one state to another, and each state on the way, before the last one, is as it has to be
 pub record LeadsWithin (fine : State → Type 0) (n : ℕ) (s t : State) (put : Outputs) : Type 0 where
   pub leads : Leads n s t put
-  pub reaches : state_behind n s ≡ Some t
   pub within : (m : ℕ) (u : State) → m < n → state_behind m s ≡ Some u → fine u
 
 -- an access of data memory, if there is one, is one that may be

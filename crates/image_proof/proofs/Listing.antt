@@ -16,6 +16,7 @@ use Rattle.c25_isa.specs.Pieces.{Piece, Linked, PiecesFit}
 use Rattle.c25_isa.specs.State.{State, Start, BeginsWith}
 use Rattle.c25_isa.specs.CodeAt.{WordsAt}
 use Rattle.c25_isa.specs.Step.{Event, Ran, Put, Over, Trapped, wrap16, trap_of, repeated, ran_once, effect, perform, step}
+use Rattle.c25_isa.specs.Leads.{next_state, state_behind}
 use Rattle.c25_isa.specs.MachineRun.{reset}
 use Rattle.c25_isa.specs.Direct.{Direct}
 use Rattle.c25_isa.specs.StretchRuns.{HoldsRange}
@@ -24,7 +25,6 @@ use Rattle.c25_isa.proofs.KnownSteps.{OnState, row}
 use Rattle.c25_isa.proofs.StretchWays.{on_repeated, on_trap, on_more}
 use Rattle.c25_isa.proofs.StretchCode.{range_is_entered, walk_tells}
 use Rattle.c25_isa.proofs.FrameWays.{frame_tells}
-use Rattle.c25_code.specs.Accesses.{next_state, state_behind}
 use Rattle.image_proof.specs.Directs.{HasDirect, own_words, place_words, given_words}
 use Rattle.image_proof.specs.Emissions.{Emission}
 use Rattle.image_proof.specs.FrameWords.{place_of}

@@ -9,10 +9,10 @@ use Rattle.mem_plan.specs.declared.data_plan.FramePlan.{FramePlan}
 use Rattle.c25_isa.specs.declared.image.FunctionRange.{FunctionRange}
 use Rattle.c25_isa.specs.Image.{Contents}
 use Rattle.c25_isa.specs.State.{State, Start, BeginsWith}
+use Rattle.c25_isa.specs.Leads.{state_behind}
 use Rattle.c25_isa.specs.MachineRun.{reset}
 use Rattle.c25_isa.specs.StretchRuns.{accesses_of, begins, listed_in, way, AreListedOrBeside, IsEntry, Tells}
 use Rattle.c25_isa.specs.Walk.{Blocks, Code, Placed, code_of, stretches, walk}
-use Rattle.c25_code.specs.Accesses.{state_behind}
 use Rattle.image_proof.specs.Directs.{own_words}
 use Rattle.image_proof.specs.Emissions.{Emission}
 use Rattle.image_proof.specs.FrameWords.{place_of}
