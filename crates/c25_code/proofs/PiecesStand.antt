@@ -10,7 +10,7 @@ use Rattle.c25_isa.proofs.CodeAt.{code_at}
 use Rattle.c25_isa.specs.Step.{wrap16}
 use Rattle.c25_isa.specs.Pieces.{Piece, items_size, mark_address, piece_code, address_in, ItemsAt, Linked, PiecesFit}
 use Rattle.c25_isa.proofs.PieceLemmas.{wraps_low, piece_fits}
-use Rattle.c25_code.specs.Links.{first_piece, address_of, marks_of, EachStands, AllStand}
+use Rattle.c25_code.specs.Links.{first_piece, address_of, marks_of, EachIsInMemory, AllStand}
 use Rattle.c25_code.proofs.Pieces.{code_words-size}
 use Rattle.c25_code.proofs.Links.{items_stand, items_code-size}
 
@@ -41,7 +41,7 @@ first_number place (q ∷ qs) name p e = by (bytes_eq q.name name) e (first_numb
           marks = ap (λ b. λ mark. cond b (wrap16 (mark_address (place 0) q.items mark)) (marks_of (λ k. place (suc k)) qs name mark)) is ∙ rest.marks;
         }
 
-pub all_stand : (program : Memory) (place : ℕ → ℕ) (all : List Piece) → EachStands program (address_of place all) place all → AllStand program place all
+pub all_stand : (program : Memory) (place : ℕ → ℕ) (all : List Piece) → EachIsInMemory program (address_of place all) place all → AllStand program place all
 all_stand program place all each name p e fit =
     let names : List ℕ → ℕ = address_of place all in
     let h = first_number place all name p e in
@@ -65,14 +65,14 @@ piece_code-size names at p =
     code_words-size (piece_code names at p) ∙ items_code-size (λ mark. wrap16 (mark_address at p.items mark)) names p.items
 
 -- the words of an image from the address of a piece on are the piece's instructions
-pub words_stand : (all : List Piece) (image : Contents) (linked : Linked all image) → PiecesFit all → (program : Memory) → ((a : ℕ) → a < length image.words → program a ≡ words_at image.words a) → length image.words ≤ 65536 → EachStands program (address_of linked.place all) linked.place all
+pub words_stand : (all : List Piece) (image : Contents) (linked : Linked all image) → PiecesFit all → (program : Memory) → ((a : ℕ) → a < length image.words → program a ≡ words_at image.words a) → length image.words ≤ 65536 → EachIsInMemory program (address_of linked.place all) linked.place all
 words_stand all image linked ranges program same small = record {
   code = λ k p is.
       let placed = linked.placed k p is in
       let ends = placed.within in
       let size = piece_code-size (address_of linked.place all) (linked.place k) p in
       code_at program (piece_code (address_of linked.place all) (linked.place k) p) (linked.place k) (piece_fits (address_of linked.place all) (linked.place k) p (λ name. wraps_low (address_in linked.place all name)) (one_fits all ranges k p is).0)
-      (λ a below. same (linked.place k + a) (omega (arith, ends, size, below)) ∙ placed.stand a below) (omega (arith, ends, size, small));
+      (λ a below. same (linked.place k + a) (omega (arith, ends, size, below)) ∙ placed.code a below) (omega (arith, ends, size, small));
   ends = λ k p is. let ends = (linked.placed k p is).within in omega (arith, ends, small);
 }
 

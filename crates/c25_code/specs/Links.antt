@@ -50,7 +50,7 @@ marks_of place [] name mark = 0
 marks_of place (p ∷ ps) name mark = if bytes_eq p.name name then wrap16 (mark_address (place 0) p.items mark) else marks_of (λ k. place (suc k)) ps name mark
 
 -- the instructions of each piece stand at its address, where names have these addresses
-pub record EachStands (program : Memory) (names : List ℕ → ℕ) (place : ℕ → ℕ) (all : List Piece) : Type 0 where
+pub record EachIsInMemory (program : Memory) (names : List ℕ → ℕ) (place : ℕ → ℕ) (all : List Piece) : Type 0 where
   pub code : (k : ℕ) (p : Piece) → slice_get all k ≡ Some p → CodeAt program (place k) (piece_code names (place k) p)
   pub ends : (k : ℕ) (p : Piece) → slice_get all k ≡ Some p → place k + items_size p.items ≤ 65536
 

@@ -25,7 +25,7 @@ ghost use Rattle.c25_code.specs.Straight.{behind_operand, first_of, rest_of, Non
 ghost use Rattle.c25_code.specs.Accesses.{Accesses, LeadsWithin, CodeMay, RepeatsMay};
 ghost use Rattle.c25_code.specs.Items.{no_change};
 ghost use Rattle.c25_code.specs.CodeRuns.{CodeRuns, EndsAtInput, RunsInPart};
-ghost use Rattle.c25_code.specs.Links.{address_of, EachStands, AllStand};
+ghost use Rattle.c25_code.specs.Links.{address_of, EachIsInMemory, AllStand};
 
 /// Straight code that stands in program memory leads from a calm state to a calm state, in one step an instruction.
 pub fn straight_code_leads()
@@ -94,7 +94,7 @@ pub fn code_leads_within()
 
 /// Pieces whose instructions stand in program memory each at its address stand there with their marks at their addresses.
 pub fn linked_pieces_stand()
-    ensures pieces { (program : Memory) (place : ℕ → ℕ) (all : List Piece) → EachStands program (address_of place all) place all → AllStand program place all }
+    ensures pieces { (program : Memory) (place : ℕ → ℕ) (all : List Piece) → EachIsInMemory program (address_of place all) place all → AllStand program place all }
     // So do those of an image at a reset.
     ensures image { (b : Start) (all : List Piece) (image : Contents) → (linked : Linked all image) → BeginsWith image.words b
         → PiecesFit all → length image.words ≤ 65536 → AllStand b.program linked.place all }

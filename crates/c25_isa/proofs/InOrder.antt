@@ -142,7 +142,7 @@ in_order_linked all image words functions listed =
       first = begins_at 0 all;
       placed = λ k p is.
           let stands = among (words_at image.words) (names_in_order all) 0 all there k p is in
-          record { stand = stands.stand; within = let ends = stands.within in omega (arith, ends, size) };
+          record { code = stands.stand; within = let ends = stands.within in omega (arith, ends, size) };
       apart = apart 0 all;
       filled = λ a below. filled (words_at image.words) (names_in_order all) 0 all a (omega arith) (omega (arith, below, size));
       functions = functions ∙ ranges_in_order 0 all;

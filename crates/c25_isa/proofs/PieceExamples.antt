@@ -110,9 +110,9 @@ abbrev mixed_names : List ℕ → ℕ
 mixed_names = λ name. wrap16 (address_in mixed_places mixed name)
 
 mixed_placed : (k : ℕ) (p : Piece) → slice_get mixed k ≡ Some p → IsPlacedAt mixed_words mixed_names (mixed_places k) p
-mixed_placed zero p is = subst (IsPlacedAt mixed_words mixed_names 0) (same_Some start p is) (record { stand = stands_between [] (code_words (piece_code mixed_names 0 start)) (drop 4 mixed_words); within = lit≤ tt })
-mixed_placed (suc zero) p is = subst (IsPlacedAt mixed_words mixed_names 6) (same_Some count p is) (record { stand = stands_between (take 6 mixed_words) (code_words (piece_code mixed_names 6 count)) []; within = lit≤ tt })
-mixed_placed (suc (suc zero)) p is = subst (IsPlacedAt mixed_words mixed_names 4) (same_Some (spin (codes "g")) p is) (record { stand = stands_between (take 4 mixed_words) (code_words (piece_code mixed_names 4 (spin (codes "g")))) (drop 6 mixed_words); within = lit≤ tt })
+mixed_placed zero p is = subst (IsPlacedAt mixed_words mixed_names 0) (same_Some start p is) (record { code = stands_between [] (code_words (piece_code mixed_names 0 start)) (drop 4 mixed_words); within = lit≤ tt })
+mixed_placed (suc zero) p is = subst (IsPlacedAt mixed_words mixed_names 6) (same_Some count p is) (record { code = stands_between (take 6 mixed_words) (code_words (piece_code mixed_names 6 count)) []; within = lit≤ tt })
+mixed_placed (suc (suc zero)) p is = subst (IsPlacedAt mixed_words mixed_names 4) (same_Some (spin (codes "g")) p is) (record { code = stands_between (take 4 mixed_words) (code_words (piece_code mixed_names 4 (spin (codes "g")))) (drop 6 mixed_words); within = lit≤ tt })
 mixed_placed (suc (suc (suc k))) p is = absurd cc
 
 -- where the word of a piece lies

@@ -120,7 +120,7 @@ ListedHaveWords (p ∷ ps) = (p.listed ≡ true → 1 ≤ items_size p.items) ×
 
 -- the words of a piece are among other words from an address on
 pub record IsPlacedAt (words : List ℕ) (names : List ℕ → ℕ) (at : ℕ) (p : Piece) : Type 0 where
-  pub stand : WordsAt (words_at words) at (code_words (piece_code names at p))
+  pub code : WordsAt (words_at words) at (code_words (piece_code names at p))
   pub within : at + items_size p.items ≤ length words
 
 -- a word is one of the piece of a number

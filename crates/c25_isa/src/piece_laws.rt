@@ -7,6 +7,6 @@ ghost use Rattle.c25_isa.specs.Table.{code_words};
 
 /// An image whose words are those of pieces one behind another from program word 0 on, with the ranges of the listed ones, is linked from them.
 pub fn images_in_order_are_linked()
-    ensures { (pieces : List Piece) (image : Contents) → image.words ≡ code_words (pieces_code (λ name. wrap16 (piece_address 0 pieces name)) 0 pieces)
+    ensures linked { (pieces : List Piece) (image : Contents) → image.words ≡ code_words (pieces_code (λ name. wrap16 (piece_address 0 pieces name)) 0 pieces)
         → image.functions ≡ listed_ranges 0 pieces → ListedHaveWords pieces → Linked pieces image }
 {}

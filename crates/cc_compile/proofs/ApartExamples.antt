@@ -98,5 +98,5 @@ apart : AreListsApart strangers (frame ∷ frame ∷ []) plan
 apart = record {
   scalars = λ k h n m a meet s u. (alone k h meet, (word_is k n a s).0 ∙ sym (word_is h m a u).0);
   places = λ k h n a g at meet s there framed among. no_words h a g at framed among;
-  behind = λ k n a s. let is = (word_is k n a s).1 in (omega (arith, is), omega (arith, is));
+  in_ram = λ k n a s. let is = (word_is k n a s).1 in (omega (arith, is), omega (arith, is));
 }

@@ -133,7 +133,7 @@ module _ (t : ProgramTree) (frames : List Frame) (plan : DataPlan) (arranged : A
   lists_apart = record {
     scalars = λ k h n m a meet s u. words.same_scalar p lists plan arranged planned k h n m a (meeting k h meet) (scalar_at k n a s) (scalar_at h m a u);
     places = no_place;
-    behind = λ k n a s. words.behind_scratch p lists plan arranged planned k n a (scalar_at k n a s);
+    in_ram = λ k n a s. words.behind_scratch p lists plan arranged planned k n a (scalar_at k n a s);
   }
 
 -- ---- as they are made

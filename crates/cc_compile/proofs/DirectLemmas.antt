@@ -63,22 +63,22 @@ pub image_direct : ForDirect → (o : FrameJobs) (t : ProgramTree) (p : ProgramC
 image_direct law = image_holds AreDirect (λ t plan arrangements step image is words arranged planned emittable low linked fit short.
     law t plan arrangements step (called_by (emission_of t plan arrangements step)) image is words arranged planned emittable low linked fit short)
 
--- where its jumps and calls lead, by whatever places the image is linked
+-- where its jumps and calls lead, by places at which the image is linked
 abbrev ForTargets : Type 0
 ForTargets = (t : ProgramTree) (plan : DataPlan) (arrangements : List (List (List ℕ))) (step : ℕ) (routines : List Piece) (image : Contents) → IsProgram t → ProgramHasWords t → AreArranged (lowered_program t).functions arrangements → IsPlan (lowered_program t) arrangements plan
     → IsEmittable (lowered_program t) (selected (lowered_program t)) → step < 256 → AnswersCalls (emission_own (emission_of t plan arrangements step)) routines → (linked : Linked (emission_pieces (emission_of t plan arrangements step) routines) image)
     → PiecesFit (emission_pieces (emission_of t plan arrangements step) routines) → length image.words ≤ 65536 → AllHaveTargets (emission_of t plan arrangements step) routines linked.place image
 
 abbrev Leads : Emission → Contents → Type 0
-Leads e image = (linked : Linked (emission_pieces e (called_by e)) image) → AllHaveTargets e (called_by e) linked.place image
+Leads e image = (linked : Linked (emission_pieces e (called_by e)) image) × AllHaveTargets e (called_by e) linked.place image
 
 pub image_leads : ForTargets → (o : FrameJobs) (t : ProgramTree) (p : ProgramCode) (gs : List FunctionItems) → o.step ≤ 8 → p ≡ lowered_program t → ∥ IsProgram t ∥₁ → ProgramHasWords t → AreArranged p.functions (layouts o) → IsEmittable p gs → gs ≡ selected p
     → (image : Contents) → HasImage o t image → ∥ LeadsRight o t image ∥₁
-image_leads law = image_holds Leads (λ t plan arrangements step image is words arranged planned emittable low linked fit short other.
+image_leads law = image_holds Leads (λ t plan arrangements step image is words arranged planned emittable low linked fit short.
     let own = emission_own (emission_of t plan arrangements step) in
-    law t plan arrangements step (called_helper_pieces own) image is words arranged planned emittable low (called_answer own) other fit short)
+    (linked, law t plan arrangements step (called_helper_pieces own) image is words arranged planned emittable low (called_answer own) linked fit short))
 
--- how words of frames are accessed
+-- how words of scalars are accessed
 abbrev ForListing : Type 0
 ForListing = (t : ProgramTree) (plan : DataPlan) (arrangements : List (List (List ℕ))) (step : ℕ) (routines : List Piece) (image : Contents) → IsProgram t → ProgramHasWords t → AreArranged (lowered_program t).functions arrangements → IsPlan (lowered_program t) arrangements plan
     → IsEmittable (lowered_program t) (selected (lowered_program t)) → step < 256 → Linked (emission_pieces (emission_of t plan arrangements step) routines) image → PiecesFit (emission_pieces (emission_of t plan arrangements step) routines) → length image.words ≤ 65536

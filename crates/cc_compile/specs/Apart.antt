@@ -27,8 +27,8 @@ pub record AreListsApart (t : ProgramTree) (frames : List Frame) (plan : DataPla
   -- then it's none of a static object, nor of a local object or the return address of such a function
   pub places : (k h n a : ℕ) (g : FunctionTree) (at : FramePlan) → CanMeet t k h → HasScalarAt frames k n a
       → slice_get t.functions h ≡ Some g → slice_get plan.frames h ≡ Some at → ¬ Contains (place_words t plan g at) a
-  -- and it lies in RAM, behind the scratch words
-  pub behind : (k n a : ℕ) → HasScalarAt frames k n a → (0x310 ≤ a) × (a < 65536)
+  -- and it lies in RAM, at 0310h at least, since scratch words lie below
+  pub in_ram : (k n a : ℕ) → HasScalarAt frames k n a → (0x310 ≤ a) × (a < 65536)
 
 -- so it is by each plan of the program that has the lists of frames where these have them
 abbrev pub LieApart : ProgramTree → List Frame → Type 0

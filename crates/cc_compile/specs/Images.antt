@@ -96,14 +96,14 @@ TreeKeepsRuns o t = (plan : DataPlan) → IsPlanOf o t plan → (input : Input) 
 abbrev pub IsDirect : FrameJobs → ProgramTree → Contents → Type 0
 IsDirect o t image = (plan : DataPlan) → IsPlanOf o t plan → AreDirect (emission_of t plan (layouts o) o.step) image
 
--- the jumps of each function lead to first words of instructions of its range, and its calls to first words of ranges or of routines, by whatever
--- places its pieces are linked
+-- the image is linked from the pieces so that the jumps of each function lead to first words of instructions of its range, and its calls to first
+-- words of ranges or of routines
 abbrev pub LeadsRight : FrameJobs → ProgramTree → Contents → Type 0
 LeadsRight o t image = (plan : DataPlan) → IsPlanOf o t plan → (linked : Linked (all_pieces o (lowered_program t) plan) image)
-    → AllHaveTargets (emission_of t plan (layouts o) o.step) (called_helper_pieces (own_pieces o (lowered_program t) plan)) linked.place image
+    × AllHaveTargets (emission_of t plan (layouts o) o.step) (called_helper_pieces (own_pieces o (lowered_program t) plan)) linked.place image
 
--- in each run of the image, each access to a word of a function's frame along the function's code is one that a walk lists, or goes through another
--- address register than AR2 to AR5
+-- along the function's code in each run of the image, each access to a word of a scalar of the function is one that a walk lists, or goes through
+-- another address register than AR2 to AR5
 abbrev pub ListsFrames : FrameJobs → ProgramTree → Contents → Type 0
 ListsFrames o t image = (plan : DataPlan) → IsPlanOf o t plan → AllListFrames (emission_of t plan (layouts o) o.step) image
 

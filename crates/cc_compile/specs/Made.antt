@@ -19,5 +19,5 @@ pub record IsMade (o : Options) (bytes : List ℕ) (image : Contents) (frames : 
   pub keeps : ∥ KeepsRuns (source_jobs o program) program ∥₁
   -- jumps lead to first words of instructions of their ranges, and calls to those of ranges and of routines
   pub leads : ∥ LeadsRight (source_jobs o program) program image ∥₁
-  -- in each run, words of frames are accessed as walks list it, or through another address register than AR2 to AR5
+  -- along its code in each run, words of a function's scalars are accessed as walks list it, or through another address register than AR2 to AR5
   pub listed : ∥ ListsFrames (source_jobs o program) program image ∥₁

@@ -232,7 +232,7 @@ pub fn translate_by_jobs<R: Threads + Sync, G: Gate + Sync>(
     ensures direct { (t : ProgramTree) → IsSelectionOf selection.now t → IfOk result (λ made. ∥ IsDirect (jobs_at step jobs.items) t made.image ∥₁) }
     // Jumps lead to first words of instructions of their ranges, and calls to those of ranges and of routines.
     ensures leads { (t : ProgramTree) → IsSelectionOf selection.now t → IfOk result (λ made. ∥ LeadsRight (jobs_at step jobs.items) t made.image ∥₁) }
-    // In each run, words of frames are accessed as walks list it, or through another address register than AR2 to AR5.
+    // Along its code in each run, words of a function's scalars are accessed as walks list it, or through another register than AR2 to AR5.
     ensures listed { (t : ProgramTree) → IsSelectionOf selection.now t → IfOk result (λ made. ∥ ListsFrames (jobs_at step jobs.items) t made.image ∥₁) }
     // Words of data memory that can be in use at once are apart, those of the frames' lists as they are stored.
     ensures apart { (t : ProgramTree) → IsSelectionOf selection.now t → IfOk result (λ made. LieApart t made.certificate) }
@@ -279,7 +279,7 @@ pub fn translate<R: Threads + Sync, G: Gate + Sync>(
     ensures direct { IfOk result (λ made. ∥ IsDirect (source_jobs options (program_of program.now)) (program_of program.now) made.image ∥₁) }
     // Jumps lead to first words of instructions of their ranges, and calls to those of ranges and of routines.
     ensures leads { IfOk result (λ made. ∥ LeadsRight (source_jobs options (program_of program.now)) (program_of program.now) made.image ∥₁) }
-    // In each run, words of frames are accessed as walks list it, or through another address register than AR2 to AR5.
+    // Along its code in each run, words of a function's scalars are accessed as walks list it, or through another register than AR2 to AR5.
     ensures listed { IfOk result (λ made. ∥ ListsFrames (source_jobs options (program_of program.now)) (program_of program.now) made.image ∥₁) }
     // Words of data memory that can be in use at once are apart, those of the frames' lists as they are stored.
     ensures apart { IfOk result (λ made. LieApart (program_of program.now) made.certificate) }

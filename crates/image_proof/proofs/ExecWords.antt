@@ -196,7 +196,7 @@ image_low pieces image linked fit a = by (cases_lt a (length image.words))
         let ends = filled.1.within in
         let size = piece_code-size names (linked.place k) p in
         let same : linked.place k + (a - linked.place k) ≡ a = omega (arith, from) in
-        let is = (linked.placed k p filled.1.there).stand (a - linked.place k) (omega (arith, from, ends, size)) in
+        let is = (linked.placed k p filled.1.there).code (a - linked.place k) (omega (arith, from, ends, size)) in
         subst (λ w. w < 65536) (sym is ∙ ap (λ n. slice_index image.words n) same)
         (word_low (code_words (piece_code names (linked.place k) p)) (code_low (piece_code names (linked.place k) p) (piece_fits names (linked.place k) p (λ name. wraps_low (address_in linked.place pieces name)) (one_fits pieces fit k p filled.1.there).0)) (a - linked.place k))
 

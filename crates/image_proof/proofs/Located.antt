@@ -61,5 +61,5 @@ code_found pieces image name p last linked fit first e =
     let size = piece_code-size names address p in
     let stands = first_placed pieces image name p linked first in
     let within = stands.within in
-    ap (code_from address 0) (range_is image.words (code_words mine) address last stands.stand (omega (arith, size, within)) (omega (arith, e, size)))
+    ap (code_from address 0) (range_is image.words (code_words mine) address last stands.code (omega (arith, size, within)) (omega (arith, e, size)))
     ∙ decoded mine address (piece_fits names address p (λ n. wraps_low (address_in linked.place pieces n)) (first_fits pieces linked.place name p fit first).0)

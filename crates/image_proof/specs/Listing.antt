@@ -1,4 +1,4 @@
--- The data accesses of runs of an image along the range of a function: those that a walk of the range lists, and no other to a word of its frame.
+-- The data accesses of runs of an image along the range of a function: those that a walk of the range lists, and no other to a word of one of its scalars.
 use Rattle.std.specs.Prelude.{◌≡◌, ℕ, true, List, [], map, slice_get, Some}
 use Rattle.std.specs.List.{IsAmong}
 use Rattle.word_base.specs.Ports.{Input}
@@ -30,7 +30,7 @@ pub record ComesToStretch (image : Contents) (code : Code) (stretch : List Place
 
 -- the function has a range in the image, of which a walk lists the accesses of its blocks where the frame has its scalars. Whenever a run of the image
 -- is at the first word of a stretch of the range, it goes along this stretch, and its accesses through AR2 to AR5 are those that are listed in it, in
--- order. Each access of it to a word of the frame is one of these, or goes through another address register
+-- order. Each access of it to a word of one of the function's scalars is one of these, or goes through another address register
 pub record ListsFrame (image : Contents) (k : ℕ) (code : FunctionCode) (g : FunctionItems) (frame : FramePlan) (lists : List (List ℕ)) : Type 0 where
   pub range : FunctionRange
   pub there : slice_get image.functions k ≡ Some range

@@ -15,7 +15,7 @@ ghost use Rattle.image_proof.specs.Agreeing.{emission_of};
 ghost use Rattle.image_proof.specs.Keeping.{all_pieces};
 ghost use Rattle.image_proof.specs.Listing.{AllListFrames};
 
-/// In each run of an image that is linked from the pieces of accumulator code and from any behind them, wherever they stand, a word of a function's frame is
+/// In each run of an image that is linked from the pieces of accumulator code and from any others, wherever they are, a word of a function's scalar is
 /// accessed along the stretches of the function as a walk of its range lists it, or through another address register than AR2 to AR5.
 pub fn images_list_frames()
     ensures frames { (e : Emission) (routines : List Piece) (image : Contents) → IsEmission e → Linked (all_pieces e routines) image → PiecesFit (all_pieces e routines) → length image.words ≤ 65536 → AllListFrames e image }

@@ -41,8 +41,8 @@ pub fn calls_stand()
         → ReturnsMeet start program names m (site_of e (g ∷ active) (kept_for e g active frame ret kept) (stack_in (back_of e g) ret stack)) (with_stack stack (site_of e (g ∷ active) (kept_for e g active frame ret kept) (stack_in (back_of e g) ret stack))) ret }
 {}
 
-/// While a function runs, its code accesses no word of a caller's frame through an address register, and none of its own frame through AR1: what its
-/// runs of operations and its clearing loops may access there (`site_may`, which emit_proof's laws hold them to) are other words.
+/// While a function runs, its code accesses no word of a caller's scalar through an address register, and none of its own scalars through AR1: what
+/// its runs of operations may access there (`site_may`, which `runs_do_operations` holds them to) are other words.
 pub fn sites_spare_frames()
     ensures own { (e : Emission) (g : ℕ) (active : List ℕ) (kept : ℕ → Option ℕ) (stack : List ℕ) (stores : Bool) (code : FunctionCode) (items : FunctionItems) (frame : FramePlan) (lists : List (List ℕ)) (a : ℕ) → IsEmission e → AreActive e (g ∷ active) → IsKept e (g ∷ active) kept
         → IsFunctionOf e g code items frame lists → is_among a (own_words code frame lists) ≡ true

@@ -63,7 +63,7 @@ pub record IsLaidOut (o : ProfileOptions) (r : Recording) (t : ProgramTree) (ima
   pub direct : ∥ IsDirect (searched o r t) t image ∥₁
   -- jumps lead to first words of instructions of their ranges, and calls to those of ranges and of routines
   pub leads : ∥ LeadsRight (searched o r t) t image ∥₁
-  -- in each run, words of frames are accessed as walks list it, or through another address register than AR2 to AR5
+  -- along its code in each run, words of a function's scalars are accessed as walks list it, or through another address register than AR2 to AR5
   pub listed : ∥ ListsFrames (searched o r t) t image ∥₁
   pub is_entered : entered ≡ entered_from r 0 (accesses_of t)
 
